@@ -1,0 +1,9 @@
+-- The laws of this crate's definitions, one file for each group of them.
+-- No definition that a bound or a contract cites stands below here.
+pub mod Tests
+pub mod Members
+pub mod Sums
+pub mod Combinations
+pub mod Least
+pub mod Releases
+pub mod Multiples

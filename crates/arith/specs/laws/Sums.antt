@@ -1,0 +1,99 @@
+-- Laws of sums and greatest values, over lists and over the places of a list.
+-- A sum over what a test keeps is a sum over the whole list in which the rest counts 0.
+use Prim.Native.Nat.{ℕ, zero, suc, _+_, _≤_, _<_}
+use mathlib.Core.Path.{_≡_, refl, sym, _∙_, ap}
+use mathlib.Core.List.{List, [], _∷_, List·Memᴰ as Mem, List·Memᴰ·head as here, List·Memᴰ·tail as there}
+use mathlib.Core.Bool.{Bool, true, false, cond}
+use mathlib.Core.Logic.{_≢_}
+use native.Mathlib.Omega.{arith}
+use native.Mathlib.Decide.{ℕ-discrete, decLt}
+use lib.Dec.{T}
+use lib.ListN.{length, getD}
+use Rattle.arith.specs.Lists.{sum, greatest, keep, range}
+use Rattle.arith.specs.laws.Members.{of-range}
+
+module _ {A : Type 0} where
+  -- ---- sums
+
+  -- Where each term is at most another's, so is the sum.
+  pub sum-le : {f g : A → ℕ} (xs : List A) → ((x : A) → Mem x xs → f x ≤ g x) → sum f xs ≤ sum g xs
+  unfolding sum
+  sum-le [] le = omega arith
+  sum-le (x ∷ xs) le = omega (arith, le x (here refl), sum-le xs (λ y m. le y (there m)))
+
+  -- Where each two terms together are at most a third, so are the sums.
+  pub add-le-sum : (f g : A → ℕ) {h : A → ℕ} (xs : List A) → ((x : A) → Mem x xs → f x + g x ≤ h x) → sum f xs + sum g xs ≤ sum h xs
+  unfolding sum
+  add-le-sum f g [] le = omega arith
+  add-le-sum f g (x ∷ xs) le = omega (arith, le x (here refl), add-le-sum f g xs (λ y m. le y (there m)))
+
+  -- A term is at most the sum.
+  pub term-le-sum : (f : A → ℕ) {x : A} {xs : List A} → Mem x xs → f x ≤ sum f xs
+  unfolding sum
+  term-le-sum f {x} {xs = y ∷ ys} (here e) = rw e (omega arith)
+  term-le-sum f {x} {xs = y ∷ ys} (there m) = omega (arith, term-le-sum f m)
+
+  -- The sum over what is kept: what is not kept counts 0.
+  pub sum-keep : (p : A → Bool) (f : A → ℕ) (xs : List A) → sum f (keep p xs) ≡ sum (λ x. cond (p x) (f x) 0) xs
+  unfolding sum keep
+  sum-keep p f [] = refl
+  sum-keep p f (x ∷ xs) = go (p x) (sum-keep p f xs)
+    where
+      go : (b : Bool) → sum f (keep p xs) ≡ sum (λ y. cond (p y) (f y) 0) xs
+          → sum f (cond b (x ∷ keep p xs) (keep p xs)) ≡ cond b (f x) 0 + sum (λ y. cond (p y) (f y) 0) xs
+      go true ih = omega arith
+      go false ih = omega arith
+
+  -- ---- greatest values
+
+  -- A value is at most the greatest.
+  pub le-greatest : (f : A → ℕ) {x : A} {xs : List A} → Mem x xs → f x ≤ greatest f xs
+  unfolding greatest
+  le-greatest f {x} {xs = y ∷ ys} (here e) = rw e (omega arith)
+  le-greatest f {x} {xs = y ∷ ys} (there m) = omega (arith, le-greatest f m)
+
+  -- The greatest is at most a bound of all values.
+  pub greatest-le : {f : A → ℕ} {n : ℕ} (xs : List A) → ((x : A) → Mem x xs → f x ≤ n) → greatest f xs ≤ n
+  unfolding greatest
+  greatest-le [] le = omega arith
+  greatest-le (x ∷ xs) le = omega (arith, le x (here refl), greatest-le xs (λ y m. le y (there m)))
+
+  -- What is below the greatest is below some value.
+  pub greatest-exceeds : (f : A → ℕ) (n : ℕ) (xs : List A) → n < greatest f xs → (x : A) × Mem x xs × (n < f x)
+  unfolding greatest
+  greatest-exceeds f n [] less = absurd (omega arith)
+  greatest-exceeds f n (x ∷ xs) less =
+      elim (decLt n (f x)) [
+        | yes here-more ↦ (x, here refl, here-more)
+        | no small ↦ let (y, m, more) = greatest-exceeds f n xs (omega arith) in (y, there m, more)
+      ]
+
+-- ---- sums over places
+
+-- What can be added beside one term, when no other falls, can be added beside the sum.
+pub sum-at : (g h : ℕ → ℕ) (c d n m k : ℕ) → n ≤ k → k < n + m → ((i : ℕ) → n ≤ i → i < n + m → i ≢ k → g i ≤ h i) → c + g k ≤ d + h k
+    → c + sum g (range n m) ≤ d + sum h (range n m)
+unfolding sum range
+sum-at g h c d n zero k low high le at = absurd (omega arith)
+sum-at g h c d n (suc m) k low high le at =
+    elim (ℕ-discrete n k) [
+      | yes e ↦
+          let now : c + g n ≤ d + h n = rw e at in
+          let rest = sum-le {f = g} {g = h} (range (suc n) m) (λ i l. let (a, b) = of-range (suc n) m l in le i (omega arith) (omega arith) (omega arith)) in
+          omega arith
+      | no ne ↦
+          let rest = sum-at g h c d (suc n) m k (omega arith) (omega arith) (λ i a b. le i (omega arith) (omega arith)) at in
+          omega (arith, le n (omega arith) (omega arith) ne)
+    ]
+
+-- A sum over a range, moved by one.
+range-shift : (g : ℕ → ℕ) (n m : ℕ) → sum g (range (suc n) m) ≡ sum (λ i. g (suc i)) (range n m)
+unfolding sum range
+range-shift g n zero = refl
+range-shift g n (suc m) = ap (λ (s : ℕ). g (suc n) + s) (range-shift g (suc n) m)
+
+-- A sum over a list is the sum over its places.
+pub sum-places : {A : Type 0} (f : A → ℕ) (d : A) (xs : List A) → sum f xs ≡ sum (λ i. f (getD xs i d)) (range 0 (length xs))
+unfolding sum range
+sum-places f d [] = refl
+sum-places f d (x ∷ xs) = ap (λ (s : ℕ). f x + s) (sum-places f d xs ∙ sym (range-shift (λ i. f (getD (x ∷ xs) i d)) 0 (length xs)))

@@ -1,0 +1,43 @@
+-- Tests, and the values that are chosen by them.
+-- `cond` is the library's choice by a test, its first value where the test passes.
+use Prim.Native.Nat.{ℕ, _≤_}
+use mathlib.Core.Path.{_≡_, refl}
+use mathlib.Core.Bool.{Bool, true, false, cond, _&&_}
+use native.Mathlib.Omega.{arith}
+use lib.Dec.{T}
+
+-- A case for each answer of a test.
+pub by-test {ℓ} : {A : Type ℓ} (t : Bool) → (t ≡ true → A) → (t ≡ false → A) → A
+by-test true f g = f refl
+by-test false f g = g refl
+
+-- Both of two tests pass where they pass together.
+pub and-both : (a b : Bool) → (a && b) ≡ true → (a ≡ true) × (b ≡ true)
+and-both true b e = (refl, e)
+and-both false b e = let z : _≡_ {A = ℕ} 0 1 = cc in absurd (omega arith)
+
+-- Where the test passes, it is the first.
+pub cond-yes : {A : Type 0} (b : Bool) (x y : A) → T b → cond b x y ≡ x
+cond-yes true x y t = refl
+cond-yes false x y t = absurd t
+
+-- Where it fails, it is the second.
+pub cond-no : {A : Type 0} (b : Bool) (x y : A) → ¬ T b → cond b x y ≡ y
+cond-no true x y t = absurd (t tt)
+cond-no false x y t = refl
+
+-- What holds of the first where the test passes, and of the second where it fails, holds of the choice.
+pub cond-cases : {A : Type 0} (P : A → Type 0) (b : Bool) {x y : A} → (T b → P x) → (¬ T b → P y) → P (cond b x y)
+cond-cases P true first second = first tt
+cond-cases P false first second = second (λ t. t)
+
+-- The first may be replaced by what equals it where the test passes.
+pub cond-same : {A : Type 0} (b : Bool) (x y z : A) → (T b → x ≡ y) → cond b x z ≡ cond b y z
+cond-same true x y z e = e tt
+cond-same false x y z e = refl
+
+-- A number that counts only under a test grows with the test and with itself.
+pub cond-le : (b c : Bool) (m n : ℕ) → (T b → T c × (m ≤ n)) → cond b m 0 ≤ cond c n 0
+cond-le true true m n h = h tt .1
+cond-le true false m n h = absurd (h tt .0)
+cond-le false c m n h = omega arith

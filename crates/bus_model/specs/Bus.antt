@@ -1,0 +1,64 @@
+-- The bus rule: what a schedule is, and what it means that a frame meets its claim (document 01, "The bus rule").
+-- `starts j` is when node j starts; `sent i` is how many instances of row i have started, older ones first.
+use Prim.Native.Nat.{ℕ, suc, _+_, _≤_, _<_}
+use mathlib.Core.Path.{_≡_}
+use mathlib.Core.List.{List, [], _∷_, List·Memᴰ as Mem}
+use mathlib.Core.Bool.{cond}
+use lib.Dec.{eqb}
+use lib.ListN.{length}
+use Rattle.bus_model.specs.Frame.{row}
+use Rattle.bus_model.specs.Release.{release}
+use Rattle.bus_model.specs.declared.Frame.{Frame}
+
+-- A transmission: it holds the ticks start .. start + length - 1.
+pub record Transmission : Type 0 where
+  pub frame : ℕ  -- its row
+  pub instance : ℕ  -- which release of the frame, from 0
+  pub start : ℕ
+  pub length : ℕ
+
+-- one more instance of row i has started
+unfoldable pub oneMore : (ℕ → ℕ) → ℕ → ℕ → ℕ
+oneMore sent i j = cond (eqb i j) (suc (sent j)) (sent j)
+
+-- Row i waits at tick t, document 01's "queued": its next instance is released at t or before.
+unfoldable pub Waiting : List Frame → (ℕ → ℕ) → (ℕ → ℕ) → ℕ → ℕ → Type 0
+Waiting fs starts sent t i = (i < length fs) × (release starts (row fs i) (sent i) ≤ t)
+
+-- Nothing waits at any tick from `free` to before t.
+unfoldable pub Idle : List Frame → (ℕ → ℕ) → (ℕ → ℕ) → ℕ → ℕ → Type 0
+Idle fs starts sent free t = (u i : ℕ) → free ≤ u → u < t → Waiting fs starts sent u i → ⊥
+
+-- What the bus rule asks of the next transmission, where the bus is free from `free` on.
+pub record Next (fs : List Frame) (starts sent : ℕ → ℕ) (free : ℕ) (x : Transmission) : Type 0 where
+  pub after : free ≤ x .start
+  pub idle : Idle fs starts sent free (x .start)
+  pub waiting : Waiting fs starts sent (x .start) (x .frame)
+  pub oldest : x .instance ≡ sent (x .frame)
+  pub best : (i : ℕ) → Waiting fs starts sent (x .start) i → row fs (x .frame) .priority ≤ row fs i .priority
+  pub positive : 1 ≤ x .length
+  pub fits : x .length ≤ row fs (x .frame) .length
+
+-- The list is all that starts before tick T, where the bus is free from `free` on.
+unfoldable pub Runs : List Frame → (ℕ → ℕ) → ℕ → (ℕ → ℕ) → ℕ → List Transmission → Type 0
+Runs fs starts T sent free [] = Idle fs starts sent free T
+Runs fs starts T sent free (x ∷ xs) =
+    Next fs starts sent free x × (x .start < T) × Runs fs starts T (oneMore sent (x .frame)) (x .start + x .length) xs
+
+-- A "schedule" up to tick T: at 0 the bus is free and nothing is sent.
+unfoldable pub Schedule : List Frame → (ℕ → ℕ) → ℕ → List Transmission → Type 0
+Schedule fs starts T xs = Runs fs starts T (λ i. 0) 0 xs
+
+-- Instance n of row k stands in the list, and is "finished" at `limit` or before.
+pub record Finished (xs : List Transmission) (k n limit : ℕ) : Type 0 where
+  pub sent : Transmission
+  pub listed : Mem sent xs
+  pub frame : sent .frame ≡ k
+  pub instance : sent .instance ≡ n
+  pub ended : sent .start + sent .length ≤ limit
+
+-- Document 01's demand 3 for one row: in every schedule, each instance whose claim has run out by T is finished within its claim.
+unfoldable pub MeetsClaim : List Frame → ℕ → ℕ → Type 0
+MeetsClaim fs k claim =
+    (starts : ℕ → ℕ) (T : ℕ) (xs : List Transmission) → Schedule fs starts T xs →
+    (n : ℕ) → release starts (row fs k) n + claim ≤ T → Finished xs k n (release starts (row fs k) n + claim)

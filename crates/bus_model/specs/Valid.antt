@@ -1,0 +1,21 @@
+-- What the checks on tables establish, as far as the bus rule and the bounds need it.
+-- Document 01's limits on periods, offsets and lengths from above play no part here.
+use Prim.Native.Nat.{ℕ, _≤_, _<_}
+use mathlib.Core.Path.{_≡_}
+use mathlib.Core.List.{List}
+use lib.ListN.{length}
+use Rattle.bus_model.specs.Frame.{row}
+use Rattle.bus_model.specs.declared.Frame.{Frame}
+
+-- a frame
+pub record ValidFrame (g : Frame) : Type 0 where
+  pub period : 1 ≤ g .period
+  pub length : 1 ≤ g .length
+  pub node-low : 1 ≤ g .node
+  pub node-high : g .node ≤ 16
+  pub offset : g .offset < g .period
+
+-- a table: every frame is valid, and no two rows have the same priority
+pub record Valid (fs : List Frame) : Type 0 where
+  pub frame : (i : ℕ) → i < length fs → ValidFrame (row fs i)
+  pub distinct : (i j : ℕ) → i < length fs → j < length fs → row fs i .priority ≡ row fs j .priority → i ≡ j

@@ -1,0 +1,73 @@
+-- Document 01's "Reasoning errors to catch": each of them gives another number than the definition.
+-- A bound with the error built in stands beside the right one.
+use Prim.Native.Nat.{ℕ, suc, _+_, _-_, _*_, min}
+use mathlib.Core.Path.{_≡_, refl}
+use mathlib.Core.List.{List, [], _∷_}
+use mathlib.Core.Bool.{Bool}
+use lib.Dec.{leb}
+use Rattle.arith.specs.Lists.{greatest, range}
+use Rattle.arith.specs.Least.{least, orZero}
+use Rattle.arith.specs.Releases.{releasesBefore}
+use Rattle.bus_model.specs.Frame.{row}
+use Rattle.bus_model.specs.Bounds.{windowLimit, ahead, better, below, blocking, work, windowLoad, busyWindow, delayLoad, queueingDelay, ownDistance, instanceResponse, responseTime, scenarioResponse, scenarios, everyNode, boundOf, approximateBound, preciseBound}
+use Rattle.bus_model.specs.examples.Cases.{listing}
+use Rattle.bus_model.specs.examples.Compute.{everything}
+use Rattle.arith.specs.declared.Found.the-variants.{At, Nothing}
+use Rattle.bus_model.specs.declared.Frame.{Frame}
+use Rattle.bus_model.specs.declared.Choice.{Choice}
+
+-- The bound of frame k, where a worse frame blocks for b ticks, a better one counts if it is released before `reach w`,
+-- and of the n instances released in the window `many n` are looked at.
+module _ (b : ℕ) (reach many : ℕ → ℕ) (fs : List Frame) (k : Frame) where
+  unfoldable pub responseBy : List Choice → ℕ → ℕ
+  responseBy cs q =
+      orZero (least (λ w. leb (b + q * k .length + work fs k (better fs k) cs (reach w)) w) windowLimit 0) + k .length - (ownDistance k cs + q * k .period)
+
+  unfoldable pub scenarioBy : List Choice → ℕ
+  scenarioBy cs =
+      elim (least (λ l. leb (b + work fs k (ahead fs k) cs l) l) windowLimit 1) [
+        | At l ↦ greatest (responseBy cs) (range 0 (many (releasesBefore (ownDistance k cs) (k .period) l)))
+        | Nothing ↦ 0
+      ]
+
+  unfoldable pub boundBy : (ℕ → Bool) → ℕ
+  boundBy fixes = greatest scenarioBy (scenarios fs k fixes)
+
+-- With nothing changed it is the definition.
+pub unchanged : (fs : List Frame) (k : Frame) (fixes : ℕ → Bool) → boundBy (blocking fs k) suc (λ n. n) fs k fixes ≡ boundOf fs k fixes
+unfolding boundBy scenarioBy responseBy boundOf scenarioResponse busyWindow windowLoad responseTime instanceResponse queueingDelay delayLoad
+unchanged fs k fixes = refl
+
+-- three frames of three nodes; the second instance of the last has the greatest response
+abbrev three : List Frame
+three =
+    record { node = 1; priority = 1; length = 10; period = 25; offset = 0 } ∷
+    record { node = 2; priority = 2; length = 10; period = 35; offset = 0 } ∷
+    record { node = 3; priority = 3; length = 10; period = 35; offset = 0 } ∷ []
+
+-- the bound by an error, and the right one
+abbrev pub Gives : (wrong right : ℕ) → ℕ → ℕ → Type 0
+Gives wrong right m n = (wrong ≡ m) × (right ≡ n)
+
+-- better frames counted in 0..w-1 only
+abbrev early : ℕ
+early = boundBy (blocking listing (row listing 3)) (λ w. w) (λ n. n) listing (row listing 3) everyNode
+
+-- the first instance only
+abbrev first : ℕ
+first = boundBy (blocking three (row three 2)) suc (min 1) three (row three 2) everyNode
+
+-- blocked by a whole length
+abbrev whole : ℕ
+whole = boundBy (greatest (λ g. g .length) (below listing (row listing 0))) suc (λ n. n) listing (row listing 0) everyNode
+
+-- one alignment for all lengths in the approximate bound
+abbrev one : ℕ
+one = boundBy (blocking listing (row listing 3)) suc (λ n. n) listing (row listing 3) everyNode
+
+pub errors-differ : Gives early (preciseBound listing (row listing 3)) 65 200
+    × Gives first (preciseBound three (row three 2)) 30 35
+    × Gives whole (preciseBound listing (row listing 0)) 270 269
+    × Gives one (approximateBound listing (row listing 3)) 200 255
+unfolding boundBy scenarioBy responseBy everything
+errors-differ = ((refl, refl), (refl, refl), (refl, refl), (refl, refl))

@@ -1,0 +1,88 @@
+-- The frames of a valid table: those of a node, those ahead, their phases, and the hyperperiod of a node.
+-- `phase` and the hyperperiod are used through these laws alone.
+use Prim.Native.Nat.{ℕ, _≤_, _<_, _%_, _∣_}
+use mathlib.Core.Path.{_≡_, refl}
+use mathlib.Core.List.{List, List·Memᴰ as Mem}
+use native.Mathlib.Omega.{arith}
+use native.Mathlib.Nat.{le-refl, mod-eq-of-lt}
+use lib.Dec.{le→leb, ltb→lt, eqb-refl, eqb→eq}
+use lib.ListN.{length}
+use Rattle.arith.specs.Lists.{range}
+use Rattle.arith.specs.laws.Members.{mem-keep, of-keep, mem-getD, mem-range, place-of}
+use Rattle.arith.specs.laws.Multiples.{divides-lcmOf, lcmOf-pos}
+use Rattle.bus_model.specs.Frame.{noFrame, row}
+use Rattle.bus_model.specs.Valid.{ValidFrame, Valid}
+use Rattle.bus_model.specs.Release.{phase}
+use Rattle.bus_model.specs.Bounds.{nodes, ahead, better, ofNode, hyperperiod}
+use Rattle.bus_model.specs.declared.Frame.{Frame}
+
+-- ---- one frame
+
+-- The phase is the offset modulo the period.
+pub phase-rest : {g : Frame} → ValidFrame g → g .offset % g .period ≡ phase g
+unfolding phase
+phase-rest valid = mod-eq-of-lt (valid .offset)
+
+-- It is below the period.
+pub phase-fits : {g : Frame} → ValidFrame g → phase g < g .period
+unfolding phase
+phase-fits valid = valid .offset
+
+-- A frame's node is one of the nodes.
+pub node-listed : {g : Frame} → ValidFrame g → Mem (g .node) (range 1 nodes)
+node-listed {g} valid = mem-range 1 nodes (g .node) (valid .node-low) (omega (arith, valid .node-high))
+
+-- ---- the frames of a table
+
+-- A frame of a valid table is valid.
+pub valid-frame : {fs : List Frame} → Valid fs → {g : Frame} → Mem g fs → ValidFrame g
+valid-frame valid m = let (i, h, e) = place-of noFrame m in rw e at (valid .frame i h)
+
+-- frames gs that are ahead of k
+abbrev pub Part : List Frame → Frame → List Frame → Type 0
+Part fs k gs = (g : Frame) → Mem g gs → Mem g (ahead fs k)
+
+-- The better ones are.
+pub better-ahead : (fs : List Frame) (k : Frame) → Part fs k (better fs k)
+unfolding ahead better
+better-ahead fs k g m = let (n, t) = of-keep _ fs m in mem-keep _ n (le→leb (g .priority) (k .priority) (omega (arith, ltb→lt (g .priority) (k .priority) t)))
+
+-- A frame ahead is of the table.
+pub of-ahead : (fs : List Frame) (k : Frame) {g : Frame} → Mem g (ahead fs k) → Mem g fs
+unfolding ahead
+of-ahead fs k m = of-keep _ fs m .0
+
+-- ---- the frames of a node
+
+-- A frame of node j is one of the list, and of that node.
+pub of-node : (gs : List Frame) (j : ℕ) {g : Frame} → Mem g (ofNode gs j) → Mem g gs × (g .node ≡ j)
+unfolding ofNode
+of-node gs j {g} m = let (n, t) = of-keep _ gs m in (n, eqb→eq (g .node) j t)
+
+-- And a frame of the list is one of its node.
+pub mem-node : {gs : List Frame} {g : Frame} → Mem g gs → {j : ℕ} → g .node ≡ j → Mem g (ofNode gs j)
+unfolding ofNode
+mem-node m {j} e = mem-keep _ m (rw e (eqb-refl j))
+
+-- A part of the frames ahead is so at each node.
+pub node-part : (fs : List Frame) (k : Frame) {gs : List Frame} → Part fs k gs → (j : ℕ) (g : Frame) → Mem g (ofNode gs j) → Mem g (ofNode (ahead fs k) j)
+node-part fs k {gs} part j g m = let (n, e) = of-node gs j m in mem-node (part g n) e
+
+-- A frame is among those ahead of it.
+pub self-ahead : (fs : List Frame) (k : ℕ) → k < length fs → Mem (row fs k) (ofNode (ahead fs (row fs k)) (row fs k .node))
+unfolding ahead
+self-ahead fs k inside =
+    let f = row fs k in
+    mem-node (mem-keep _ (mem-getD fs k noFrame inside) (le→leb (f .priority) (f .priority) (le-refl (f .priority)))) refl
+
+-- ---- the hyperperiod of a node
+
+-- It is a multiple of the period of each of the node's frames.
+pub node-divides : (fs : List Frame) (k : Frame) (j : ℕ) {g : Frame} → Mem g (ofNode (ahead fs k) j) → g .period ∣ hyperperiod (ofNode fs j)
+unfolding hyperperiod
+node-divides fs k j m = let (n, e) = of-node (ahead fs k) j m in divides-lcmOf (λ g. g .period) (ofNode fs j) (mem-node (of-ahead fs k n) e)
+
+-- It is not 0.
+pub node-pos : {fs : List Frame} → Valid fs → (j : ℕ) → 1 ≤ hyperperiod (ofNode fs j)
+unfolding hyperperiod
+node-pos {fs} valid j = lcmOf-pos (λ g. g .period) (ofNode fs j) (λ g m. valid-frame valid (of-node fs j m .0) .period)

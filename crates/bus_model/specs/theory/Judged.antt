@@ -1,0 +1,119 @@
+-- What a judgement tells: a certified frame meets its claim, whatever the schedule;
+-- the margin is negative exactly for verdicts 3 and 12, and no bound exceeds the longest window.
+use Prim.Native.Nat.{ℕ, suc, _-_, _≤_, _<_}
+use mathlib.Core.Path.{_≡_, refl}
+use mathlib.Core.List.{List}
+use mathlib.Core.Bool.{not}
+use mathlib.Core.Logic.{_↔_, _⊎_, inl, inr}
+use native.Mathlib.Omega.{arith}
+use lib.Dec.{T, leb, ltb, leb→le, le→leb, lt→ltb, ltb→lt, eqb-refl}
+use lib.IntN.{ℤ, pos, negsuc, subℕ}
+use lib.Signed.{nonNeg}
+use lib.ListN.{length}
+use Rattle.arith.specs.laws.Members.{exists-mem}
+use Rattle.arith.specs.laws.Tests.{cond-yes, cond-no, cond-cases}
+use Rattle.arith.specs.laws.Least.{not-none}
+use Rattle.bus_model.specs.Frame.{row}
+use Rattle.bus_model.specs.Valid.{Valid}
+use Rattle.bus_model.specs.Bus.{MeetsClaim}
+use Rattle.bus_model.specs.Bounds.{windowLimit, ownNode, everyNode, busyWindow, approximateBound, preciseBound}
+use Rattle.bus_model.specs.Judgement.{lacksWindow, tooManyScenarios, preciseOutcome, refinedOutcome, windowedOutcome, outcomeOf, verdict, boundUsed, marginOf, judge, certifies}
+use Rattle.bus_model.specs.theory.Scenarios.{Windowed, bound-le-limit, windows-refine, bound-refine}
+use Rattle.bus_model.specs.theory.Soundness.{sound-approximate, sound-precise}
+use Rattle.bus_model.specs.declared.Frame.{Frame}
+use Rattle.bus_model.specs.declared.Outcome.{Outcome}
+use Rattle.bus_model.specs.declared.Outcome.the-variants.{CertifiedApproximate, CertifiedPrecise, ClaimTooSmall, Undecided, NoWindow}
+
+-- The approximate scenarios have windows where none lacks one.
+pub has-windows : (fs : List Frame) (k : Frame) → ¬ T (lacksWindow fs k) → Windowed fs k (ownNode k)
+unfolding lacksWindow
+has-windows fs k has cs m = not-none (busyWindow fs k cs) (λ t. has (exists-mem _ m t))
+
+-- What holds of an outcome in each of document 01's cases holds of the outcome.
+pub by-outcome : (P : Outcome → Type 0) (fs : List Frame) (k : Frame) (claim : ℕ)
+    → (T (lacksWindow fs k) → P NoWindow)
+    → (Windowed fs k (ownNode k) → approximateBound fs k ≤ claim → P (CertifiedApproximate (approximateBound fs k)))
+    → (Windowed fs k (ownNode k) → claim < approximateBound fs k → T (tooManyScenarios fs k) → P (Undecided (approximateBound fs k)))
+    → (Windowed fs k (ownNode k) → claim < approximateBound fs k → ¬ T (tooManyScenarios fs k) → preciseBound fs k ≤ claim → P (CertifiedPrecise (preciseBound fs k)))
+    → (Windowed fs k (ownNode k) → claim < approximateBound fs k → ¬ T (tooManyScenarios fs k) → claim < preciseBound fs k → P (ClaimTooSmall (preciseBound fs k)))
+    → P (outcomeOf fs k claim)
+unfolding outcomeOf windowedOutcome refinedOutcome preciseOutcome
+by-outcome P fs k claim lacking approximate crowded precise small =
+    cond-cases P (lacksWindow fs k) lacking (λ has.
+    let windows = has-windows fs k has in
+    cond-cases P (leb (approximateBound fs k) claim) (λ t. approximate windows (leb→le _ _ t)) (λ more.
+    let exceeds : claim < approximateBound fs k = not-leb more in
+    cond-cases P (tooManyScenarios fs k) (λ many. crowded windows exceeds many) (λ few.
+    cond-cases P (leb (preciseBound fs k) claim) (λ t. precise windows exceeds few (leb→le _ _ t)) (λ more′. small windows exceeds few (not-leb more′)))))
+  where
+    not-leb : {b : ℕ} → ¬ T (leb b claim) → claim < b
+    not-leb {b} h = let less : ¬ (b ≤ claim) = λ le. h (le→leb b claim le) in omega arith
+
+-- ---- the margin
+
+-- a signed number is below zero
+abbrev pub Negative : ℤ → Type 0
+Negative z = T (not (nonNeg z))
+
+-- A claim below the bound has a negative margin.
+margin-negative : {claim b : ℕ} → claim < b → Negative (subℕ claim b)
+margin-negative {claim} {b} less = rw (cond-yes (ltb claim b) (negsuc (b - suc claim)) (pos (claim - b)) (lt→ltb claim b less)) tt
+
+-- No other claim has.
+margin-positive : {claim b : ℕ} → b ≤ claim → ¬ Negative (subℕ claim b)
+margin-positive {claim} {b} le = rw (cond-no (ltb claim b) (negsuc (b - suc claim)) (pos (claim - b)) (λ t. omega (arith, ltb→lt claim b t))) (λ t. t)
+
+-- The margin is negative exactly for verdicts 3 and 12.
+pub margin-sign : (fs : List Frame) (k : Frame) (claim : ℕ)
+    → Negative (judge fs k claim .margin) ↔ ((verdict (judge fs k claim .outcome) ≡ 3) ⊎ (verdict (judge fs k claim .outcome) ≡ 12))
+unfolding judge marginOf verdict
+margin-sign fs k claim =
+    by-outcome (λ o. Negative (marginOf claim o) ↔ ((verdict o ≡ 3) ⊎ (verdict o ≡ 12))) fs k claim
+    (λ lacks. (λ t. absurd t, elim [ inl e ↦ omega arith | inr e ↦ omega arith ]))
+    (λ windows le. (λ t. absurd (margin-positive le t), elim [ inl e ↦ absurd (omega arith) | inr e ↦ absurd (omega arith) ]))
+    (λ windows less many. (λ t. inr refl, λ e. margin-negative less))
+    (λ windows exceeds few le. (λ t. absurd (margin-positive le t), elim [ inl e ↦ absurd (omega arith) | inr e ↦ absurd (omega arith) ]))
+    (λ windows exceeds few less. (λ t. inl refl, λ e. margin-negative less))
+
+module _ {fs : List Frame} (valid : Valid fs) {k : ℕ} (inside : k < length fs) where
+  abbrev f : Frame
+  f = row fs k
+
+  -- ---- demand 3
+
+  -- A frame that is certified meets its claim.
+  pub certified-meets : (claim : ℕ) → T (certifies (judge fs f claim .outcome)) → MeetsClaim fs k claim
+  unfolding judge certifies
+  certified-meets claim =
+      by-outcome (λ o. T (certifies o) → MeetsClaim fs k claim) fs f claim
+      (λ lacks t. absurd t)
+      (λ windows le t. sound-approximate valid inside windows claim le)
+      (λ windows less many t. absurd t)
+      (λ windows exceeds few le t. sound-precise valid inside windows claim le)
+      (λ windows exceeds few less t. absurd t)
+
+  -- ---- the bounds
+
+  own : T (ownNode f (f .node))
+  own = eqb-refl (f .node)
+
+  -- Where the approximate scenarios have windows, the precise ones have.
+  pub precise-windows : Windowed fs f (ownNode f) → Windowed fs f everyNode
+  precise-windows windows = windows-refine valid inside (ownNode f) everyNode (λ j t. tt) windows
+
+  -- The precise bound is at most the approximate one.
+  pub precise-le-approximate : Windowed fs f (ownNode f) → preciseBound fs f ≤ approximateBound fs f
+  precise-le-approximate windows = bound-refine valid inside (ownNode f) everyNode (λ j t. tt) windows own
+
+  -- The bound used is at most the longest window.
+  pub judged-le-limit : (claim : ℕ) → judge fs f claim .bound ≤ windowLimit
+  unfolding judge boundUsed
+  judged-le-limit claim =
+      let approximate = bound-le-limit valid inside (ownNode f) own in
+      let precise = bound-le-limit valid inside everyNode tt in
+      by-outcome (λ o. boundUsed o ≤ windowLimit) fs f claim
+      (λ lacks. omega arith)
+      (λ windows le. approximate)
+      (λ windows less many. approximate)
+      (λ windows exceeds few le. precise)
+      (λ windows exceeds few less. precise)

@@ -1,0 +1,69 @@
+-- A frame that is longer than its period has no busy window, and is judged so.
+-- The scenario that shows it has the frame released where the window opens.
+use Prim.Native.Nat.{ℕ, zero, suc, _*_, _≤_, _<_}
+use mathlib.Core.Path.{_≡_, ap}
+use mathlib.Core.List.{List, List·Memᴰ as Mem}
+use native.Mathlib.Omega.{arith}
+use native.Mathlib.Nat.{zero-mul, mul-suc, mul-comm, mul-le-mul-left}
+use lib.Dec.{T, eqb-refl, eqb→eq}
+use lib.IntN.{pos}
+use lib.ListN.{length}
+use Rattle.arith.specs.Least.{isNone}
+use Rattle.arith.specs.Releases.{releasesBefore}
+use Rattle.arith.specs.laws.Members.{exists-mem}
+use Rattle.arith.specs.laws.Tests.{cond-yes}
+use Rattle.arith.specs.laws.Releases.{next-after}
+use Rattle.bus_model.specs.Frame.{row}
+use Rattle.bus_model.specs.Valid.{Valid}
+use Rattle.bus_model.specs.Release.{phase}
+use Rattle.bus_model.specs.Bounds.{distance, demand, choiceOf, scenarios, ownNode, windowLoad}
+use Rattle.bus_model.specs.Judgement.{lacksWindow, windowedOutcome, outcomeOf, boundUsed, marginOf, judge}
+use Rattle.bus_model.specs.theory.Frames.{node-listed, self-ahead}
+use Rattle.bus_model.specs.theory.Alignment.{phase-aligned, phase-distance, or-empty}
+use Rattle.bus_model.specs.theory.Work.{work-share}
+use Rattle.bus_model.specs.theory.Response.{window-none}
+use Rattle.bus_model.specs.theory.Scenarios.{scenario, chosen, chosen-listed, chosen-fixed}
+use Rattle.bus_model.specs.declared.Frame.{Frame}
+use Rattle.bus_model.specs.declared.Choice.{Choice}
+use Rattle.bus_model.specs.declared.Choice.the-variants.{Fixed}
+use Rattle.bus_model.specs.declared.Outcome.{Outcome}
+use Rattle.bus_model.specs.declared.Outcome.the-variants.{NoWindow}
+
+-- What comes at least every p ticks, and takes longer than p, takes longer than the time.
+more-than-time : (p c l count : ℕ) → p < c → 1 ≤ l → l ≤ count * p → l < c * count
+more-than-time p c l zero long low after = absurd (omega (arith, zero-mul p))
+more-than-time p c l (suc m) long low after = omega (arith, mul-suc (suc m) p, mul-le-mul-left (suc m) long, mul-comm (suc m) c)
+
+module _ {fs : List Frame} (valid : Valid fs) {k : ℕ} (inside : k < length fs) where
+  abbrev f : Frame
+  f = row fs k
+
+  -- the scenario in which the frame is released where its window opens
+  abbrev at-once : List Choice
+  at-once = scenario (chosen (ownNode f) (λ j. phase f))
+
+  -- It is one of those of the approximate bound.
+  at-once-listed : Mem at-once (scenarios fs f (ownNode f))
+  at-once-listed = chosen-listed fs f (ownNode f) (λ j. phase f) (λ j t. rw (eqb→eq j (f .node) t) (or-empty (phase-aligned valid f (f .node) (self-ahead fs k inside))))
+
+  -- It has that alignment.
+  at-once-own : choiceOf at-once (f .node) ≡ Fixed (phase f)
+  at-once-own = chosen-fixed (ownNode f) (λ j. phase f) (f .node) (node-listed (valid .frame k inside)) (eqb-refl (f .node))
+
+  -- A frame that is longer than its period has no window.
+  pub overloaded : f .period < f .length → T (lacksWindow fs f)
+  unfolding lacksWindow isNone windowLoad demand
+  overloaded long =
+      let lacks = window-none fs f at-once (λ l low.
+      let share = work-share valid inside (phase f) l at-once at-once-own in
+      let after = next-after (distance f (phase f)) (valid .frame k inside .period) l in
+      let count = releasesBefore (distance f (phase f)) (f .period) l in
+      omega (arith, more-than-time (f .period) (f .length) l count long low (omega (arith, phase-distance (valid .frame k inside))))) in
+      exists-mem _ at-once-listed (rw (lacks, isNone) tt)
+
+  -- So it is judged to have none.
+  pub overloaded-judged : (claim : ℕ) → f .period < f .length → judge fs f claim ≡ record { outcome = NoWindow; bound = 0; margin = pos 0 }
+  unfolding judge outcomeOf boundUsed marginOf
+  overloaded-judged claim long =
+      ap (λ (o : Outcome). record { outcome = o; bound = boundUsed o; margin = marginOf claim o })
+      (cond-yes (lacksWindow fs f) NoWindow (windowedOutcome fs f claim) (overloaded long))

@@ -1,0 +1,123 @@
+-- The work of a scenario: it grows with time, it is least where every node's alignment is fixed,
+-- and that of the frames ahead holds that of the better ones and the frame's own.
+use Prim.Native.Nat.{ℕ, _+_, _≤_, _<_}
+use mathlib.Core.Path.{_≡_, refl}
+use mathlib.Core.List.{List, [], _∷_, List·Memᴰ as Mem, List·Memᴰ·head as here, List·Memᴰ·not-nil}
+use mathlib.Core.Bool.{cond}
+use native.Mathlib.Omega.{arith}
+use native.Mathlib.Nat.{le-refl, le-trans, mul-le-mul-left}
+use lib.Dec.{eqb, eqb-refl, eqb→eq}
+use lib.ListN.{length}
+use Rattle.arith.specs.Lists.{sum, greatest, range}
+use Rattle.arith.specs.laws.Tests.{cond-yes, cond-no, cond-same}
+use Rattle.arith.specs.laws.Sums.{sum-le, add-le-sum, term-le-sum, sum-keep, le-greatest, greatest-le}
+use Rattle.arith.specs.laws.Releases.{count-mono}
+use Rattle.bus_model.specs.Frame.{row}
+use Rattle.bus_model.specs.Valid.{ValidFrame, Valid}
+use Rattle.bus_model.specs.Release.{phase}
+use Rattle.bus_model.specs.Bounds.{nodes, ahead, better, ofNode, alignments, orEmpty, choiceOf, demand, workAt, nodeWork, work}
+use Rattle.bus_model.specs.theory.Rows.{ahead-sum}
+use Rattle.bus_model.specs.theory.Frames.{Part, valid-frame, of-ahead, of-node, node-part, node-listed}
+use Rattle.bus_model.specs.theory.Alignment.{phase-aligned}
+use Rattle.bus_model.specs.declared.Frame.{Frame}
+use Rattle.bus_model.specs.declared.Choice.{Choice}
+use Rattle.bus_model.specs.declared.Choice.the-variants.{Fixed, Any}
+
+-- ---- more time, more work
+
+module _ {n n′ : ℕ} (le : n ≤ n′) where
+  -- A frame's demand grows with time.
+  demand-mono : {g : Frame} → ValidFrame g → (a : ℕ) → demand g a n ≤ demand g a n′
+  unfolding demand
+  demand-mono {g} valid a = mul-le-mul-left (g .length) (count-mono _ (valid .period) le)
+
+  -- So does the work at an alignment.
+  at-mono : (gs : List Frame) → ((g : Frame) → Mem g gs → ValidFrame g) → (a : ℕ) → workAt gs a n ≤ workAt gs a n′
+  unfolding workAt
+  at-mono gs valid a = sum-le gs (λ g m. demand-mono (valid g m) a)
+
+  -- So does a node's work.
+  node-mono : (gs : List Frame) → ((g : Frame) → Mem g gs → ValidFrame g) → (als : List ℕ) (c : Choice) → nodeWork gs als c n ≤ nodeWork gs als c n′
+  unfolding nodeWork
+  node-mono gs valid als (Fixed a) = at-mono gs valid a
+  node-mono gs valid als Any = greatest-le als (λ a m. le-trans (at-mono gs valid a) (le-greatest (λ b. workAt gs b n′) m))
+
+  -- So does all the work.
+  pub work-mono : (fs : List Frame) → Valid fs → (k : Frame) {gs : List Frame} → Part fs k gs → (cs : List Choice) → work fs k gs cs n ≤ work fs k gs cs n′
+  unfolding work
+  work-mono fs valid k {gs} part cs =
+      sum-le (range 1 nodes) (λ j m. node-mono (ofNode gs j) (λ g l. valid-frame valid (of-ahead fs k (part g (of-node gs j l .0)))) (alignments fs k j) (choiceOf cs j))
+
+-- ---- fewer choices, less work
+
+-- Of a node with these alignments, a choice allows another: the same, or where it leaves the alignment open any that the bounds look at.
+unfoldable pub Allows : List ℕ → Choice → Choice → Type 0
+Allows als (Fixed a) (Fixed b) = a ≡ b
+Allows als (Fixed a) Any = ⊥
+Allows als Any (Fixed b) = Mem b (orEmpty als)
+Allows als Any Any = Unit {0}
+
+-- A scenario is refined by another: at each node its choice allows the other's.
+abbrev pub RefinedBy : List Frame → Frame → List Choice → List Choice → Type 0
+RefinedBy fs k cs cs′ = (j : ℕ) → Mem j (range 1 nodes) → Allows (alignments fs k j) (choiceOf cs j) (choiceOf cs′ j)
+
+-- The work at an alignment is at most the greatest, if a node without alignments has no frames.
+open-le : (gs : List Frame) (als : List ℕ) (b n : ℕ) → ((g : Frame) → Mem g gs → Mem (phase g) als) → Mem b (orEmpty als) → workAt gs b n ≤ greatest (λ a. workAt gs a n) als
+unfolding orEmpty workAt sum
+open-le [] [] b n has m = omega arith
+open-le (g ∷ gs) [] b n has m = absurd (List·Memᴰ·not-nil (has g (here refl)))
+open-le gs (a ∷ als) b n has m = le-greatest (λ c. workAt gs c n) m
+
+module _ {fs : List Frame} (valid : Valid fs) (k : Frame) {gs : List Frame} (part : Part fs k gs) where
+  -- A choice that is allowed gives no more work.
+  pub choice-le : (j n : ℕ) (c c′ : Choice) → Allows (alignments fs k j) c c′ → nodeWork (ofNode gs j) (alignments fs k j) c′ n ≤ nodeWork (ofNode gs j) (alignments fs k j) c n
+  unfolding Allows nodeWork
+  choice-le j n (Fixed a) (Fixed b) e = rw e (le-refl _)
+  choice-le j n (Fixed a) Any no-way = absurd no-way
+  choice-le j n Any (Fixed b) m = open-le (ofNode gs j) (alignments fs k j) b n (λ g l. phase-aligned valid k j (node-part fs k part j g l)) m
+  choice-le j n Any Any u = le-refl _
+
+  -- A scenario has no less work than one that refines it.
+  pub work-refine : (cs cs′ : List Choice) → RefinedBy fs k cs cs′ → (n : ℕ) → work fs k gs cs′ n ≤ work fs k gs cs n
+  unfolding work
+  work-refine cs cs′ refines n = sum-le (range 1 nodes) (λ j m. choice-le j n (choiceOf cs j) (choiceOf cs′ j) (refines j m))
+
+-- ---- the frame's own work
+
+module _ {fs : List Frame} (valid : Valid fs) {k : ℕ} (inside : k < length fs) where
+  abbrev f : Frame
+  f = row fs k
+
+  -- A sum over the frames ahead of one node is that over the better ones, and at the frame's own node its own term.
+  node-sum : (w : Frame → ℕ) (j : ℕ) → sum w (ofNode (ahead fs f) j) ≡ sum w (ofNode (better fs f) j) + cond (eqb (f .node) j) (w f) 0
+  unfolding ofNode
+  node-sum w j = rw (sum-keep _ w (ahead fs f), sum-keep _ w (better fs f)) (ahead-sum valid inside (λ g. cond (eqb (g .node) j) (w g) 0))
+
+  -- The same of the work at one alignment.
+  at-sum : (j a n : ℕ) → workAt (ofNode (ahead fs f) j) a n ≡ workAt (ofNode (better fs f) j) a n + cond (eqb (f .node) j) (demand f a n) 0
+  unfolding workAt
+  at-sum j a n = node-sum (λ g. demand g a n) j
+
+  module _ (a n : ℕ) where
+    -- The work of the frames ahead of one node holds that of the better ones, and at the frame's own node its own.
+    node-share : (j : ℕ) (c : Choice) → (f .node ≡ j → c ≡ Fixed a)
+        → nodeWork (ofNode (better fs f) j) (alignments fs f j) c n + cond (eqb (f .node) j) (demand f a n) 0 ≤ nodeWork (ofNode (ahead fs f) j) (alignments fs f j) c n
+    unfolding nodeWork
+    node-share j (Fixed b) own =
+        let mine = cond-same (eqb (f .node) j) (demand f a n) (demand f b n) 0 (λ t. let same = own (eqb→eq (f .node) j t) in cc) in
+        omega (arith, at-sum j b n)
+    node-share j Any own =
+        let other = cond-no (eqb (f .node) j) (demand f a n) 0 (λ t. let same = own (eqb→eq (f .node) j t) in let z : _≡_ {A = ℕ} 0 1 = cc in omega arith) in
+        let more = greatest-le (alignments fs f j) (λ b m. le-trans (less b) (le-greatest (λ c. workAt (ofNode (ahead fs f) j) c n) m)) in
+        omega arith
+      where
+        less : (b : ℕ) → workAt (ofNode (better fs f) j) b n ≤ workAt (ofNode (ahead fs f) j) b n
+        less b = omega (arith, at-sum j b n)
+
+    -- So does the work of all nodes, in a scenario that fixes the frame's own.
+    pub work-share : (cs : List Choice) → choiceOf cs (f .node) ≡ Fixed a → work fs f (better fs f) cs n + demand f a n ≤ work fs f (ahead fs f) cs n
+    unfolding work
+    work-share cs own =
+        let at : ℕ → ℕ = λ j. cond (eqb (f .node) j) (demand f a n) 0 in
+        let mine = rw (cond-yes (eqb (f .node) (f .node)) (demand f a n) 0 (eqb-refl (f .node))) at (term-le-sum at (node-listed (valid .frame k inside))) in
+        omega (arith, add-le-sum _ at (range 1 nodes) (λ j m. node-share j (choiceOf cs j) (λ e. rw e at own)))

@@ -1,0 +1,40 @@
+// The types that the definitions in specs/ share with the code of the crates above.
+
+// A frame of the table, by the numbers that the bus rule and the bounds read.
+pub struct Frame {
+    pub node: u32,
+    // Document 01's "rank": the smaller number goes first.
+    pub priority: u32,
+    // "Largest length", C: in ticks, with the space between frames.
+    pub length: u32,
+    // p.
+    pub period: u32,
+    // o.
+    pub offset: u32,
+}
+
+// A node's part in a scenario: one of its alignments, or whichever gives the greatest sum, chosen anew
+// at each tick.
+pub enum Choice {
+    Fixed(u32),
+    Any,
+}
+
+// The named outcomes of judging a claim, each but the last with the bound used.
+pub enum Outcome {
+    // "Certified by the rough bound".
+    CertifiedApproximate(u32),
+    // "Certified by the exact bound".
+    CertifiedPrecise(u32),
+    // "Claim too small".
+    ClaimTooSmall(u32),
+    Undecided(u32),
+    NoWindow,
+}
+
+// The outcome beside the bound used and the margin.
+pub struct Judgement {
+    pub outcome: Outcome,
+    pub bound: u32,
+    pub margin: i64,
+}
