@@ -1,9 +1,11 @@
 -- The laws of this crate's definitions, one file for each group of them.
 -- No definition that a bound or a contract cites stands below here.
 pub mod Tests
+pub mod Below
 pub mod Members
 pub mod Sums
 pub mod Combinations
 pub mod Least
+pub mod Walks
 pub mod Releases
 pub mod Multiples

@@ -10,7 +10,7 @@ use Rattle.bus_model.specs.Frame.{row}
 use Rattle.bus_model.specs.Release.{release}
 use Rattle.bus_model.specs.declared.Frame.{Frame}
 
--- A transmission: it holds the ticks start .. start + length - 1.
+-- A transmission: it holds the ticks start .. start + length - 1, and ends at start + length.
 pub record Transmission : Type 0 where
   pub frame : ℕ  -- its row
   pub instance : ℕ  -- which release of the frame, from 0
@@ -29,7 +29,9 @@ Waiting fs starts sent t i = (i < length fs) × (release starts (row fs i) (sent
 unfoldable pub Idle : List Frame → (ℕ → ℕ) → (ℕ → ℕ) → ℕ → ℕ → Type 0
 Idle fs starts sent free t = (u i : ℕ) → free ≤ u → u < t → Waiting fs starts sent u i → ⊥
 
--- What the bus rule asks of the next transmission, where the bus is free from `free` on.
+-- What the bus rule asks of the next transmission, where the bus is free from `free` on:
+-- it starts when the bus is free and something is queued, and not later; its frame is queued; older instances go first;
+-- it is the best-ranked queued frame; it takes from 1 tick to its frame's largest length.
 pub record Next (fs : List Frame) (starts sent : ℕ → ℕ) (free : ℕ) (x : Transmission) : Type 0 where
   pub after : free ≤ x .start
   pub idle : Idle fs starts sent free (x .start)
@@ -39,7 +41,8 @@ pub record Next (fs : List Frame) (starts sent : ℕ → ℕ) (free : ℕ) (x : 
   pub positive : 1 ≤ x .length
   pub fits : x .length ≤ row fs (x .frame) .length
 
--- The list is all that starts before tick T, where the bus is free from `free` on.
+-- The list is all that starts before tick T, where the bus is free from `free` on. Each transmission finds the bus and the
+-- queue as the one before left them; when the list is over, nothing waits any more before T.
 unfoldable pub Runs : List Frame → (ℕ → ℕ) → ℕ → (ℕ → ℕ) → ℕ → List Transmission → Type 0
 Runs fs starts T sent free [] = Idle fs starts sent free T
 Runs fs starts T sent free (x ∷ xs) =

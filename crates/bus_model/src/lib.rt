@@ -4,7 +4,7 @@
 pub struct Frame {
     pub node: u32,
     // Document 01's "rank": the smaller number goes first.
-    pub priority: u32,
+    pub priority: u64,
     // "Largest length", C: in ticks, with the space between frames.
     pub length: u32,
     // p.

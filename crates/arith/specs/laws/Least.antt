@@ -1,11 +1,12 @@
 -- What a least search finds: a number of its range that passes, and none below it does.
--- A search finds none just where none of its range passes.
-use Prim.Native.Nat.{ℕ, zero, suc, _+_, _≤_, _<_}
+-- A search finds none just where none of its range passes. For a loop, whose search of n .. e - 1 is `least p (e - n) n`,
+-- the laws at the end say where it stops and what it may pass over.
+use Prim.Native.Nat.{ℕ, zero, suc, _+_, _-_, _≤_, _<_}
 use mathlib.Core.Path.{_≡_, refl, subst}
 use mathlib.Core.Bool.{Bool, true, false}
 use mathlib.Core.Logic.{inl, inr}
 use native.Mathlib.Omega.{arith}
-use native.Mathlib.Nat.{eq-or-lt-of-le}
+use native.Mathlib.Nat.{eq-or-lt-of-le, add-zero}
 use lib.Dec.{T}
 use Rattle.arith.specs.Least.{least, isNone}
 use Rattle.arith.specs.declared.Found.{Found}
@@ -59,3 +60,40 @@ pub not-none : (r : Found) → ¬ T (isNone r) → (l : ℕ) × (r ≡ At l)
 unfolding isNone
 not-none (At l) f = (l, refl)
 not-none Nothing f = absurd (f tt)
+
+-- ---- the search of n .. e - 1, as a loop has it
+
+module _ (p : ℕ → Bool) (e : ℕ) where
+  -- What is found is not below n, is below e, and passes.
+  pub least-within : {n m : ℕ} → least p (e - n) n ≡ At m → (n ≤ m) × (m < e) × T (p m)
+  least-within {n} {m} found = let (low, high, t) = least-at p (e - n) n m found in (low, omega arith, t)
+
+  -- It stops at a number that passes.
+  pub least-here : (n : ℕ) → n < e → T (p n) → least p (e - n) n ≡ At n
+  least-here n inside t =
+      let (l, found, le) = least-finds p (e - n) n n (omega arith) (omega arith) t in
+      let (low, high, u) = least-within found in
+      let same : l ≡ n = omega arith in
+      rw same at found
+
+  -- It stops at e.
+  pub least-end : (n : ℕ) → e ≤ n → least p (e - n) n ≡ Nothing
+  least-end n over = least-none p (e - n) n (λ m low high. absurd (omega arith))
+
+  skip-by : (d n : ℕ) → n + d ≤ e → ((i : ℕ) → n ≤ i → i < n + d → ¬ T (p i)) → least p (e - n) n ≡ least p (e - (n + d)) (n + d)
+  unfolding least
+  skip-by zero n inside fails = rw add-zero
+  skip-by (suc d) n inside fails =
+      let more : e - n ≡ suc (e - suc n) = omega arith in
+      let next : suc n + d ≡ n + suc d = omega arith in
+      rw more (go (p n) (fails n (omega arith) (omega arith)) (rw next at (skip-by d (suc n) (omega arith) (λ i low high. fails i (omega arith) (omega arith)))))
+    where
+      go : (b : Bool) → ¬ T b → least p (e - suc n) (suc n) ≡ least p (e - (n + suc d)) (n + suc d) → from-answer p (e - suc n) n b ≡ least p (e - (n + suc d)) (n + suc d)
+      go true f later = absurd (f tt)
+      go false f later = later
+
+  -- It passes over numbers that fail.
+  pub least-skip : (n m : ℕ) → n ≤ m → m ≤ e → ((i : ℕ) → n ≤ i → i < m → ¬ T (p i)) → least p (e - n) n ≡ least p (e - m) m
+  least-skip n m le inside fails =
+      let same : n + (m - n) ≡ m = omega arith in
+      rw same at (skip-by (m - n) n (omega arith) (λ i low high. fails i low (omega arith)))

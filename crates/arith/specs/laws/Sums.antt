@@ -7,7 +7,6 @@ use mathlib.Core.Bool.{Bool, true, false, cond}
 use mathlib.Core.Logic.{_≢_}
 use native.Mathlib.Omega.{arith}
 use native.Mathlib.Decide.{ℕ-discrete, decLt}
-use lib.Dec.{T}
 use lib.ListN.{length, getD}
 use Rattle.arith.specs.Lists.{sum, greatest, keep, range}
 use Rattle.arith.specs.laws.Members.{of-range}

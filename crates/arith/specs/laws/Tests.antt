@@ -11,6 +11,13 @@ pub by-test {ℓ} : {A : Type ℓ} (t : Bool) → (t ≡ true → A) → (t ≡ 
 by-test true f g = f refl
 by-test false f g = g refl
 
+-- Two tests are the same where each passes with the other.
+pub same-test : (a b : Bool) → (T a → T b) → (T b → T a) → a ≡ b
+same-test true true to from = refl
+same-test true false to from = absurd (to tt)
+same-test false true to from = absurd (from tt)
+same-test false false to from = refl
+
 -- Both of two tests pass where they pass together.
 pub and-both : (a b : Bool) → (a && b) ≡ true → (a ≡ true) × (b ≡ true)
 and-both true b e = (refl, e)
@@ -30,11 +37,6 @@ cond-no false x y t = refl
 pub cond-cases : {A : Type 0} (P : A → Type 0) (b : Bool) {x y : A} → (T b → P x) → (¬ T b → P y) → P (cond b x y)
 cond-cases P true first second = first tt
 cond-cases P false first second = second (λ t. t)
-
--- The first may be replaced by what equals it where the test passes.
-pub cond-same : {A : Type 0} (b : Bool) (x y z : A) → (T b → x ≡ y) → cond b x z ≡ cond b y z
-cond-same true x y z e = e tt
-cond-same false x y z e = refl
 
 -- A number that counts only under a test grows with the test and with itself.
 pub cond-le : (b c : Bool) (m n : ℕ) → (T b → T c × (m ≤ n)) → cond b m 0 ≤ cond c n 0

@@ -10,7 +10,6 @@ use Rattle.arith.specs.Least.{least, orZero}
 use Rattle.arith.specs.Releases.{releasesBefore}
 use Rattle.bus_model.specs.Frame.{row}
 use Rattle.bus_model.specs.Bounds.{windowLimit, ahead, better, below, blocking, work, windowLoad, busyWindow, delayLoad, queueingDelay, ownDistance, instanceResponse, responseTime, scenarioResponse, scenarios, everyNode, boundOf, approximateBound, preciseBound}
-use Rattle.bus_model.specs.examples.Cases.{listing}
 use Rattle.bus_model.specs.examples.Compute.{everything}
 use Rattle.arith.specs.declared.Found.the-variants.{At, Nothing}
 use Rattle.bus_model.specs.declared.Frame.{Frame}
@@ -38,36 +37,64 @@ pub unchanged : (fs : List Frame) (k : Frame) (fixes : ℕ → Bool) → boundBy
 unfolding boundBy scenarioBy responseBy boundOf scenarioResponse busyWindow windowLoad responseTime instanceResponse queueingDelay delayLoad
 unchanged fs k fixes = refl
 
--- three frames of three nodes; the second instance of the last has the greatest response
+-- document 01's listing: identifiers 16, 32, 48 and 64
+abbrev listing : List Frame
+listing =
+    record { node = 1; priority = 16; length = 135; period = 1000; offset = 0 } ∷
+    record { node = 1; priority = 32; length = 55; period = 1000; offset = 200 } ∷
+    record { node = 1; priority = 48; length = 135; period = 1000; offset = 300 } ∷
+    record { node = 2; priority = 64; length = 65; period = 1000; offset = 0 } ∷ []
+
+abbrev frame16 : Frame
+frame16 = row listing 0
+
+abbrev frame64 : Frame
+frame64 = row listing 3
+
+-- three nodes of one frame each; the second instance of the last frame responds later than its first
 abbrev three : List Frame
 three =
     record { node = 1; priority = 1; length = 10; period = 25; offset = 0 } ∷
     record { node = 2; priority = 2; length = 10; period = 35; offset = 0 } ∷
     record { node = 3; priority = 3; length = 10; period = 35; offset = 0 } ∷ []
 
+-- "Counting better frames in 0..w-1": what is queued where the bus becomes free is left out.
+abbrev early : ℕ
+early = boundBy (blocking listing frame64) (λ w. w) (λ n. n) listing frame64 everyNode
+
+-- "Looking at q = 1 only".
+abbrev first : ℕ
+first = boundBy (blocking three (row three 2)) suc (min 1) three (row three 2) everyNode
+
+-- "Blocking by a whole C".
+abbrev whole : ℕ
+whole = boundBy (greatest (λ g. g .length) (below listing frame16)) suc (λ n. n) listing frame16 everyNode
+
+-- "Choosing one best alignment for all L in the rough bound": each other node has one alignment at all L and w, and of these
+-- choices the one with the greatest response counts. No single choice gives more.
+abbrev one : ℕ
+one = boundBy (blocking listing frame64) suc (λ n. n) listing frame64 everyNode
+
 -- the bound by an error, and the right one
 abbrev pub Gives : (wrong right : ℕ) → ℕ → ℕ → Type 0
 Gives wrong right m n = (wrong ≡ m) × (right ≡ n)
 
--- better frames counted in 0..w-1 only
-abbrev early : ℕ
-early = boundBy (blocking listing (row listing 3)) (λ w. w) (λ n. n) listing (row listing 3) everyNode
-
--- the first instance only
-abbrev first : ℕ
-first = boundBy (blocking three (row three 2)) suc (min 1) three (row three 2) everyNode
-
--- blocked by a whole length
-abbrev whole : ℕ
-whole = boundBy (greatest (λ g. g .length) (below listing (row listing 0))) suc (λ n. n) listing (row listing 0) everyNode
-
--- one alignment for all lengths in the approximate bound
-abbrev one : ℕ
-one = boundBy (blocking listing (row listing 3)) suc (λ n. n) listing (row listing 3) everyNode
-
-pub errors-differ : Gives early (preciseBound listing (row listing 3)) 65 200
+pub errors-differ : Gives early (preciseBound listing frame64) 65 200
     × Gives first (preciseBound three (row three 2)) 30 35
-    × Gives whole (preciseBound listing (row listing 0)) 270 269
-    × Gives one (approximateBound listing (row listing 3)) 200 255
+    × Gives whole (preciseBound listing frame16) 270 269
+    × Gives one (approximateBound listing frame64) 200 255
 unfolding boundBy scenarioBy responseBy everything
 errors-differ = ((refl, refl), (refl, refl), (refl, refl), (refl, refl))
+
+-- ---- the last tick of a window
+
+-- a node of two frames; the second is queued in the last tick of the first
+abbrev pair : List Frame
+pair =
+    record { node = 1; priority = 1; length = 10; period = 100; offset = 0 } ∷
+    record { node = 1; priority = 2; length = 10; period = 100; offset = 9 } ∷ []
+
+-- It waits for a tick. In a window of a tick less it would be missed, and 10 would be the bound.
+pub last-tick : preciseBound pair (row pair 1) ≡ 11
+unfolding everything
+last-tick = refl

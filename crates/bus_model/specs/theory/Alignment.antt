@@ -13,8 +13,10 @@ use Rattle.arith.specs.Releases.{releasesBefore}
 use Rattle.arith.specs.laws.Members.{Lowest, lowest, mem-keep, of-keep, exists-mem, of-exists, mem-range, of-range}
 use Rattle.arith.specs.laws.Releases.{count-le, next-after}
 use Rattle.bus_model.specs.Valid.{ValidFrame, Valid}
-use Rattle.bus_model.specs.Release.{release, releasedBy, arrived, phase}
-use Rattle.bus_model.specs.Bounds.{ahead, ofNode, hyperperiod, isReleasedAt, alignments, orEmpty, distance}
+use Rattle.bus_model.specs.Pattern.{ofNode, hyperperiod}
+use Rattle.bus_model.specs.Release.{release}
+use Rattle.bus_model.specs.Bounds.{ahead, phase, isReleasedAt, alignments, orEmpty, distance}
+use Rattle.bus_model.specs.theory.Arrivals.{releasedBy, arrived}
 use Rattle.bus_model.specs.theory.Frames.{phase-rest, phase-fits, valid-frame, of-ahead, of-node, node-divides, node-pos}
 use Rattle.bus_model.specs.declared.Frame.{Frame}
 

@@ -16,10 +16,11 @@ use Rattle.arith.specs.laws.Sums.{le-greatest}
 use Rattle.arith.specs.laws.Releases.{counted, count-mono}
 use Rattle.bus_model.specs.Frame.{noFrame, row}
 use Rattle.bus_model.specs.Valid.{Valid}
-use Rattle.bus_model.specs.Release.{release, releasedBy, arrived}
+use Rattle.bus_model.specs.Release.{release}
 use Rattle.bus_model.specs.Bus.{Transmission, oneMore, Waiting, Idle, Next, Runs, Schedule}
 use Rattle.bus_model.specs.Bounds.{isAhead, isBetter, isBelow, ahead, better, below, blocking}
 use Rattle.bus_model.specs.theory.Rows.{overRows, sum-rows, rows-le, rows-more, rows-split}
+use Rattle.bus_model.specs.theory.Arrivals.{releasedBy, arrived}
 use Rattle.bus_model.specs.declared.Frame.{Frame}
 
 -- x ticks from t1 on are not enough for what is released in them at the priority of f or better, and for what blocks it

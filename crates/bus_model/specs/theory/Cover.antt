@@ -11,8 +11,9 @@ use Rattle.arith.specs.Lists.{sum, keep, range}
 use Rattle.arith.specs.laws.Tests.{cond-yes}
 use Rattle.arith.specs.laws.Sums.{sum-le, add-le-sum, term-le-sum}
 use Rattle.bus_model.specs.Valid.{ValidFrame, Valid}
-use Rattle.bus_model.specs.Release.{arrived}
-use Rattle.bus_model.specs.Bounds.{nodes, ofNode, alignments, choiceOf, demand, workAt, nodeWork, work}
+use Rattle.bus_model.specs.Pattern.{ofNode}
+use Rattle.bus_model.specs.Bounds.{nodes, alignments, choiceOf, demand, workAt, nodeWork, work}
+use Rattle.bus_model.specs.theory.Arrivals.{arrived}
 use Rattle.bus_model.specs.theory.Frames.{Part, valid-frame, of-ahead, of-node, node-part, node-listed}
 use Rattle.bus_model.specs.theory.Alignment.{Stands, arrived-le}
 use Rattle.bus_model.specs.theory.Work.{Allows, choice-le}

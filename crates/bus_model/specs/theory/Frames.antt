@@ -12,8 +12,8 @@ use Rattle.arith.specs.laws.Members.{mem-keep, of-keep, mem-getD, mem-range, pl
 use Rattle.arith.specs.laws.Multiples.{divides-lcmOf, lcmOf-pos}
 use Rattle.bus_model.specs.Frame.{noFrame, row}
 use Rattle.bus_model.specs.Valid.{ValidFrame, Valid}
-use Rattle.bus_model.specs.Release.{phase}
-use Rattle.bus_model.specs.Bounds.{nodes, ahead, better, ofNode, hyperperiod}
+use Rattle.bus_model.specs.Pattern.{ofNode, hyperperiod}
+use Rattle.bus_model.specs.Bounds.{nodes, ahead, better, phase}
 use Rattle.bus_model.specs.declared.Frame.{Frame}
 
 -- ---- one frame

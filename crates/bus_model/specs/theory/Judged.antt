@@ -1,17 +1,18 @@
 -- What a judgement tells: a certified frame meets its claim, whatever the schedule;
 -- the margin is negative exactly for verdicts 3 and 12, and no bound exceeds the longest window.
-use Prim.Native.Nat.{ℕ, suc, _-_, _≤_, _<_}
+use Prim.Native.Nat.{ℕ, zero, suc, _≤_, _<_}
 use mathlib.Core.Path.{_≡_, refl}
 use mathlib.Core.List.{List}
 use mathlib.Core.Bool.{not}
 use mathlib.Core.Logic.{_↔_, _⊎_, inl, inr}
 use native.Mathlib.Omega.{arith}
-use lib.Dec.{T, leb, ltb, leb→le, le→leb, lt→ltb, ltb→lt, eqb-refl}
-use lib.IntN.{ℤ, pos, negsuc, subℕ}
+use borrow.Author.Tests.{lt-ltb, le-ltb}
+use lib.Dec.{T, leb, leb→le, le→leb, eqb-refl}
+use lib.IntN.{ℤ, pos, _-ℤ_}
 use lib.Signed.{nonNeg}
 use lib.ListN.{length}
 use Rattle.arith.specs.laws.Members.{exists-mem}
-use Rattle.arith.specs.laws.Tests.{cond-yes, cond-no, cond-cases}
+use Rattle.arith.specs.laws.Tests.{cond-cases}
 use Rattle.arith.specs.laws.Least.{not-none}
 use Rattle.bus_model.specs.Frame.{row}
 use Rattle.bus_model.specs.Valid.{Valid}
@@ -56,12 +57,14 @@ abbrev pub Negative : ℤ → Type 0
 Negative z = T (not (nonNeg z))
 
 -- A claim below the bound has a negative margin.
-margin-negative : {claim b : ℕ} → claim < b → Negative (subℕ claim b)
-margin-negative {claim} {b} less = rw (cond-yes (ltb claim b) (negsuc (b - suc claim)) (pos (claim - b)) (lt→ltb claim b less)) tt
+margin-negative : {claim b : ℕ} → claim < b → Negative (pos claim -ℤ pos b)
+margin-negative {b = zero} less = absurd (omega arith)
+margin-negative {claim} {b = suc b} less = rw (lt-ltb claim (suc b) less) tt
 
 -- No other claim has.
-margin-positive : {claim b : ℕ} → b ≤ claim → ¬ Negative (subℕ claim b)
-margin-positive {claim} {b} le = rw (cond-no (ltb claim b) (negsuc (b - suc claim)) (pos (claim - b)) (λ t. omega (arith, ltb→lt claim b t))) (λ t. t)
+margin-positive : {claim b : ℕ} → b ≤ claim → ¬ Negative (pos claim -ℤ pos b)
+margin-positive {b = zero} le = λ t. t
+margin-positive {claim} {b = suc b} le = rw (le-ltb claim (suc b) le) (λ t. t)
 
 -- The margin is negative exactly for verdicts 3 and 12.
 pub margin-sign : (fs : List Frame) (k : Frame) (claim : ℕ)

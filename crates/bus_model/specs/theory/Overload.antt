@@ -15,12 +15,11 @@ use Rattle.arith.specs.laws.Tests.{cond-yes}
 use Rattle.arith.specs.laws.Releases.{next-after}
 use Rattle.bus_model.specs.Frame.{row}
 use Rattle.bus_model.specs.Valid.{Valid}
-use Rattle.bus_model.specs.Release.{phase}
-use Rattle.bus_model.specs.Bounds.{distance, demand, choiceOf, scenarios, ownNode, windowLoad}
+use Rattle.bus_model.specs.Bounds.{phase, distance, demand, choiceOf, scenarios, ownNode, windowLoad}
 use Rattle.bus_model.specs.Judgement.{lacksWindow, windowedOutcome, outcomeOf, boundUsed, marginOf, judge}
 use Rattle.bus_model.specs.theory.Frames.{node-listed, self-ahead}
 use Rattle.bus_model.specs.theory.Alignment.{phase-aligned, phase-distance, or-empty}
-use Rattle.bus_model.specs.theory.Work.{work-share}
+use Rattle.bus_model.specs.theory.Work.{work-own}
 use Rattle.bus_model.specs.theory.Response.{window-none}
 use Rattle.bus_model.specs.theory.Scenarios.{scenario, chosen, chosen-listed, chosen-fixed}
 use Rattle.bus_model.specs.declared.Frame.{Frame}
@@ -55,7 +54,7 @@ module _ {fs : List Frame} (valid : Valid fs) {k : ℕ} (inside : k < length fs)
   unfolding lacksWindow isNone windowLoad demand
   overloaded long =
       let lacks = window-none fs f at-once (λ l low.
-      let share = work-share valid inside (phase f) l at-once at-once-own in
+      let share = work-own valid inside (phase f) l at-once at-once-own in
       let after = next-after (distance f (phase f)) (valid .frame k inside .period) l in
       let count = releasesBefore (distance f (phase f)) (f .period) l in
       omega (arith, more-than-time (f .period) (f .length) l count long low (omega (arith, phase-distance (valid .frame k inside))))) in

@@ -12,13 +12,13 @@ use Rattle.arith.specs.Least.{orZero}
 use Rattle.arith.specs.Releases.{releasesBefore}
 use Rattle.arith.specs.laws.Members.{mem-range, of-range}
 use Rattle.arith.specs.laws.Sums.{le-greatest, greatest-le}
-use Rattle.arith.specs.laws.Least.{least-at, least-finds, least-none}
-use Rattle.arith.specs.laws.Releases.{counted}
+use Rattle.arith.specs.laws.Least.{least-at, least-finds, least-le, least-none}
+use Rattle.arith.specs.laws.Releases.{counted, count-le}
 use Rattle.bus_model.specs.Frame.{row}
 use Rattle.bus_model.specs.Valid.{ValidFrame, Valid}
 use Rattle.bus_model.specs.Bounds.{windowLimit, distance, demand, choiceOf, windowLoad, busyWindow, delayLoad, queueingDelay, ownDistance, instanceResponse, responseTime, scenarioResponse}
 use Rattle.bus_model.specs.theory.Frames.{better-ahead}
-use Rattle.bus_model.specs.theory.Work.{RefinedBy, work-mono, work-refine, work-share}
+use Rattle.bus_model.specs.theory.Work.{RefinedBy, work-mono, work-refine, work-own}
 use Rattle.arith.specs.declared.Found.the-variants.{At, Nothing}
 use Rattle.bus_model.specs.declared.Frame.{Frame}
 use Rattle.bus_model.specs.declared.Choice.{Choice}
@@ -36,6 +36,11 @@ module _ (fs : List Frame) (k : Frame) (cs : List Choice) where
   pub window-found : (l : ℕ) → 1 ≤ l → l ≤ windowLimit → windowLoad fs k cs l ≤ l → (m : ℕ) × (busyWindow fs k cs ≡ At m) × (m ≤ l)
   unfolding busyWindow
   window-found l low high fits = least-finds _ windowLimit 1 l low (omega arith) (le→leb _ l fits)
+
+  -- No shorter length holds its load.
+  pub window-least : (l m : ℕ) → busyWindow fs k cs ≡ At l → 1 ≤ m → windowLoad fs k cs m ≤ m → l ≤ m
+  unfolding busyWindow
+  window-least l m e low fits = least-le _ windowLimit 1 l m e low (le→leb _ m fits)
 
   -- Where no length holds its load, there is none.
   pub window-none : ((l : ℕ) → 1 ≤ l → l < windowLoad fs k cs l) → busyWindow fs k cs ≡ Nothing
@@ -83,14 +88,31 @@ module _ {fs : List Frame} (valid : Valid fs) {k : ℕ} (inside : k < length fs)
     unfolding windowLoad delayLoad demand
     delay-within q released =
         let (low, high, fits) = window-at fs f cs l window in
-        let share = work-share valid inside a l cs own in
+        let share = work-own valid inside a l cs own in
         let mine = mul-le-mul-left (f .length) (counted (distance f a) (self .period) l q .1 released) in
         let early : suc (l - f .length) ≤ l = omega (arith, self .length) in
         let less = work-mono early fs valid f (better-ahead fs f) cs in
         let (w, e, le) = delay-found fs f cs q (l - f .length) (omega (arith, self .length)) (omega arith) in
         (w, e, omega arith)
 
-    -- So its response is at most the window.
+    -- Its delay does not end before its release, or a shorter window would do.
+    released-in-time : (q : ℕ) → distance f a + q * f .period < l → (w : ℕ) → queueingDelay fs f cs q ≡ At w → distance f a + q * f .period ≤ w
+    unfolding windowLoad delayLoad demand
+    released-in-time q released w e = let early : ¬ (w < distance f a + q * f .period) = too-soon in omega arith
+      where
+        too-soon : ¬ (w < distance f a + q * f .period)
+        too-soon less =
+            let few = mul-le-mul-left (f .length) (count-le (distance f a) (self .period) (suc w) q less) in
+            let load = work-own valid inside a (suc w) cs own in
+            omega (arith, delay-at fs f cs q w e, window-least fs f cs l (suc w) window (omega arith) (omega (arith, delay-at fs f cs q w e)))
+
+    -- So its response is not cut at 0.
+    pub response-whole : (q : ℕ) → distance f a + q * f .period < l → (w : ℕ) → queueingDelay fs f cs q ≡ At w
+        → instanceResponse fs f cs q + (distance f a + q * f .period) ≡ w + f .length
+    unfolding instanceResponse orZero
+    response-whole q released w e = omega (arith, released-in-time q released w e, ap orZero e, own-distance fs f cs a own)
+
+    -- Its response is at most the window.
     pub instance-le : (q : ℕ) → distance f a + q * f .period < l → instanceResponse fs f cs q ≤ l
     unfolding instanceResponse orZero
     instance-le q released = let (w, e, le) = delay-within q released in omega (arith, ap orZero e)

@@ -7,14 +7,15 @@ use mathlib.Core.Bool.{Bool, true, false}
 use native.Mathlib.Omega.{arith}
 use native.Mathlib.Nat.{le-trans}
 use lib.Dec.{T}
-use lib.ListN.{length, length-map}
+use lib.ListN.{length, length-map, getD}
+use lib.Seq.{ext-getD}
 use Rattle.arith.specs.Lists.{range, greatest}
 use Rattle.arith.specs.laws.Members.{of-range, getD-table, of-map, mem-combinations, of-combinations}
 use Rattle.arith.specs.laws.Sums.{le-greatest, greatest-le}
-use Rattle.arith.specs.laws.Combinations.{length-combinations}
+use Rattle.arith.specs.laws.Combinations.{length-combinations, length-combination}
 use Rattle.bus_model.specs.Frame.{row}
 use Rattle.bus_model.specs.Valid.{Valid}
-use Rattle.bus_model.specs.Bounds.{nodes, windowLimit, alignments, orEmpty, choiceOf, choices, scenarios, busyWindow, scenarioResponse, boundOf, preciseScenarios, scenarioCount}
+use Rattle.bus_model.specs.Bounds.{nodes, windowLimit, alignments, orEmpty, choiceOf, choices, scenarios, busyWindow, scenarioResponse, everyNode, boundOf, scenarioCount}
 use Rattle.bus_model.specs.theory.Frames.{node-listed}
 use Rattle.bus_model.specs.theory.Work.{Allows, RefinedBy}
 use Rattle.bus_model.specs.theory.Response.{window-at, window-refine, response-le, response-none, response-refine}
@@ -34,6 +35,14 @@ scenario c = map c (range 1 nodes)
 pub scenario-choice : (c : ℕ → Choice) (j : ℕ) → Mem j (range 1 nodes) → choiceOf (scenario c) j ≡ c j
 scenario-choice c j m = let (low, high) = of-range 1 nodes m in getD-table c 1 nodes (j - 1) Any (omega arith) ∙ ap c (omega arith)
 
+-- Each list of a choice for each node is such a scenario.
+pub scenario-is : (cs : List Choice) → length cs ≡ nodes → scenario (choiceOf cs) ≡ cs
+unfolding range
+scenario-is cs long =
+    ext-getD Any (scenario (choiceOf cs)) cs (sym long) (λ i inside.
+    let place : 1 + i - 1 ≡ i = omega arith in
+    getD-table (choiceOf cs) 1 nodes i Any inside ∙ ap (λ (n : ℕ). getD cs n Any) place)
+
 -- ---- the scenarios in which the nodes that `fixes` names are fixed
 
 -- A choice for a node that is fixed is one of its alignments.
@@ -49,7 +58,7 @@ open-choice fs k j true m = let (a, l, e) = of-map Fixed (orEmpty (alignments fs
 open-choice fs k j false m = rw (List·Memᴰ·eq-of-singleton m, Allows) tt
 
 -- A choice allows itself.
-allows-self : (als : List ℕ) (c : Choice) → Allows als c c
+pub allows-self : (als : List ℕ) (c : Choice) → Allows als c c
 unfolding Allows
 allows-self als (Fixed a) = refl
 allows-self als Any = tt
@@ -68,8 +77,13 @@ module _ (fs : List Frame) (k : Frame) (fixes : ℕ → Bool) where
       let same : 1 + (j - 1) ≡ j = omega arith in
       rw same at (of-combinations (λ i. choices fs k (fixes i) i) 1 nodes Any m (j - 1) (omega arith))
 
+  -- Each of them is a list of so many.
+  pub scenarios-length : {cs : List Choice} → Mem cs (scenarios fs k fixes) → length cs ≡ nodes
+  unfolding scenarios range
+  scenarios-length m = length-combination _ m
+
 -- The scenario count is the number of the precise bound's scenarios.
-pub count-scenarios : (fs : List Frame) (k : Frame) → length (preciseScenarios fs k) ≡ scenarioCount fs k
+pub count-scenarios : (fs : List Frame) (k : Frame) → length (scenarios fs k everyNode) ≡ scenarioCount fs k
 unfolding scenarios scenarioCount choices
 count-scenarios fs k = length-combinations (λ j. choices fs k true j) (range 1 nodes) ∙ simp length-map
 

@@ -14,10 +14,11 @@ use Rattle.arith.specs.laws.Sums.{le-greatest}
 use Rattle.arith.specs.laws.Releases.{count-le}
 use Rattle.bus_model.specs.Frame.{row}
 use Rattle.bus_model.specs.Valid.{ValidFrame, Valid}
-use Rattle.bus_model.specs.Release.{release, releasedBy, arrived}
+use Rattle.bus_model.specs.Release.{release}
 use Rattle.bus_model.specs.Bus.{Transmission, Finished, MeetsClaim}
 use Rattle.bus_model.specs.Bounds.{ahead, better, alignments, distance, choiceOf, work, ownNode, everyNode, windowLoad, busyWindow, delayLoad, queueingDelay, instanceResponse, scenarioResponse, boundOf, approximateBound, preciseBound}
 use Rattle.bus_model.specs.theory.Rows.{ahead-sum}
+use Rattle.bus_model.specs.theory.Arrivals.{releasedBy, arrived}
 use Rattle.bus_model.specs.theory.BusyWindow.{Window, busy-window}
 use Rattle.bus_model.specs.theory.Frames.{better-ahead, self-ahead, node-listed}
 use Rattle.bus_model.specs.theory.Alignment.{Aligned, Stands, aligned}

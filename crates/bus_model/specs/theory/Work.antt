@@ -1,23 +1,24 @@
 -- The work of a scenario: it grows with time, it is least where every node's alignment is fixed,
--- and that of the frames ahead holds that of the better ones and the frame's own.
+-- and that of the frames ahead is that of the better ones and the frame's own.
 use Prim.Native.Nat.{ℕ, _+_, _≤_, _<_}
-use mathlib.Core.Path.{_≡_, refl}
+use mathlib.Core.Path.{_≡_, refl, sym, ap, fun-ext}
 use mathlib.Core.List.{List, [], _∷_, List·Memᴰ as Mem, List·Memᴰ·head as here, List·Memᴰ·not-nil}
 use mathlib.Core.Bool.{cond}
+use mathlib.Core.Logic.{_≢_}
 use native.Mathlib.Omega.{arith}
-use native.Mathlib.Nat.{le-refl, le-trans, mul-le-mul-left}
+use native.Mathlib.Nat.{le-refl, le-of-eq, le-trans, mul-le-mul-left}
 use lib.Dec.{eqb, eqb-refl, eqb→eq}
 use lib.ListN.{length}
 use Rattle.arith.specs.Lists.{sum, greatest, range}
-use Rattle.arith.specs.laws.Tests.{cond-yes, cond-no, cond-same}
-use Rattle.arith.specs.laws.Sums.{sum-le, add-le-sum, term-le-sum, sum-keep, le-greatest, greatest-le}
+use Rattle.arith.specs.laws.Tests.{cond-yes, cond-no}
+use Rattle.arith.specs.laws.Sums.{sum-le, sum-keep, sum-at, le-greatest, greatest-le}
 use Rattle.arith.specs.laws.Releases.{count-mono}
 use Rattle.bus_model.specs.Frame.{row}
 use Rattle.bus_model.specs.Valid.{ValidFrame, Valid}
-use Rattle.bus_model.specs.Release.{phase}
-use Rattle.bus_model.specs.Bounds.{nodes, ahead, better, ofNode, alignments, orEmpty, choiceOf, demand, workAt, nodeWork, work}
+use Rattle.bus_model.specs.Pattern.{ofNode}
+use Rattle.bus_model.specs.Bounds.{nodes, ahead, better, phase, alignments, orEmpty, choiceOf, demand, workAt, nodeWork, work}
 use Rattle.bus_model.specs.theory.Rows.{ahead-sum}
-use Rattle.bus_model.specs.theory.Frames.{Part, valid-frame, of-ahead, of-node, node-part, node-listed}
+use Rattle.bus_model.specs.theory.Frames.{Part, valid-frame, of-ahead, of-node, node-part}
 use Rattle.bus_model.specs.theory.Alignment.{phase-aligned}
 use Rattle.bus_model.specs.declared.Frame.{Frame}
 use Rattle.bus_model.specs.declared.Choice.{Choice}
@@ -98,26 +99,34 @@ module _ {fs : List Frame} (valid : Valid fs) {k : ℕ} (inside : k < length fs)
   unfolding workAt
   at-sum j a n = node-sum (λ g. demand g a n) j
 
-  module _ (a n : ℕ) where
-    -- The work of the frames ahead of one node holds that of the better ones, and at the frame's own node its own.
-    node-share : (j : ℕ) (c : Choice) → (f .node ≡ j → c ≡ Fixed a)
-        → nodeWork (ofNode (better fs f) j) (alignments fs f j) c n + cond (eqb (f .node) j) (demand f a n) 0 ≤ nodeWork (ofNode (ahead fs f) j) (alignments fs f j) c n
-    unfolding nodeWork
-    node-share j (Fixed b) own =
-        let mine = cond-same (eqb (f .node) j) (demand f a n) (demand f b n) 0 (λ t. let same = own (eqb→eq (f .node) j t) in cc) in
-        omega (arith, at-sum j b n)
-    node-share j Any own =
-        let other = cond-no (eqb (f .node) j) (demand f a n) 0 (λ t. let same = own (eqb→eq (f .node) j t) in let z : _≡_ {A = ℕ} 0 1 = cc in omega arith) in
-        let more = greatest-le (alignments fs f j) (λ b m. le-trans (less b) (le-greatest (λ c. workAt (ofNode (ahead fs f) j) c n) m)) in
-        omega arith
-      where
-        less : (b : ℕ) → workAt (ofNode (better fs f) j) b n ≤ workAt (ofNode (ahead fs f) j) b n
-        less b = omega (arith, at-sum j b n)
+  -- At another node the frames ahead are the better ones.
+  other-same : (j n : ℕ) (c : Choice) → f .node ≢ j → nodeWork (ofNode (better fs f) j) (alignments fs f j) c n ≡ nodeWork (ofNode (ahead fs f) j) (alignments fs f j) c n
+  unfolding nodeWork
+  other-same j n c other = by-choice c
+    where
+      same : (a : ℕ) → workAt (ofNode (better fs f) j) a n ≡ workAt (ofNode (ahead fs f) j) a n
+      same a = omega (arith, at-sum j a n, cond-no (eqb (f .node) j) (demand f a n) 0 (λ t. other (eqb→eq (f .node) j t)))
 
-    -- So does the work of all nodes, in a scenario that fixes the frame's own.
-    pub work-share : (cs : List Choice) → choiceOf cs (f .node) ≡ Fixed a → work fs f (better fs f) cs n + demand f a n ≤ work fs f (ahead fs f) cs n
+      by-choice : (c : Choice) → nodeWork (ofNode (better fs f) j) (alignments fs f j) c n ≡ nodeWork (ofNode (ahead fs f) j) (alignments fs f j) c n
+      by-choice (Fixed a) = same a
+      by-choice Any = ap (λ (h : ℕ → ℕ). greatest h (alignments fs f j)) (fun-ext same)
+
+  module _ (a n : ℕ) where
+    -- At the frame's own node they are these and the frame itself.
+    own-more : nodeWork (ofNode (better fs f) (f .node)) (alignments fs f (f .node)) (Fixed a) n + demand f a n
+        ≡ nodeWork (ofNode (ahead fs f) (f .node)) (alignments fs f (f .node)) (Fixed a) n
+    unfolding nodeWork
+    own-more = omega (arith, at-sum (f .node) a n, cond-yes (eqb (f .node) (f .node)) (demand f a n) 0 (eqb-refl (f .node)))
+
+    -- So the work of the frames ahead is that of the better ones and the frame's own, in a scenario that fixes its node.
+    pub work-own : (cs : List Choice) → choiceOf cs (f .node) ≡ Fixed a → work fs f (better fs f) cs n + demand f a n ≡ work fs f (ahead fs f) cs n
     unfolding work
-    work-share cs own =
-        let at : ℕ → ℕ = λ j. cond (eqb (f .node) j) (demand f a n) 0 in
-        let mine = rw (cond-yes (eqb (f .node) (f .node)) (demand f a n) 0 (eqb-refl (f .node))) at (term-le-sum at (node-listed (valid .frame k inside))) in
-        omega (arith, add-le-sum _ at (range 1 nodes) (λ j m. node-share j (choiceOf cs j) (λ e. rw e at own)))
+    work-own cs own =
+        let v = valid .frame k inside in
+        let of : List Frame → ℕ → ℕ = λ gs j. nodeWork (ofNode gs j) (alignments fs f j) (choiceOf cs j) n in
+        let mine : of (better fs f) (f .node) + demand f a n ≡ of (ahead fs f) (f .node) = rw own own-more in
+        let least = sum-at (of (better fs f)) (of (ahead fs f)) (demand f a n) 0 1 nodes (f .node) (v .node-low) (omega (arith, v .node-high))
+        (λ j low high ne. le-of-eq (other-same j n (choiceOf cs j) (λ e. ne (sym e)))) (omega arith) in
+        let most = sum-at (of (ahead fs f)) (of (better fs f)) 0 (demand f a n) 1 nodes (f .node) (v .node-low) (omega (arith, v .node-high))
+        (λ j low high ne. le-of-eq (sym (other-same j n (choiceOf cs j) (λ e. ne (sym e))))) (omega arith) in
+        omega arith

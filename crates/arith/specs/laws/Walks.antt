@@ -1,0 +1,165 @@
+-- Loops that go once through a list, rising: through a range, or through those numbers of it that pass a test, found one
+-- after the other by a least search. `join done (F rest)` is what the loop is to find, where `done` is what it has gathered
+-- and `rest` is what is left: sums, products, greatest values, counts and tests are each an F and a join.
+use Prim.Native.Nat.{ℕ, zero, suc, _+_, _-_, _*_, _≤_, _<_, min, max}
+use mathlib.Core.Path.{_≡_, refl, sym, _∙_}
+use mathlib.Core.List.{List, [], _∷_}
+use mathlib.Core.Bool.{Bool, true, false, cond, _||_}
+use native.Mathlib.Nat.{sub-zero, mul-assoc, mul-zero, mul-suc}
+use native.Mathlib.Numerals.{add-one}
+use native.Mathlib.Decide.{decLe}
+use native.Mathlib.Omega.{arith}
+use lib.Dec.{T}
+use lib.ListN.{length}
+use Rattle.arith.specs.Lists.{sum, product, greatest, keep, exists, range}
+use Rattle.arith.specs.Least.{least}
+use Rattle.arith.specs.laws.Least.{least-within}
+use Rattle.arith.specs.declared.Found.{Found}
+use Rattle.arith.specs.declared.Found.the-variants.{At, Nothing}
+
+-- ---- one element more: how a loop's body carries it from what is left to what is done
+
+-- Of a product, only what is at most m counts: a factor may be cut at m.
+cut-mul : (m x y : ℕ) → min m (min m x * y) ≡ min m (x * y)
+cut-mul m x zero = rw (mul-zero (min m x), mul-zero x)
+cut-mul m x (suc y) =
+    elim (decLe m x) [
+      | yes over ↦ let cut : min m x ≡ m = omega arith in rw cut (omega (arith, mul-suc m y, mul-suc x y))
+      | no under ↦ let kept : min m x ≡ x = omega arith in rw kept
+    ]
+
+module _ {X : Type 0} where
+  -- a sum
+  pub sum-more : (f : X → ℕ) (done : ℕ) (a : X) {next : ℕ} → next ≡ done + f a → (xs : List X) → done + sum f (a ∷ xs) ≡ next + sum f xs
+  unfolding sum
+  sum-more f done a e xs = omega arith
+
+  -- a greatest value
+  pub greatest-more : (f : X → ℕ) (done : ℕ) (a : X) {next : ℕ} → next ≡ max done (f a) → (xs : List X) → max done (greatest f (a ∷ xs)) ≡ max next (greatest f xs)
+  unfolding greatest
+  greatest-more f done a e xs = omega arith
+
+  -- a count
+  pub length-more : (done : ℕ) (a : X) (xs : List X) → done + length (a ∷ xs) ≡ done + 1 + length xs
+  length-more done a xs = omega arith
+
+  -- a product of which only what is at most m counts: it may be cut at m
+  pub product-more : (f : X → ℕ) (m done : ℕ) (a : X) {next : ℕ} → next ≡ min m (done * f a) → (xs : List X)
+      → min m (done * product f (a ∷ xs)) ≡ min m (next * product f xs)
+  unfolding product
+  product-more f m done a e xs = rw (e, cut-mul m (done * f a) (product f xs), mul-assoc done (f a) (product f xs))
+
+  -- a test that fails
+  pub exists-more : (q : X → Bool) (a : X) → ¬ T (q a) → (xs : List X) → exists q (a ∷ xs) ≡ exists q xs
+  unfolding exists
+  exists-more q a f xs = go (q a) f
+    where
+      go : (b : Bool) → ¬ T b → (b || exists q xs) ≡ exists q xs
+      go true g = absurd (g tt)
+      go false g = refl
+
+  -- a test that passes, where the loop may stop
+  pub exists-here : (q : X → Bool) (a : X) → T (q a) → (xs : List X) → exists q (a ∷ xs) ≡ true
+  unfolding exists
+  exists-here q a t xs = go (q a) t
+    where
+      go : (b : Bool) → T b → (b || exists q xs) ≡ true
+      go true u = refl
+      go false u = absurd u
+
+-- ---- through a range
+
+pub record CountUp {A B : Type 0} (F : List ℕ → B) (join : A → B → B) (e : ℕ) (goal : B) (done : A) (n : ℕ) : Type 0 where
+  pub inside : n ≤ e
+  pub is : join done (F (range n (e - n))) ≡ goal
+
+module _ {A B : Type 0} (F : List ℕ → B) (join : A → B → B) (e : ℕ) (goal : B) where
+  -- It starts at 0.
+  pub count-start : {done : A} → join done (F (range 0 e)) ≡ goal → CountUp F join e goal done 0
+  count-start g = record { inside = omega arith; is = rw sub-zero g }
+
+  -- It goes on to the next number.
+  pub count-more : {done next : A} {n : ℕ} → CountUp F join e goal done n → n < e → ((xs : List ℕ) → join done (F (n ∷ xs)) ≡ join next (F xs))
+      → CountUp F join e goal next (n + 1)
+  unfolding range
+  count-more {n = n} c less step =
+      let left : e - n ≡ suc (e - suc n) = omega arith in
+      record { inside = omega arith; is = rw add-one (sym (step _) ∙ (rw left at (c .is))) }
+
+  -- It ends at e.
+  pub count-end : {done : A} {n : ℕ} → CountUp F join e goal done n → e ≤ n → join done (F []) ≡ goal
+  unfolding range
+  count-end {n = n} c over = let left : e - n ≡ 0 = omega arith in rw left at (c .is)
+
+-- ---- through the numbers that pass
+
+module _ (p : ℕ → Bool) where
+  kept-at : (k n b : ℕ) → least p k n ≡ At b → keep p (range n k) ≡ b ∷ keep p (range (suc b) (n + k - suc b))
+  unfolding least keep range
+  kept-at zero n b q = let z : _≡_ {A = ℕ} 0 1 = cc in absurd (omega arith)
+  kept-at (suc k) n b q = go (p n) (kept-at k (suc n) b) q
+    where
+      go : (c : Bool) → (least p k (suc n) ≡ At b → keep p (range (suc n) k) ≡ b ∷ keep p (range (suc b) (suc n + k - suc b)))
+          → elim c as (λ (d : Bool). Found) [ true ↦ At n | false ↦ least p k (suc n) ] ≡ At b
+          → cond c (n ∷ keep p (range (suc n) k)) (keep p (range (suc n) k)) ≡ b ∷ keep p (range (suc b) (n + suc k - suc b))
+      go true later r = let same : n ≡ b = cc in let rest : b + suc k - suc b ≡ k = omega arith in rw same (rw rest)
+      go false later r = let next : suc n + k ≡ n + suc k = omega arith in rw next at (later r)
+
+  kept-none : (k n : ℕ) → least p k n ≡ Nothing → keep p (range n k) ≡ []
+  unfolding least keep range
+  kept-none zero n q = refl
+  kept-none (suc k) n q = go (p n) (kept-none k (suc n)) q
+    where
+      go : (c : Bool) → (least p k (suc n) ≡ Nothing → keep p (range (suc n) k) ≡ [])
+          → elim c as (λ (d : Bool). Found) [ true ↦ At n | false ↦ least p k (suc n) ] ≡ Nothing
+          → cond c (n ∷ keep p (range (suc n) k)) (keep p (range (suc n) k)) ≡ []
+      go true later r = let z : _≡_ {A = ℕ} 0 1 = cc in absurd (omega arith)
+      go false later r = later r
+
+  -- Of the numbers n .. e - 1 that pass, the first is the one that the search finds, and the others come after it.
+  pub keep-next : (e n b : ℕ) → least p (e - n) n ≡ At b → keep p (range n (e - n)) ≡ b ∷ keep p (range (suc b) (e - suc b))
+  keep-next e n b found =
+      let (low, high, t) = least-within p e found in
+      let end : n + (e - n) ≡ e = omega arith in
+      rw end at (kept-at (e - n) n b found)
+
+  -- There are none where it finds none.
+  pub keep-end : (e n : ℕ) → least p (e - n) n ≡ Nothing → keep p (range n (e - n)) ≡ []
+  keep-end e n none = kept-none (e - n) n none
+
+-- The walk stands at a, the first of what is left.
+pub record Walk {A B : Type 0} (F : List ℕ → B) (join : A → B → B) (p : ℕ → Bool) (e : ℕ) (goal : B) (done : A) (a : ℕ) : Type 0 where
+  pub inside : a < e
+  pub is : join done (F (a ∷ keep p (range (suc a) (e - suc a)))) ≡ goal
+
+module _ {A B : Type 0} (F : List ℕ → B) (join : A → B → B) (p : ℕ → Bool) (e : ℕ) (goal : B) where
+  -- It starts at the first of a list whose others pass and come after it:
+  pub walk-start : {done : A} {a : ℕ} (xs : List ℕ) → a < e → xs ≡ a ∷ keep p (range (suc a) (e - suc a)) → join done (F xs) ≡ goal
+      → Walk F join p e goal done a
+  walk-start xs inside first g = record { inside = inside; is = rw first at g }
+
+  -- at the first number that passes. Where there is none, nothing is left.
+  pub walk-first : {done : A} {a : ℕ} → least p (e - 0) 0 ≡ At a → join done (F (keep p (range 0 e))) ≡ goal → Walk F join p e goal done a
+  walk-first {a = a} found g = let (low, high, t) = least-within p e found in walk-start (keep p (range 0 e)) high (rw sub-zero at (keep-next p e 0 a found)) g
+
+  pub walk-none : {done : A} → least p (e - 0) 0 ≡ Nothing → join done (F (keep p (range 0 e))) ≡ goal → join done (F []) ≡ goal
+  walk-none none g = let empty : keep p (range 0 e) ≡ [] = rw sub-zero at (keep-end p e 0 none) in rw empty at g
+
+  -- It goes on to the next number that passes.
+  pub walk-more : {done next : A} {a b : ℕ} → Walk F join p e goal done a → ((xs : List ℕ) → join done (F (a ∷ xs)) ≡ join next (F xs))
+      → least p (e - (a + 1)) (a + 1) ≡ At b → Walk F join p e goal next b
+  walk-more {a = a} {b} w step found =
+      let after : least p (e - suc a) (suc a) ≡ At b = rw add-one at found in
+      let (low, high, t) = least-within p e after in
+      record { inside = high; is = rw (keep-next p e (suc a) b after) at (sym (step _) ∙ w .is) }
+
+  -- That is nearer to e.
+  pub walk-less : {done : A} {a b : ℕ} → Walk F join p e goal done a → least p (e - (a + 1)) (a + 1) ≡ At b → e - b < e - a
+  walk-less w found = let (low, high, t) = least-within p e found in omega arith
+
+  -- It ends where no more passes.
+  pub walk-end : {done next : A} {a : ℕ} → Walk F join p e goal done a → ((xs : List ℕ) → join done (F (a ∷ xs)) ≡ join next (F xs))
+      → least p (e - (a + 1)) (a + 1) ≡ Nothing → join next (F []) ≡ goal
+  walk-end {a = a} w step none =
+      let over : least p (e - suc a) (suc a) ≡ Nothing = rw add-one at none in
+      rw (keep-end p e (suc a) over) at (sym (step _) ∙ w .is)

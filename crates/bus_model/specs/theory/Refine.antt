@@ -1,0 +1,390 @@
+-- The bounds found node by node: one node after the other takes each of its alignments, and the greatest response counts.
+-- A branch may be left out where its scenario with the open nodes at `Any` has no greater response than one already found.
+use Prim.Native.Nat.{ℕ, zero, suc, _+_, _-_, _≤_, _<_}
+use mathlib.Core.Path.{_≡_, refl, sym, ap, _∙_}
+use mathlib.Core.List.{List, [], _∷_, map, List·Memᴰ as Mem, List·Memᴰ·head as here, List·Memᴰ·tail as there, List·Memᴰ·not-nil, List·Memᴰ·cases-cons, List·Memᴰ·eq-of-singleton, Memᴰ·map}
+use mathlib.Core.Bool.{Bool, true, false, cond}
+use mathlib.Core.Logic.{_≢_, _↔_, _⊎_, inl, inr}
+use native.Mathlib.Omega.{arith}
+use native.Mathlib.Nat.{le-trans}
+use native.Mathlib.Numerals.{add-one}
+use native.Mathlib.Decide.{ℕ-discrete, decLt}
+use borrow.Author.Tests.{lt-ltb, le-ltb}
+use lib.Dec.{T, ltb, eqb, eqb-refl, eqb→eq}
+use lib.ListN.{length, set, replicate, length-set, getD-replicate}
+use lib.Seq.{getD-set-same, getD-set-other, ext-getD}
+use Rattle.arith.specs.Lists.{greatest, exists, range}
+use Rattle.arith.specs.laws.Members.{exists-mem, of-exists, mem-range, of-range, of-map}
+use Rattle.arith.specs.laws.Sums.{le-greatest, greatest-le}
+use Rattle.bus_model.specs.Frame.{row}
+use Rattle.bus_model.specs.Valid.{ValidFrame, Valid}
+use Rattle.bus_model.specs.Bounds.{nodes, alignments, orEmpty, choiceOf, choices, scenarios, ownNode, everyNode, busyWindow, scenarioResponse, boundOf, preciseBound, approximateBound}
+use Rattle.bus_model.specs.theory.Frames.{node-listed}
+use Rattle.bus_model.specs.theory.Work.{Allows, RefinedBy}
+use Rattle.bus_model.specs.theory.Response.{response-refine}
+use Rattle.bus_model.specs.theory.Scenarios.{scenario-is, mem-scenarios, of-scenarios, scenarios-length, fixed-choice, allows-self}
+use Rattle.arith.specs.declared.Found.the-variants.{At}
+use Rattle.bus_model.specs.declared.Frame.{Frame}
+use Rattle.bus_model.specs.declared.Choice.{Choice}
+use Rattle.bus_model.specs.declared.Choice.the-variants.{Fixed, Any}
+
+-- ---- node by node
+
+-- the greatest response where the nodes js take each of their alignments, one after the other, and the others stand as in cs
+unfoldable pub refined : List Frame → Frame → List ℕ → List Choice → ℕ
+refined fs k [] cs = scenarioResponse fs k cs
+refined fs k (j ∷ js) cs = greatest (λ a. refined fs k js (set cs (j - 1) (Fixed a))) (orEmpty (alignments fs k j))
+
+-- no node is fixed
+abbrev pub free : List Choice
+free = replicate nodes Any
+
+-- ---- one node is fixed
+
+module _ (cs : List Choice) {j : ℕ} (listed : Mem j (range 1 nodes)) where
+  -- It has that alignment.
+  set-same : (a : ℕ) → length cs ≡ nodes → choiceOf (set cs (j - 1) (Fixed a)) j ≡ Fixed a
+  set-same a long = let (low, high) = of-range 1 nodes listed in getD-set-same cs (j - 1) (Fixed a) Any (omega arith)
+
+  -- The others stand as before.
+  set-other : (a : ℕ) {i : ℕ} → Mem i (range 1 nodes) → i ≢ j → choiceOf (set cs (j - 1) (Fixed a)) i ≡ choiceOf cs i
+  set-other a {i} m other =
+      let (low, high) = of-range 1 nodes listed in
+      let (i-low, i-high) = of-range 1 nodes m in
+      getD-set-other cs (j - 1) (i - 1) (Fixed a) Any (λ e. other (omega arith))
+
+module _ (fs : List Frame) (k : Frame) where
+  -- ---- the scenarios at the end
+
+  -- cs′ is cs with one alignment after the other for the nodes js
+  unfoldable Leaf : List ℕ → List Choice → List Choice → Type 0
+  Leaf [] cs cs′ = cs′ ≡ cs
+  Leaf (j ∷ js) cs cs′ = (a : ℕ) × Mem a (orEmpty (alignments fs k j)) × Leaf js (set cs (j - 1) (Fixed a)) cs′
+
+  -- Each of them counts.
+  leaf-le : (js : List ℕ) (cs cs′ : List Choice) → Leaf js cs cs′ → scenarioResponse fs k cs′ ≤ refined fs k js cs
+  unfolding Leaf refined
+  leaf-le [] cs cs′ e = rw e (omega arith)
+  leaf-le (j ∷ js) cs cs′ (a, m, l) = le-trans (leaf-le js (set cs (j - 1) (Fixed a)) cs′ l) (le-greatest (λ b. refined fs k js (set cs (j - 1) (Fixed b))) m)
+
+  -- Nothing else does.
+  refined-le : (js : List ℕ) (cs : List Choice) {n : ℕ} → ((cs′ : List Choice) → Leaf js cs cs′ → scenarioResponse fs k cs′ ≤ n) → refined fs k js cs ≤ n
+  unfolding Leaf refined
+  refined-le [] cs le = le cs refl
+  refined-le (j ∷ js) cs le = greatest-le _ (λ a m. refined-le js (set cs (j - 1) (Fixed a)) (λ cs′ l. le cs′ (a, m, l)))
+
+  -- What one alignment after the other keeps holds at the end.
+  leaf-keeps : (P : List ℕ → List Choice → Type 0)
+      → ((j : ℕ) (js : List ℕ) (cs : List Choice) (a : ℕ) → Mem a (orEmpty (alignments fs k j)) → P (j ∷ js) cs → P js (set cs (j - 1) (Fixed a)))
+      → (js : List ℕ) {cs cs′ : List Choice} → P js cs → Leaf js cs cs′ → P [] cs′
+  unfolding Leaf
+  leaf-keeps P step [] holds e = rw e holds
+  leaf-keeps P step (j ∷ js) {cs} holds (a, m, l) = leaf-keeps P step js (step j js cs a m holds) l
+
+-- ---- they are the scenarios of a bound
+
+-- js lists the nodes that `fixes` names
+pub record Names (fixes : ℕ → Bool) (js : List ℕ) : Type 0 where
+  pub node : (j : ℕ) → Mem j js → Mem j (range 1 nodes)
+  pub named : (j : ℕ) → Mem j js → T (fixes j)
+  pub all : (j : ℕ) → Mem j (range 1 nodes) → T (fixes j) → Mem j js
+
+-- Any nodes are those that a search for them names.
+pub listed-named : (js : List ℕ) → ((j : ℕ) → Mem j js → Mem j (range 1 nodes)) → Names (λ j. exists (eqb j) js) js
+listed-named js node =
+    record {
+      node = node;
+      named = λ j m. exists-mem (eqb j) m (eqb-refl j);
+      all = λ j l t. let (i, m, u) = of-exists (eqb j) js t in rw (eqb→eq j i u) m;
+    }
+
+module _ (fs : List Frame) (k : Frame) (fixes : ℕ → Bool) where
+  -- the choices of cs are those of a scenario, but for the nodes js, which are still to take theirs
+  record Partly (js : List ℕ) (cs : List Choice) : Type 0 where
+    long : length cs ≡ nodes
+    node : (j : ℕ) → Mem j js → Mem j (range 1 nodes)
+    named : (j : ℕ) → Mem j js → T (fixes j)
+    rest : (i : ℕ) → Mem i (range 1 nodes) → Mem i js ⊎ Mem (choiceOf cs i) (choices fs k (fixes i) i)
+
+  -- one more node takes its alignment
+  partly-more : (j : ℕ) (js : List ℕ) (cs : List Choice) (a : ℕ) → Mem a (orEmpty (alignments fs k j)) → Partly (j ∷ js) cs → Partly js (set cs (j - 1) (Fixed a))
+  unfolding choices
+  partly-more j js cs a m p =
+      record {
+        long = length-set cs (j - 1) (Fixed a) ∙ p .long;
+        node = λ i l. p .node i (there l);
+        named = λ i l. p .named i (there l);
+        rest = λ i l. elim (ℕ-discrete i j) [
+          | yes e ↦ inr (rw (e, set-same cs (p .node j (here refl)) a (p .long)) (taken (fixes j) (p .named j (here refl))))
+          | no other ↦ elim (p .rest i l) [
+            | inl later ↦ elim (List·Memᴰ·cases-cons later) [ inl e ↦ absurd (other e) | inr n ↦ inl n ]
+            | inr now ↦ inr (rw (set-other cs (p .node j (here refl)) a l other) now)
+          ]
+        ];
+      }
+    where
+      taken : (b : Bool) → T b → Mem (Fixed a) (choices fs k b j)
+      taken true t = Memᴰ·map Fixed m
+      taken false t = absurd t
+
+  -- Where two lists of choices agree but for the nodes js, and the second fixes these, the first becomes the second.
+  becomes : (js : List ℕ) (cs cs′ : List Choice) → length cs ≡ nodes → length cs′ ≡ nodes → ((j : ℕ) → Mem j js → Mem j (range 1 nodes))
+      → ((j : ℕ) → Mem j js → (a : ℕ) × Mem a (orEmpty (alignments fs k j)) × (choiceOf cs′ j ≡ Fixed a))
+      → ((i : ℕ) → Mem i (range 1 nodes) → ¬ Mem i js → choiceOf cs i ≡ choiceOf cs′ i) → Leaf fs k js cs cs′
+  unfolding Leaf
+  becomes [] cs cs′ long long′ node takes agree =
+      ext-getD Any cs′ cs (long′ ∙ sym long) (λ i inside.
+      let place : suc i - 1 ≡ i = omega arith in
+      rw place at (sym (agree (suc i) (mem-range 1 nodes (suc i) (omega arith) (omega arith)) List·Memᴰ·not-nil)))
+  becomes (j ∷ js) cs cs′ long long′ node takes agree =
+      let (a, m, e) = takes j (here refl) in (
+        a,
+        m,
+        becomes js (set cs (j - 1) (Fixed a)) cs′ (length-set cs (j - 1) (Fixed a) ∙ long) long′ (λ i l. node i (there l)) (λ i l. takes i (there l)) (λ i l later.
+            elim (ℕ-discrete i j) [
+              | yes same ↦ rw (same, set-same cs (node j (here refl)) a long) (sym e)
+              | no other ↦ set-other cs (node j (here refl)) a l other ∙ agree i l (λ n. elim (List·Memᴰ·cases-cons n) [ inl now ↦ other now | inr later-on ↦ later later-on ])
+            ]),
+      )
+
+  module _ (js : List ℕ) (names : Names fixes js) where
+    -- no node has taken one yet
+    partly-none : Partly js free
+    unfolding choices
+    partly-none = record { long = refl; node = names .node; named = names .named; rest = λ i l. go i l (fixes i) refl }
+      where
+        go : (i : ℕ) → Mem i (range 1 nodes) → (b : Bool) → fixes i ≡ b → Mem i js ⊎ Mem (choiceOf free i) (choices fs k b i)
+        go i l true e = inl (names .all i l (rw e tt))
+        go i l false e = let (low, high) = of-range 1 nodes l in inr (here (getD-replicate nodes (i - 1) Any Any (omega arith)))
+
+    -- so all have in the end
+    leaf-listed : {cs : List Choice} → Leaf fs k js free cs → Mem cs (scenarios fs k fixes)
+    leaf-listed {cs} leaf =
+        let whole = leaf-keeps fs k Partly partly-more js partly-none leaf in
+        rw (scenario-is cs (whole .long)) at (mem-scenarios fs k fixes (choiceOf cs) (λ i l. elim (whole .rest i l) [ inl m ↦ absurd (List·Memᴰ·not-nil m) | inr m ↦ m ]))
+
+    -- every scenario is one of those at the end
+    listed-leaf : {cs : List Choice} → Mem cs (scenarios fs k fixes) → Leaf fs k js free cs
+    unfolding choices
+    listed-leaf {cs} m =
+        becomes js free cs refl (scenarios-length fs k fixes m) (names .node)
+        (λ j l. fixed-choice fs k j (fixes j) (names .named j l) (of-scenarios fs k fixes m j (names .node j l)))
+        (λ i l none. go i l none (fixes i) refl (of-scenarios fs k fixes m i l))
+      where
+        go : (i : ℕ) → Mem i (range 1 nodes) → ¬ Mem i js → (b : Bool) → fixes i ≡ b → Mem (choiceOf cs i) (choices fs k b i) → choiceOf free i ≡ choiceOf cs i
+        go i l none true e n = absurd (none (names .all i l (rw e tt)))
+        go i l none false e n = let (low, high) = of-range 1 nodes l in getD-replicate nodes (i - 1) Any Any (omega arith) ∙ sym (List·Memᴰ·eq-of-singleton n)
+
+    -- Node by node the bound is found.
+    pub refined-bound : refined fs k js free ≡ boundOf fs k fixes
+    unfolding boundOf
+    refined-bound =
+        let most = refined-le fs k js free (λ cs leaf. le-greatest (scenarioResponse fs k) (leaf-listed leaf)) in
+        let least = greatest-le (scenarios fs k fixes) (λ cs m. leaf-le fs k js free cs (listed-leaf m)) in
+        omega arith
+
+-- ---- the order in which nodes are fixed
+
+-- the node of level i: k's own, then the others, rising
+unfoldable pub nodeAt : Frame → ℕ → ℕ
+nodeAt k zero = k .node
+nodeAt k (suc i) = cond (ltb (suc i) (k .node)) (suc i) (suc (suc i))
+
+-- those of the levels i .. stop - 1
+unfoldable pub levels : Frame → ℕ → ℕ → List ℕ
+levels k i stop = map (nodeAt k) (range i (stop - i))
+
+module _ (k : Frame) where
+  -- What the levels list is the node of one of them.
+  of-levels : (i stop : ℕ) {j : ℕ} → Mem j (levels k i stop) → (m : ℕ) × (i ≤ m) × (m < stop) × (j ≡ nodeAt k m)
+  unfolding levels
+  of-levels i stop l =
+      let (m, r, e) = of-map (nodeAt k) (range i (stop - i)) l in
+      let (low, high) = of-range i (stop - i) r in
+      (m, low, omega arith, e)
+
+  -- The first has k's own.
+  pub node-first : nodeAt k 0 ≡ k .node
+  unfolding nodeAt
+  node-first = refl
+
+  -- Up to k's own a level has the node of its number.
+  pub node-before : (i : ℕ) → 0 < i → i < k .node → nodeAt k i ≡ i
+  unfolding nodeAt
+  node-before zero some less = absurd (omega arith)
+  node-before (suc i) some less = rw (lt-ltb (suc i) (k .node) less)
+
+  -- From there on it has the next.
+  pub node-after : (i : ℕ) → 0 < i → k .node ≤ i → nodeAt k i ≡ i + 1
+  unfolding nodeAt
+  node-after zero some le = absurd (omega arith)
+  node-after (suc i) some le = rw (le-ltb (suc i) (k .node) le) (omega arith)
+
+  -- Two levels have two nodes.
+  node-apart : (i m : ℕ) → i < m → nodeAt k i ≢ nodeAt k m
+  node-apart zero m less e =
+      elim (decLt m (k .node)) [
+        | yes low ↦ omega (arith, node-first, node-before m less low)
+        | no high ↦ omega (arith, node-first, node-after m less (omega arith))
+      ]
+  node-apart (suc i) m less e =
+      elim (decLt m (k .node)) [
+        | yes low ↦ omega (arith, node-before (suc i) (omega arith) (omega arith), node-before m (omega arith) low)
+        | no high ↦ elim (decLt (suc i) (k .node)) [
+          | yes low ↦ omega (arith, node-before (suc i) (omega arith) low, node-after m (omega arith) (omega arith))
+          | no both ↦ omega (arith, node-after (suc i) (omega arith) (omega arith), node-after m (omega arith) (omega arith))
+        ]
+      ]
+
+  module _ (valid : ValidFrame k) where
+    -- A level's node is one of the nodes.
+    pub level-node : (i : ℕ) → i < nodes → Mem (nodeAt k i) (range 1 nodes)
+    level-node zero inside = rw node-first (node-listed valid)
+    level-node (suc i) inside =
+        elim (decLt (suc i) (k .node)) [
+          | yes low ↦ rw (node-before (suc i) (omega arith) low) (mem-range 1 nodes (suc i) (omega arith) (omega arith))
+          | no high ↦ rw (node-after (suc i) (omega arith) (omega arith)) (mem-range 1 nodes (suc i + 1) (omega arith) (omega arith))
+        ]
+
+    -- Every node has a level.
+    node-level : (j : ℕ) → Mem j (range 1 nodes) → (i : ℕ) × (i < nodes) × (j ≡ nodeAt k i)
+    node-level j m =
+        let (low, high) = of-range 1 nodes m in
+        elim (decLt j (k .node)) [
+          | yes less ↦ (j, omega (arith, valid .node-high), sym (node-before j low less))
+          | no more ↦ elim (decLt (k .node) j) [
+            | yes after ↦ (j - 1, omega arith, omega (arith, node-after (j - 1) (omega (arith, valid .node-low)) (omega arith)))
+            | no same ↦ (0, omega arith, omega (arith, node-first))
+          ]
+        ]
+
+    -- The first level names k's own node.
+    own-named : Names (ownNode k) (levels k 0 1)
+    unfolding levels nodeAt range
+    own-named =
+        record {
+          node = λ j m. rw (List·Memᴰ·eq-of-singleton m) (node-listed valid);
+          named = λ j m. rw (List·Memᴰ·eq-of-singleton m) (eqb-refl (k .node));
+          all = λ j l t. here (eqb→eq j (k .node) t);
+        }
+
+    -- All levels together name every node.
+    every-named : Names everyNode (levels k 0 nodes)
+    unfolding levels
+    every-named =
+        record {
+          node = λ j l. let (i, low, high, e) = of-levels 0 nodes l in rw e (level-node i high);
+          named = λ j m. tt;
+          all = λ j l t. let (i, inside, e) = node-level j l in rw e (Memᴰ·map (nodeAt k) (mem-range 0 nodes i (omega arith) (omega arith)));
+        }
+
+module _ (fs : List Frame) {k : Frame} (valid : ValidFrame k) where
+  -- The approximate bound is found at the first level.
+  pub approximate-refined : refined fs k (levels k 0 1) free ≡ approximateBound fs k
+  approximate-refined = refined-bound fs k (ownNode k) (levels k 0 1) (own-named k valid)
+
+  -- Its scenarios are those in which the own node has one of its alignments and no other is fixed.
+  pub own-scenarios : {cs : List Choice} → Mem cs (scenarios fs k (ownNode k)) ↔ ((a : ℕ) × Mem a (orEmpty (alignments fs k (k .node))) × (cs ≡ set free (k .node - 1) (Fixed a)))
+  unfolding Leaf levels nodeAt range
+  own-scenarios =
+      (λ m. listed-leaf fs k (ownNode k) (levels k 0 1) (own-named k valid) m, λ l. leaf-listed fs k (ownNode k) (levels k 0 1) (own-named k valid) l)
+
+  -- The precise bound is found at the last.
+  pub precise-refined : refined fs k (levels k 0 nodes) free ≡ preciseBound fs k
+  precise-refined = refined-bound fs k everyNode (levels k 0 nodes) (every-named k valid)
+
+module _ (fs : List Frame) (k : Frame) (cs : List Choice) where
+  -- Where no level is left, the scenario's response counts.
+  pub refined-end : (i stop : ℕ) → stop ≤ i → refined fs k (levels k i stop) cs ≡ scenarioResponse fs k cs
+  unfolding refined levels range
+  refined-end i stop over = let none : stop - i ≡ 0 = omega arith in rw none
+
+  -- Where one is, its node takes each of its alignments.
+  pub refined-step : (i stop : ℕ) → i < stop
+      → refined fs k (levels k i stop) cs ≡ greatest (λ a. refined fs k (levels k (i + 1) stop) (set cs (nodeAt k i - 1) (Fixed a))) (orEmpty (alignments fs k (nodeAt k i)))
+  unfolding refined levels range
+  refined-step i stop inside = let some : stop - i ≡ suc (stop - suc i) = omega arith in rw some (rw add-one)
+
+-- The choices of a search that has come to level i: the nodes of the levels from i on are open, k's own is fixed before.
+pub record Level (k : Frame) (i : ℕ) (cs : List Choice) : Type 0 where
+  pub long : length cs ≡ nodes
+  pub left : (m : ℕ) → i ≤ m → m < nodes → choiceOf cs (nodeAt k m) ≡ Any
+  pub own : 0 < i → (a : ℕ) × (choiceOf cs (k .node) ≡ Fixed a)
+
+module _ {k : Frame} (valid : ValidFrame k) where
+  -- It starts with no node fixed.
+  pub level-start : Level k 0 free
+  level-start =
+      record {
+        long = refl;
+        left = λ m low high. let (l, h) = of-range 1 nodes (level-node k valid m high) in getD-replicate nodes (nodeAt k m - 1) Any Any (omega arith);
+        own = λ some. absurd (omega arith);
+      }
+
+  -- It goes on by an alignment a of the level's node j.
+  pub level-more : {i : ℕ} {cs : List Choice} → Level k i cs → i < nodes → (j a : ℕ) → j ≡ nodeAt k i → Level k (i + 1) (set cs (j - 1) (Fixed a))
+  level-more {i} {cs} level inside j a e =
+      rw e (record {
+        long = length-set cs (nodeAt k i - 1) (Fixed a) ∙ level .long;
+        left = λ m low high. set-other cs (level-node k valid i inside) a (level-node k valid m high) (λ same. node-apart k i m (omega arith) (sym same)) ∙ level .left m (omega arith) high;
+        own = λ some. own i refl;
+      })
+    where
+      own : (n : ℕ) → i ≡ n → (b : ℕ) × (choiceOf (set cs (nodeAt k i - 1) (Fixed a)) (k .node) ≡ Fixed b)
+      own zero z = (a, rw (z, node-first) (set-same cs (node-listed valid) a (level .long)))
+      own (suc n) z =
+          let (b, fixed) = level .own (omega arith) in
+          (b, set-other cs (level-node k valid i inside) a (node-listed valid) (λ same. node-apart k 0 i (omega arith) (node-first k ∙ same)) ∙ fixed)
+
+-- ---- leaving out a branch
+
+-- What a fixed choice allows is that choice.
+allowed-fixed : (als : List ℕ) {a : ℕ} (c : Choice) → Allows als (Fixed a) c → c ≡ Fixed a
+unfolding Allows
+allowed-fixed als (Fixed b) e = ap Fixed (sym e)
+allowed-fixed als Any none = absurd none
+
+module _ {fs : List Frame} (valid : Valid fs) {k : ℕ} (inside : k < length fs) where
+  abbrev f : Frame
+  f = row fs k
+
+  -- cs′ refines cs, and cs leaves the nodes js open
+  record Finer (cs : List Choice) (js : List ℕ) (cs′ : List Choice) : Type 0 where
+    long : length cs′ ≡ nodes
+    node : (j : ℕ) → Mem j js → Mem j (range 1 nodes)
+    left : (j : ℕ) → Mem j js → choiceOf cs j ≡ Any
+    refines : RefinedBy fs f cs cs′
+
+  -- one more node takes its alignment
+  finer-more : (cs : List Choice) (j : ℕ) (js : List ℕ) (cs′ : List Choice) (a : ℕ) → Mem a (orEmpty (alignments fs f j)) → Finer cs (j ∷ js) cs′ → Finer cs js (set cs′ (j - 1) (Fixed a))
+  unfolding Allows
+  finer-more cs j js cs′ a m p =
+      record {
+        long = length-set cs′ (j - 1) (Fixed a) ∙ p .long;
+        node = λ i l. p .node i (there l);
+        left = λ i l. p .left i (there l);
+        refines = λ i l. elim (ℕ-discrete i j) [
+          | yes e ↦ rw (e, set-same cs′ (p .node j (here refl)) a (p .long), p .left j (here refl)) m
+          | no other ↦ rw (set-other cs′ (p .node j (here refl)) a l other) (p .refines i l)
+        ];
+      }
+
+  -- No scenario that fixes more nodes has a greater response, where the frame's own node is fixed and there is a window.
+  pub refined-below : (js : List ℕ) (cs : List Choice) → length cs ≡ nodes → ((j : ℕ) → Mem j js → Mem j (range 1 nodes)) → ((j : ℕ) → Mem j js → choiceOf cs j ≡ Any)
+      → (a : ℕ) → choiceOf cs (f .node) ≡ Fixed a → (l : ℕ) → busyWindow fs f cs ≡ At l → refined fs f js cs ≤ scenarioResponse fs f cs
+  refined-below js cs long node left a own l window =
+      refined-le fs f js cs (λ cs′ leaf.
+      let same : Finer cs js cs = record { long = long; node = node; left = left; refines = λ i m. allows-self (alignments fs f i) (choiceOf cs i) } in
+      let finer = leaf-keeps fs f (Finer cs) (finer-more cs) js same leaf in
+      let mine = allowed-fixed (alignments fs f (f .node)) (choiceOf cs′ (f .node)) (rw own at (finer .refines (f .node) (node-listed (valid .frame k inside)))) in
+      response-refine valid inside cs cs′ (finer .refines) l window a own mine)
+
+  -- So a branch may be left out at each level but the first, where its scenario has a window and no greater response than what is found.
+  pub pruned : {i : ℕ} {cs : List Choice} → Level f i cs → 0 < i → (stop : ℕ) → stop ≤ nodes → (l : ℕ) → busyWindow fs f cs ≡ At l
+      → refined fs f (levels f i stop) cs ≤ scenarioResponse fs f cs
+  pruned {i} {cs} level some stop within l window =
+      let (a, own) = level .own some in
+      refined-below (levels f i stop) cs (level .long)
+      (λ j m. let (n, low, high, e) = of-levels f i stop m in rw e (level-node f (valid .frame k inside) n (omega arith)))
+      (λ j m. let (n, low, high, e) = of-levels f i stop m in rw e (level .left n low (omega arith)))
+      a own l window
