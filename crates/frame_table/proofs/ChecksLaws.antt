@@ -1,0 +1,135 @@
+-- A node's hyperperiod and its releases, as the loops over the rows find them.
+use Prim.Native.Nat.{ℕ, zero, suc, min, _+_, _-_, _*_, _/_, _≤_, _<_}
+use mathlib.Core.Path.{_≡_, refl, sym, ap, _∙_}
+use mathlib.Core.Bool.{Bool, true, false, cond}
+use mathlib.Core.List.{List, _∷_}
+use native.Mathlib.Nat.{le-refl, add-zero, div-le-self}
+use native.Mathlib.Omega.{arith}
+use lib.Dec.{eqb}
+use lib.ListN.{length, getD}
+use borrow.Author.Tests.{lt-ltb, le-ltb}
+use Rattle.arith.specs.Lists.{sum, keep}
+use Rattle.arith.specs.Multiples.{lcm, lcmOf}
+use Rattle.arith.specs.laws.Members.{fold-keep}
+use Rattle.arith.specs.laws.Sums.{sum-keep}
+use Rattle.arith.specs.laws.Multiples.{lcm-ge-second}
+use Rattle.bus_model.specs.declared.Frame.{Frame}
+use Rattle.bus_model.specs.Pattern.{ofNode, hyperperiod, patternReleases}
+use Rattle.frame_table.specs.declared.Cause.the-variants.{Hyperperiod, Releases}
+use Rattle.frame_table.specs.declared.Checked.the-variants.{Passed}
+use Rattle.frame_table.specs.Columns.{field}
+use Rattle.frame_table.specs.Frames.{frameAt, framesOf}
+use Rattle.frame_table.specs.Refusal.{failed}
+use Rattle.frame_table.specs.Checks.{nodeCheck}
+use Rattle.frame_table.specs.Steps.{Periods}
+use Rattle.frame_table.specs.laws.Rows.{Folded, folded-none, folded-more, folded-all}
+
+-- ---- the hyperperiod
+
+-- of node j's frames among some
+abbrev pub hyperOf : ℕ → List Frame → ℕ
+hyperOf j gs = hyperperiod (ofNode gs j)
+
+-- what a frame more makes of it
+abbrev joinOf : ℕ → Frame → ℕ → ℕ
+joinOf j g h = cond (eqb (g .node) j) (lcm (g .period) h) h
+
+hyper-cons : (j : ℕ) (g : Frame) (gs : List Frame) → hyperOf j (g ∷ gs) ≡ joinOf j g (hyperOf j gs)
+unfolding ofNode
+hyper-cons j g gs = fold-keep hyperperiod (λ x. lcm (x .period)) (λ x xs. unfold hyperperiod lcmOf in refl) _ g gs
+
+join-ge : (j : ℕ) (g : Frame) (h : ℕ) → 0 < g .period → h ≤ joinOf j g h
+join-ge j g h pos = go (eqb (g .node) j)
+  where
+    go : (b : Bool) → h ≤ cond b (lcm (g .period) h) h
+    go true = lcm-ge-second (g .period) h pos
+    go false = le-refl h
+
+module _ (t : List ℕ) (j : ℕ) where
+  -- The loop starts at 1.
+  pub hyper-none : Folded (hyperOf j) t 1 (length t / 7)
+  unfolding hyperperiod lcmOf ofNode keep
+  hyper-none = folded-none (hyperOf j) t 1 refl
+
+  module _ (periods : Periods t) where
+    join-row : (i h : ℕ) → i < length t / 7 → h ≤ joinOf j (frameAt t i) h
+    unfolding frameAt Periods
+    join-row i h l = join-ge j (frameAt t i) h (periods i l .0)
+
+    -- It takes one row more, which never lowers the hyperperiod.
+    pub hyper-more : (i h r : ℕ) → Folded (hyperOf j) t h i → 0 < i
+        → r ≡ cond (eqb (getD t (7 * (i - 1)) 0) j) (lcm (field t (i - 1) 4) h) h → Folded (hyperOf j) t r (i - 1) × (h ≤ r)
+    unfolding frameAt
+    hyper-more i h r f pos e =
+        let is : r ≡ joinOf j (frameAt t (i - 1)) h = rw add-zero e in
+        (folded-more (hyperOf j) t (joinOf j) (hyper-cons j) i _ h r f pos refl is, rw is (join-row (i - 1) h (omega (arith, f .inside))))
+
+    -- So that of the rows read is at most that of all.
+    pub hyper-le : (i h : ℕ) → Folded (hyperOf j) t h i → h ≤ hyperOf j (framesOf t)
+    hyper-le zero h f = omega (arith, folded-all (hyperOf j) t h zero f (le-refl zero))
+    hyper-le (suc i) h f =
+        let s : suc i - 1 ≡ i = omega arith in
+        let next = folded-more (hyperOf j) t (joinOf j) (hyper-cons j) (suc i) _ h _ f (omega arith) refl refl in
+        omega (arith, join-row i h (f .inside), hyper-le i _ (rw s at next))
+
+-- ---- the releases in a hyperperiod of h ticks
+
+abbrev pub releasesOf : ℕ → ℕ → List Frame → ℕ
+releasesOf h j gs = sum (λ g. h / g .period) (ofNode gs j)
+
+-- of a frame
+abbrev shareOf : ℕ → ℕ → Frame → ℕ
+shareOf h j g = cond (eqb (g .node) j) (h / g .period) 0
+
+releases-cons : (h j : ℕ) (g : Frame) (gs : List Frame) → releasesOf h j (g ∷ gs) ≡ shareOf h j g + releasesOf h j gs
+unfolding ofNode sum
+releases-cons h j g gs = sum-keep _ _ (g ∷ gs) ∙ ap (λ (s : ℕ). shareOf h j g + s) (sym (sum-keep _ _ gs))
+
+share-le : (h j : ℕ) (g : Frame) → shareOf h j g ≤ h
+share-le h j g = go (eqb (g .node) j)
+  where
+    go : (b : Bool) → cond b (h / g .period) 0 ≤ h
+    go true = div-le-self h (g .period)
+    go false = omega arith
+
+module _ (t : List ℕ) (h j : ℕ) where
+  -- The loop starts at 0.
+  pub releases-none : Folded (releasesOf h j) t 0 (length t / 7)
+  unfolding sum ofNode keep
+  releases-none = folded-none (releasesOf h j) t 0 refl
+
+  -- It takes one row more, whose releases are at most h.
+  pub releases-more : (i s r : ℕ) → Folded (releasesOf h j) t s i → 0 < i
+      → r ≡ cond (eqb (getD t (7 * (i - 1)) 0) j) (h / field t (i - 1) 4) 0 → Folded (releasesOf h j) t (r + s) (i - 1) × (r ≤ h)
+  unfolding frameAt
+  releases-more i s r f pos e =
+      let is : r ≡ shareOf h j (frameAt t (i - 1)) = rw add-zero e in
+      (folded-more (releasesOf h j) t (λ g acc. shareOf h j g + acc) (releases-cons h j) i _ s _ f pos refl (ap (λ (x : ℕ). x + s) is), rw is (share-le h j (frameAt t (i - 1))))
+
+-- ---- the check of a node, by its bounded hyperperiod
+
+module _ (fs : List Frame) (j h : ℕ) (e : h ≡ min (hyperOf j fs) 1000001) where
+  -- One past its limit is refused.
+  pub node-long : 1000000 < h → failed Hyperperiod j ≡ nodeCheck fs j
+  unfolding nodeCheck
+  node-long l = let k : 1000000 < hyperOf j fs = omega arith in simp (lt-ltb _ _ k)
+
+  -- One within its limit is the hyperperiod, and the releases decide.
+  module _ (l : h ≤ 1000000) (q : ℕ) (p : q ≡ releasesOf h j fs) where
+    whole : hyperOf j fs ≡ h
+    whole = omega arith
+
+    counted : patternReleases (ofNode fs j) ≡ q
+    unfolding patternReleases
+    counted = rw whole (sym p)
+
+    short : hyperOf j fs ≤ 1000000
+    short = omega arith
+
+    pub node-many : 256 < q → failed Releases j ≡ nodeCheck fs j
+    unfolding nodeCheck
+    node-many k = simp (le-ltb _ _ short, counted, lt-ltb _ _ k)
+
+    pub node-passes : q ≤ 256 → Passed ≡ nodeCheck fs j
+    unfolding nodeCheck
+    node-passes k = simp (le-ltb _ _ short, counted, le-ltb _ _ k)

@@ -1,0 +1,44 @@
+-- `frame_table::read` meets its contract: the file's length is checked first, and then its lines.
+use mathlib.Core.Path.{refl, sym, _∙_}
+use borrow.Author.Needs.{needs}
+use Rattle.frame_table.specs.Table.{readCheck}
+use Rattle.frame_table.proofs.read.Statement.{statement}
+use Rattle.frame_table.proofs.read.Tie as tie
+
+file-size-requires : tie.Need-file-size-requires
+file-size-requires c κs = search needs
+
+enum-known-sized : tie.Need-enum-known-sized
+enum-known-sized c = search needs
+
+enum-told : tie.Need-enum-told
+enum-told c = search needs
+
+read-lines-requires : tie.Need-read-lines-requires
+read-lines-requires c κs = sym (c .before .before .before .file-size .ensures) ∙ c .before .enum-told .given .1
+
+returns : tie.Need-returns
+unfolding readCheck
+returns c = (rw (← c .before .before .before .file-size .ensures, c .before .sized .given .1), refl)
+
+same-length : tie.Need-same-length
+same-length c = search needs
+
+returns-2 : tie.Need-returns-2
+unfolding readCheck
+returns-2 c =
+    let at-told = c .before .before .before .before in
+    let lines = c .before .before .read-lines .ensures in
+    (rw (← at-told .before .before .file-size .ensures, at-told .enum-told .given .1) (lines .0), lines .1)
+
+pub read-spec : {M : Type 1} → statement M
+read-spec =
+    tie.close
+    (tie.spec
+    file-size-requires
+    enum-known-sized
+    enum-told
+    read-lines-requires
+    returns
+    same-length
+    returns-2)

@@ -1,0 +1,79 @@
+-- `frame_table::read_lines` meets its contract: the fields that are checked and stored are those of the file.
+use Prim.Native.Nat.{ℕ, _/_, _≤_}
+use mathlib.Core.Path.{_≡_}
+use mathlib.Core.List.{List}
+use native.Mathlib.Omega.{arith}
+use borrow.Author.Needs.{needs}
+use lib.ListN.{length, length-take}
+use Rattle.frame_table.specs.declared.Answer.{Answer}
+use Rattle.frame_table.specs.declared.Checked.{Checked}
+use Rattle.frame_table.specs.Checks.{tableCheck}
+use Rattle.frame_table.specs.Text.{fieldsOf}
+use Rattle.frame_table.specs.Table.{answerFor, areaAfter}
+use Rattle.frame_table.specs.laws.Limits.{storable}
+use Rattle.frame_table.specs.laws.Sizes.{file-size}
+use Rattle.frame_table.proofs.read_lines.Statement.{statement}
+use Rattle.frame_table.proofs.read_lines.Tie as tie
+
+-- what was read are the fields of the file
+stored : (read t rows l : List ℕ) (checked : Checked) (answer : Answer) → read ≡ t → checked ≡ tableCheck read
+    → (answer ≡ answerFor checked read rows) × (l ≡ areaAfter answer read rows) → (answer ≡ answerFor (tableCheck t) t rows) × (l ≡ areaAfter answer t rows)
+stored read t rows l checked answer e is both = rw (← e, ← is) both
+
+-- the fields of a file that passed fit
+few : (c : tie.Start) → length (c .args .file .now) / 43 ≤ 64
+few c = file-size _ (c .pre) .most
+
+slice-aggregate-read-fields : tie.Need-slice-aggregate-read-fields
+slice-aggregate-read-fields c = search needs
+
+read-fields-requires : tie.Need-read-fields-requires
+read-fields-requires c κs = omega (arith, few (c .before .before .before))
+
+mul-size : tie.Need-mul-size
+mul-size c = search needs
+
+array-share-prefix-fields : tie.Need-array-share-prefix-fields
+array-share-prefix-fields c = let fits = few (c .before .before .before .before .before) in search needs
+
+slice-aggregate-table : tie.Need-slice-aggregate-table
+slice-aggregate-table c = let fits = few (c .before .before .before .before .before .before) in simp length-take (omega arith)
+
+table-requires : tie.Need-table-requires
+table-requires c κs = let fits = few (c .before .before .before .before .before .before) in simp length-take (omega arith)
+
+array-share-prefix-fields-2 : tie.Need-array-share-prefix-fields-2
+array-share-prefix-fields-2 c = let fits = few (c .before .before .before .before .before .before .before) in search needs
+
+slice-aggregate-store : tie.Need-slice-aggregate-store
+slice-aggregate-store c = let fits = few (c .before .before .before .before .before .before .before .before) in simp length-take (omega arith)
+
+store-requires : tie.Need-store-requires
+store-requires c κs =
+    let fits = few (c .before .before .before .before .before .before .before .before .before) in
+    storable _ (simp length-take (omega arith)) _ (c .before .before .table .ensures)
+
+same-length : tie.Need-same-length
+same-length c = search needs
+
+returns : tie.Need-returns
+unfolding fieldsOf
+returns c =
+    let at-table = c .before .before .before .before .before in
+    stored _ _ _ _ _ _ (at-table .before .before .before .read-fields .ensures) (at-table .table .ensures) (c .before .before .store .ensures)
+
+pub read-lines-spec : {M : Type 1} → statement M
+read-lines-spec =
+    tie.close
+    (tie.spec
+    slice-aggregate-read-fields
+    read-fields-requires
+    mul-size
+    array-share-prefix-fields
+    slice-aggregate-table
+    table-requires
+    array-share-prefix-fields-2
+    slice-aggregate-store
+    store-requires
+    same-length
+    returns)

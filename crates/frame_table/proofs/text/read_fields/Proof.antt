@@ -1,0 +1,70 @@
+-- `frame_table::text::read_fields` meets its contract: after k turns the first k fields are read.
+use Prim.Native.Nat.{_-_, _*_, _≤_}
+use mathlib.Core.Path.{_≡_, refl, sym, _∙_}
+use borrow.Author.Needs.{needs}
+use lib.ListN.{length}
+use lib.Seq.{take-at}
+use Rattle.frame_table.specs.Text.{fieldsFrom}
+use Rattle.frame_table.specs.laws.Layout.{length-fields, field-at}
+use Rattle.frame_table.proofs.TextLaws.{over, over-element, over-all}
+use Rattle.frame_table.proofs.text.read_fields.Statement.{statement}
+use Rattle.frame_table.proofs.text.read_fields.Tie as tie
+
+abbrev Inv-loop : tie.InvT-loop
+Inv-loop file lines fields₀ k₀ fields k = (fields ≡ over (fieldsFrom file (7 * lines) 0) k fields₀) × (k ≤ 7 * lines) × (length fields ≡ length fields₀)
+
+abbrev μ-loop : tie.MeasureT-loop
+μ-loop file lines fields₀ k₀ fields k = 7 * lines - k
+
+loop-holds : tie.Need-loop-holds Inv-loop μ-loop
+loop-holds c = (refl, search needs, refl)
+
+mul-loop : tie.Need-mul-loop Inv-loop μ-loop
+mul-loop c = search needs
+
+field-requires : tie.Need-field-requires Inv-loop μ-loop
+field-requires c κs = search needs
+
+mul-fields : tie.Need-mul-fields Inv-loop μ-loop
+mul-fields c = search needs
+
+slice-write-fields : tie.Need-slice-write-fields Inv-loop μ-loop
+slice-write-fields c = search needs
+
+add-k : tie.Need-add-k Inv-loop μ-loop
+add-k c = search needs
+
+loop-less : tie.Need-loop-less Inv-loop μ-loop
+loop-less c = search needs
+
+loop-again : tie.Need-loop-again Inv-loop μ-loop
+loop-again c =
+    let at-loop = c .before .before in
+    let below = c .before .loop-test .taken in
+    (over-element _ _ _ _ (length-fields _ _ 0) _ _ (at-loop .loop .inv .0) below (search needs) (c .field .ensures ∙ sym (field-at _ _ _ below)), search needs, search needs)
+
+same-length : tie.Need-same-length Inv-loop μ-loop
+same-length c = search needs
+
+returns : tie.Need-returns Inv-loop μ-loop
+returns c =
+    let size = length-fields _ (7 * c .before .before .before .before .args .lines) 0 in
+    let all = over-all _ _ _ _ size _ (c .before .loop .inv .0) (c .before .loop .inv .1) (c .loop-test .left) in
+    rw all (take-at _ _ _ size)
+
+pub read-fields-spec : {M : Type 1} → statement M
+read-fields-spec =
+    tie.close
+    (tie.spec
+    Inv-loop
+    μ-loop
+    loop-holds
+    mul-loop
+    field-requires
+    mul-fields
+    slice-write-fields
+    add-k
+    loop-less
+    loop-again
+    same-length
+    returns)

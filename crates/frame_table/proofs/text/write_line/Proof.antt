@@ -1,0 +1,142 @@
+-- `frame_table::text::write_line` meets its contract: after j turns the first j columns are written, and the last store is the line feed.
+use Prim.Native.Nat.{ℕ, _+_, _-_, _≤_, _<_}
+use mathlib.Core.Path.{_≡_, refl, sym, ap, _∙_}
+use mathlib.Core.List.{List, [], _++_, append-nil}
+use native.Mathlib.Omega.{arith}
+use borrow.Author.Needs.{needs}
+use borrow.Rule.Slice.PartMut.{midOf, mid-len}
+use lib.ListN.{length, take, drop, length-set, drop-of-length-le}
+use Rattle.decimal.specs.Decimal.{writeColumn}
+use Rattle.frame_table.specs.Columns.{field, startOf, widthOf}
+use Rattle.frame_table.specs.Text.{lineOf}
+use Rattle.frame_table.specs.laws.Layout.{start-next, end-most, length-line, line-column, line-feed}
+use Rattle.frame_table.proofs.TextLaws.{column-place, over, over-part, over-element, over-all}
+use Rattle.frame_table.proofs.text.write_line.Statement.{statement}
+use Rattle.frame_table.proofs.text.write_line.Tie as tie
+
+-- the number in its column
+written : (rows line col : List ℕ) (i j v from to : ℕ) → j < 7 → from ≡ startOf j → to ≡ startOf (j + 1) → length line ≡ 43 → v ≡ field rows i j
+    → col ≡ writeColumn (length (midOf from (to - from) line)) v → col ≡ take (widthOf j) (drop (startOf j) (lineOf rows i))
+written rows line col i j v from to l p q n e is =
+    let place = column-place j from to l p q in
+    let wide : to - from ≡ widthOf j = omega (arith, place) in
+    rw (is, mid-len from to line (omega (arith, place)), wide, e) (sym (rw append-nil at (line-column rows i [] j l)))
+
+abbrev Inv-loop : tie.InvT-loop
+Inv-loop rows i line₀ j₀ line j = (line ≡ over (lineOf rows i) (startOf j) line₀) × (j ≤ 7) × (length line ≡ 43)
+
+abbrev μ-loop : tie.MeasureT-loop
+μ-loop rows i line₀ j₀ line j = 7 - j
+
+-- the column's place in the line
+place : (c : tie.After-start2 Inv-loop μ-loop) → (c .before .start .result + widthOf (c .before .before .before .loop .j) ≡ c .start2 .result) × (c .start2 .result ≤ 42)
+place c = column-place _ _ _ (c .before .before .loop-test .taken) (c .before .start .ensures) (c .start2 .ensures)
+
+loop-holds : tie.Need-loop-holds Inv-loop μ-loop
+unfolding startOf
+loop-holds c = (refl, search needs, c .before .before .pre .1)
+
+start-requires : tie.Need-start-requires Inv-loop μ-loop
+start-requires c κs = search needs
+
+add-start : tie.Need-add-start Inv-loop μ-loop
+add-start c = search needs
+
+start-requires-2 : tie.Need-start-requires-2 Inv-loop μ-loop
+start-requires-2 c κs = search needs
+
+mul-wide : tie.Need-mul-wide Inv-loop μ-loop
+mul-wide c = search needs
+
+add-wide : tie.Need-add-wide Inv-loop μ-loop
+add-wide c = search needs
+
+mul-wide-2 : tie.Need-mul-wide-2 Inv-loop μ-loop
+mul-wide-2 c = search needs
+
+shared-slice-read-wide : tie.Need-shared-slice-read-wide Inv-loop μ-loop
+shared-slice-read-wide c = search needs
+
+wide-requires : tie.Need-wide-requires Inv-loop μ-loop
+wide-requires c κs = search needs
+
+sub-write : tie.Need-sub-write Inv-loop μ-loop
+sub-write c = omega (arith, place (c .before .before))
+
+part-write-start : tie.Need-part-write-start Inv-loop μ-loop
+part-write-start c = omega (arith, place (c .before .before))
+
+part-write-end : tie.Need-part-write-end Inv-loop μ-loop
+part-write-end c = omega (arith, place (c .before .before))
+
+write-requires : tie.Need-write-requires Inv-loop μ-loop
+write-requires c κs = search needs
+
+add-j : tie.Need-add-j Inv-loop μ-loop
+add-j c = search needs
+
+loop-less : tie.Need-loop-less Inv-loop μ-loop
+loop-less c = search needs
+
+loop-again : tie.Need-loop-again Inv-loop μ-loop
+loop-again c =
+    let at-wide = c .before .before .before .before in
+    let at-start2 = at-wide .before .before in
+    let at-loop = at-start2 .before .before .before in
+    let j = at-loop .loop .j in
+    let below = at-start2 .before .before .loop-test .taken in
+    let from = at-start2 .before .start .ensures in
+    let to = at-start2 .start2 .ensures in (
+      over-part _ _ _ 43 (length-line _ _) _ (startOf j) (startOf (j + 1)) (widthOf j) _ _ (at-loop .loop .inv .0) from to (sym (start-next j below)) (omega (arith, end-most j below))
+          (written _ _ _ _ j _ _ _ below from to (at-loop .loop .inv .2) (at-wide .wide .ensures) (c .before .before .write .ensures)),
+      search needs,
+      search needs,
+    )
+
+sub-line : tie.Need-sub-line Inv-loop μ-loop
+sub-line c = search needs
+
+slice-write-line : tie.Need-slice-write-line Inv-loop μ-loop
+slice-write-line c = search needs
+
+same-length : tie.Need-same-length Inv-loop μ-loop
+same-length c = simp length-set (c .before .loop .inv .2 ∙ sym (c .before .before .before .before .pre .1))
+
+returns : tie.Need-returns Inv-loop μ-loop
+unfolding startOf
+returns c =
+    let start = c .before .before .before .before in
+    let rows : List ℕ = start .args .rows .now in
+    let line : List ℕ = start .args .line .now in
+    let i = start .args .i in
+    let z : c .before .loop .j ≡ 7 = omega (arith, c .before .loop .inv, c .loop-test .left) in
+    let fed = over-element (lineOf rows i) line _ 43 (length-line rows i) 42 10 (rw z at (c .before .loop .inv .0)) (omega arith) (omega (arith, start .pre .1)) (sym (rw append-nil at (line-feed rows i []))) in
+    over-all (lineOf rows i) line _ 43 (length-line rows i) 43 fed (omega arith) (omega arith)
+    ∙ ap (λ (x : List ℕ). lineOf rows i ++ x) (drop-of-length-le line {i = 43} (omega (arith, start .pre .1))) ∙ append-nil (lineOf rows i)
+
+pub write-line-spec : {M : Type 1} → statement M
+write-line-spec =
+    tie.close
+    (tie.spec
+    Inv-loop
+    μ-loop
+    loop-holds
+    start-requires
+    add-start
+    start-requires-2
+    mul-wide
+    add-wide
+    mul-wide-2
+    shared-slice-read-wide
+    wide-requires
+    sub-write
+    part-write-start
+    part-write-end
+    write-requires
+    add-j
+    loop-less
+    loop-again
+    sub-line
+    slice-write-line
+    same-length
+    returns)

@@ -1,0 +1,85 @@
+-- `frame_table::text::write_lines` meets its contract: after i turns the first i lines are written, and the rest is as it was.
+use Prim.Native.Nat.{_+_, _-_, _*_, _≤_}
+use mathlib.Core.Path.{_≡_, refl, sym, _∙_}
+use native.Mathlib.Omega.{arith}
+use borrow.Author.Needs.{needs}
+use lib.ListN.{length, length-take, length-drop}
+use Rattle.frame_table.specs.Text.{linesFrom}
+use Rattle.frame_table.specs.laws.Layout.{line-at, length-lines}
+use Rattle.frame_table.proofs.TextLaws.{over, over-part, over-all}
+use Rattle.frame_table.proofs.text.write_lines.Statement.{statement}
+use Rattle.frame_table.proofs.text.write_lines.Tie as tie
+
+abbrev Inv-loop : tie.InvT-loop
+Inv-loop rows lines file₀ i₀ file i = (file ≡ over (linesFrom rows lines 0) (43 * i) file₀) × (i ≤ lines) × (length file ≡ length file₀)
+
+abbrev μ-loop : tie.MeasureT-loop
+μ-loop rows lines file₀ i₀ file i = lines - i
+
+loop-holds : tie.Need-loop-holds Inv-loop μ-loop
+loop-holds c = (refl, search needs, refl)
+
+mul-from : tie.Need-mul-from Inv-loop μ-loop
+mul-from c = search needs
+
+add-to : tie.Need-add-to Inv-loop μ-loop
+add-to c = search needs
+
+sub-write-line : tie.Need-sub-write-line Inv-loop μ-loop
+sub-write-line c = search needs
+
+part-write-line-start : tie.Need-part-write-line-start Inv-loop μ-loop
+part-write-line-start c = search needs
+
+part-write-line-end : tie.Need-part-write-line-end Inv-loop μ-loop
+part-write-line-end c = search needs
+
+write-line-requires : tie.Need-write-line-requires Inv-loop μ-loop
+write-line-requires c κs =
+    let at-loop = c .before .before in
+    (search needs, simp (length-take, length-drop) (omega (arith, at-loop .loop .inv, c .before .loop-test .taken, at-loop .before .before .before .pre)))
+
+add-i : tie.Need-add-i Inv-loop μ-loop
+add-i c = search needs
+
+loop-less : tie.Need-loop-less Inv-loop μ-loop
+loop-less c = search needs
+
+loop-again : tie.Need-loop-again Inv-loop μ-loop
+loop-again c =
+    let at-loop = c .before .before .before .before .before in
+    let below = c .before .before .before .before .loop-test .taken in
+    let i = at-loop .loop .i in
+    let all = 43 * at-loop .before .before .before .args .lines in (
+      over-part _ _ _ all (length-lines _ _ 0) _ (43 * i) (43 * (i + 1)) 43 (43 * i) (43 * i + 43) (at-loop .loop .inv .0) refl (omega arith) (omega arith) (omega (arith, below))
+          (c .before .before .write-line .ensures ∙ sym (line-at _ _ i below)),
+      search needs,
+      search needs,
+    )
+
+same-length : tie.Need-same-length Inv-loop μ-loop
+same-length c = search needs
+
+returns : tie.Need-returns Inv-loop μ-loop
+returns c =
+    let below = c .before .loop .inv .1 in
+    over-all _ _ _ (43 * c .before .before .before .before .args .lines) (length-lines _ _ 0) (43 * c .before .loop .i) (c .before .loop .inv .0) (omega (arith, below)) (omega (arith, c .loop-test .left))
+
+pub write-lines-spec : {M : Type 1} → statement M
+write-lines-spec =
+    tie.close
+    (tie.spec
+    Inv-loop
+    μ-loop
+    loop-holds
+    mul-from
+    add-to
+    sub-write-line
+    part-write-line-start
+    part-write-line-end
+    write-line-requires
+    add-i
+    loop-less
+    loop-again
+    same-length
+    returns)

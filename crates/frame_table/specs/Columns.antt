@@ -1,0 +1,50 @@
+-- The columns of a table (document 01, "The table").
+-- A table is a list of numbers, seven a row: node, identifier, kind, payload bytes, period, offset, claim.
+use Prim.Native.Nat.{ℕ, _+_, _*_}
+use mathlib.Core.Bool.{Bool, true, false, _&&_, _||_}
+use mathlib.Core.List.{List, [], _∷_}
+use lib.ListN.{getD, take}
+use lib.Dec.{ltb, leb, eqb}
+use Rattle.arith.specs.Lists.{sum}
+
+-- the number in column j of row i
+abbrev pub field : List ℕ → ℕ → ℕ → ℕ
+field t i j = getD t (7 * i + j) 0
+
+-- "Width": the characters of each column in a file
+abbrev pub widths : List ℕ
+widths = 3 ∷ 10 ∷ 3 ∷ 2 ∷ 8 ∷ 8 ∷ 8 ∷ []
+
+unfoldable pub widthOf : ℕ → ℕ
+widthOf j = getD widths j 0
+
+-- where column j starts in a line, and at 7 the line feed
+unfoldable pub startOf : ℕ → ℕ
+unfolding sum
+startOf j = sum (λ w. w) (take j widths)
+
+-- ---- "Values"
+
+-- whether v is within low..high
+unfoldable pub between : ℕ → ℕ → ℕ → Bool
+between low high v = leb low v && leb v high
+
+-- whether the kind is one, and the identifier within the limits of its kind
+unfoldable pub isIdentifier : ℕ → ℕ → Bool
+isIdentifier kind identifier = (eqb kind 11 && leb identifier 2047) || (eqb kind 29 && leb identifier 536_870_911)
+
+-- for each column whether v is within its limits, where `before` stands in the column before it:
+-- an identifier's limit is judged at its kind, and an offset is below its period
+abbrev pub limits : ℕ → ℕ → List Bool
+limits before v =
+    between 1 16 v
+    ∷ true
+    ∷ isIdentifier v before
+    ∷ leb v 8
+    ∷ between 1 1_000_000 v
+    ∷ ltb v before
+    ∷ between 1 1_000_000 v
+    ∷ []
+
+abbrev pub within : ℕ → ℕ → ℕ → Bool
+within j before v = getD (limits before v) j false

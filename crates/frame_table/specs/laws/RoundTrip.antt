@@ -1,0 +1,153 @@
+-- Reading and writing a table undo each other.
+use Prim.Native.Nat.{ℕ, zero, suc, _+_, _-_, _*_, _/_, _%_, _^_, _≤_, _<_}
+use mathlib.Core.Path.{_≡_, refl, sym, ap, ap₂, _∙_}
+use mathlib.Core.Bool.{Bool, true, false, not, _&&_, and-false}
+use mathlib.Core.List.{List, _++_}
+use native.Mathlib.Nat.{add-zero}
+use native.Mathlib.Numerals.{add-one}
+use native.Mathlib.Omega.{arith}
+use borrow.Author.Tests.{eq-eqb, eqb-true}
+use lib.ListN.{length, getD, take, drop, length-take, length-drop}
+use lib.Seq.{drop-cons, drop-drop, getD-drop, take-all, take-add, ext-getD}
+use lib.Dec.{eqb}
+use Rattle.arith.specs.laws.Tests.{by-test}
+use Rattle.decimal.specs.declared.Column.{Column}
+use Rattle.decimal.specs.declared.Column.the-variants.{Value, Broken}
+use Rattle.decimal.specs.Decimal.{readColumn, writeColumn}
+use Rattle.decimal.specs.Laws.{read-write, write-read}
+use Rattle.frame_table.specs.declared.Checked.the-variants.{Passed}
+use Rattle.frame_table.specs.Columns.{field, widthOf, startOf}
+use Rattle.frame_table.specs.Checks.{unterminated, tableCheck}
+use Rattle.frame_table.specs.Text.{fieldOf, columnAt, terminated, fieldAt, fieldsFrom, fieldsOf, linesFrom, textOf}
+use Rattle.frame_table.specs.Table.{readCheck, rowsCheck}
+use Rattle.frame_table.specs.laws.First.{first-passed}
+use Rattle.frame_table.specs.laws.Limits.{Limits, identified-max, by-column, field-small, lines-each, storable}
+use Rattle.frame_table.specs.laws.Layout.{start-next, end-most, line-column, line-feed, length-lines, lines-at, length-fields, field-at, field-in}
+use Rattle.frame_table.specs.laws.Sizes.{FileSize, RowsSize, file-size, file-sized, rows-size, rows-sized}
+
+-- ---- what stands in the text of rows
+
+module _ (rows : List ℕ) (n i : ℕ) (h : i < n) where
+  text-column : (j : ℕ) → j < 7 → columnAt (linesFrom rows n 0) i j ≡ writeColumn (widthOf j) (field rows i j)
+  unfolding columnAt
+  text-column j l =
+      ap (take (widthOf j)) (sym (drop-drop (startOf j) (43 * i) (linesFrom rows n 0)) ∙ ap (drop (startOf j)) (lines-at rows n i h))
+      ∙ line-column rows i (linesFrom rows (n - (i + 1)) (i + 1)) j l
+
+  text-feed : getD (linesFrom rows n 0) (43 * i + 42) 0 ≡ 10
+  text-feed =
+      sym (getD-drop (43 * i) (linesFrom rows n 0) 42 0) ∙ ap (λ (x : List ℕ). getD x 42 0) (lines-at rows n i h)
+      ∙ line-feed rows i (linesFrom rows (n - (i + 1)) (i + 1))
+
+  -- A number within its limits is read back.
+  field-back : Limits rows i → (j : ℕ) → j < 7 → fieldAt (linesFrom rows n 0) i j ≡ field rows i j
+  unfolding fieldAt terminated fieldOf widthOf
+  field-back m j l =
+      let d = identified-max _ _ (m .identified) in
+      let fits : (j : ℕ) → j < 7 → (0 < widthOf j) × (field rows i j < 10 ^ widthOf j)
+      = by-column (λ j. (0 < widthOf j) × (field rows i j < 10 ^ widthOf j))
+      (omega (arith, m .node-max)) (omega (arith, d)) (omega (arith, d)) (omega (arith, m .payload-max))
+      (omega (arith, m .period-max)) (omega (arith, m .offset-max, m .period-max)) (omega (arith, m .claim-max)) in
+      simp (eq-eqb _ _ text-feed, and-false)
+      (ap fieldOf (ap readColumn (text-column j l) ∙ read-write (widthOf j) _ (fits j l .0) (fits j l .1) (omega (arith, field-small rows i m j l))))
+
+-- The text of rows within their limits has them as its fields.
+text-fields : (rows : List ℕ) (n : ℕ) → length rows ≡ 7 * n → ((i : ℕ) → i < n → Limits rows i) → fieldsFrom (linesFrom rows n 0) (7 * n) 0 ≡ rows
+text-fields rows n size limits =
+    let text : List ℕ = linesFrom rows n 0 in
+    ext-getD 0 (fieldsFrom text (7 * n) 0) rows (length-fields text (7 * n) 0 ∙ sym size)
+    (λ k l. let below : k < 7 * n = rw length-fields at l in
+    let z : 7 * (k / 7) + k % 7 ≡ k = omega arith in
+    field-at text (7 * n) k below ∙ (rw z at (field-back rows n (k / 7) (omega arith) (limits (k / 7) (omega arith)) (k % 7) (omega arith))))
+
+-- ---- two files that hold the same
+
+module _ (a b : List ℕ) where
+  -- They are alike before place p.
+  abbrev Alike : ℕ → Type 0
+  Alike p = take p a ≡ take p b
+
+  alike-more : (p w : ℕ) → Alike p → take w (drop p a) ≡ take w (drop p b) → Alike (p + w)
+  alike-more p w before part = take-add p w a ∙ ap₂ (λ (x y : List ℕ). x ++ y) before part ∙ sym (take-add p w b)
+
+  module _ (n : ℕ) (size : length a ≡ 43 * n) (size′ : length b ≡ 43 * n)
+      (column : (i : ℕ) → i < n → (j : ℕ) → j < 7 → columnAt a i j ≡ columnAt b i j)
+      (feed : (i : ℕ) → i < n → getD a (43 * i + 42) 0 ≡ getD b (43 * i + 42) 0) where
+    columns-alike : (i : ℕ) → i < n → Alike (43 * i) → (j : ℕ) → j ≤ 7 → Alike (43 * i + startOf j)
+    columns-alike i h before zero l = unfold startOf in rw add-zero before
+    columns-alike i h before (suc j) l =
+        let e : 43 * i + startOf (suc j) ≡ 43 * i + startOf j + widthOf j = omega (arith, start-next j l, ap startOf (add-one j)) in
+        rw e (alike-more (43 * i + startOf j) (widthOf j) (columns-alike i h before j (omega arith)) (unfold columnAt in column i h j l))
+
+    lines-alike : (i : ℕ) → i ≤ n → Alike (43 * i)
+    unfolding startOf
+    lines-alike zero l = refl
+    lines-alike (suc i) l =
+        let p : ℕ = 43 * i + 42 in
+        let e : 43 * suc i ≡ p + 1 = omega arith in
+        rw e (alike-more p 1 (columns-alike i l (lines-alike i (omega arith)) 7 (omega arith))
+        (rw (drop-cons a p 0 (omega arith), drop-cons b p 0 (omega arith), feed i l)))
+
+    alike : a ≡ b
+    alike = sym (take-all (43 * n) a (omega arith)) ∙ lines-alike n (omega arith) ∙ take-all (43 * n) b (omega arith)
+
+-- ---- what stands in a file whose fields are numbers
+
+-- Such a field is the number of its column, and the first one of a line says that the line ends in a line feed.
+field-number : (file : List ℕ) (i j : ℕ) → fieldAt file i j < 2 ^ 32
+    → (readColumn (columnAt file i j) ≡ Value (fieldAt file i j)) × (j ≡ 0 → terminated file i ≡ true)
+unfolding fieldAt fieldOf
+field-number file i j h =
+    by-test (eqb j 0 && not (terminated file i))
+    (λ e. let z : unterminated < 2 ^ 32 = simp e at h in absurd (omega arith))
+    (λ e. (simp e (value _ (simp e at h)), λ z. holds (terminated file i) (rw z at e)))
+  where
+    value : (c : Column) → fieldOf c < 2 ^ 32 → c ≡ Value (fieldOf c)
+    value (Value n) h = refl
+    value Broken h = absurd (omega arith)
+
+    holds : (t : Bool) → not t ≡ false → t ≡ true
+    holds true e = refl
+    holds false e = sym e
+
+-- A file whose fields are numbers of 32 bits is the text of them.
+fields-text : (file : List ℕ) (n : ℕ) → length file ≡ 43 * n → ((i j : ℕ) → i < n → j < 7 → fieldAt file i j < 2 ^ 32)
+    → linesFrom (fieldsFrom file (7 * n) 0) n 0 ≡ file
+unfolding columnAt terminated
+fields-text file n size small =
+    let t : List ℕ = fieldsFrom file (7 * n) 0 in
+    alike (linesFrom t n 0) file n (length-lines t n 0) size
+    (λ i h j l. let w : length (columnAt file i j) ≡ widthOf j = simp (length-take, length-drop) (omega (arith, start-next j l, end-most j l)) in
+    text-column t n i h j l ∙ rw (field-in file n i j h l) (rw w at (write-read (columnAt file i j) _ (field-number file i j (small i j h l) .0))))
+    (λ i h. text-feed t n i h ∙ sym (eqb-true _ 10 (field-number file i 0 (small i 0 h (omega arith)) .1 refl)))
+
+-- ---- tables that passed
+
+-- The file of a table reads back as the table.
+pub read-text : (rows : List ℕ) → rowsCheck rows ≡ Passed → (readCheck (textOf rows) ≡ Passed) × (fieldsOf (textOf rows) ≡ rows)
+unfolding rowsCheck tableCheck readCheck textOf fieldsOf
+read-text rows e =
+    let both = first-passed _ _ e in
+    let s = rows-size (length rows) (both .0) in
+    let n : ℕ = length rows / 7 in
+    let size : length (linesFrom rows n 0) ≡ 43 * n = length-lines rows n 0 in
+    let lines : length (linesFrom rows n 0) / 43 ≡ n = omega arith in
+    let back : fieldsFrom (linesFrom rows n 0) (7 * (length (linesFrom rows n 0) / 43)) 0 ≡ rows
+    = rw lines (text-fields rows n (omega (arith, s .whole)) (lines-each rows (first-passed _ _ (both .1) .0))) in
+    let fits : FileSize (length (linesFrom rows n 0)) = record { some = omega (arith, s .some, s .whole); whole = omega arith; most = omega (arith, s .most) } in
+    (rw (back, file-sized _ fits) (both .1), back)
+
+-- The table of a file is written back as the file.
+pub text-read : (file : List ℕ) → readCheck file ≡ Passed → (rowsCheck (fieldsOf file) ≡ Passed) × (textOf (fieldsOf file) ≡ file)
+unfolding rowsCheck readCheck textOf fieldsOf
+text-read file e =
+    let both = first-passed _ _ e in
+    let s = file-size (length file) (both .0) in
+    let n : ℕ = length file / 43 in
+    let t : List ℕ = fieldsFrom file (7 * n) 0 in
+    let size : length t ≡ 7 * n = length-fields file (7 * n) 0 in
+    let lines : length t / 7 ≡ n = omega arith in
+    let small : (i j : ℕ) → i < n → j < 7 → fieldAt file i j < 2 ^ 32
+    = λ i j h l. rw (field-in file n i j h l) at (storable t (omega arith) Passed (sym (both .1)) (7 * i + j) (omega arith)) in
+    let fits : RowsSize (length t) = record { some = omega (arith, s .some); whole = omega arith; most = omega (arith, s .most) } in
+    (rw (rows-sized _ fits) (both .1), rw lines (fields-text file n (omega (arith, s .whole)) small))

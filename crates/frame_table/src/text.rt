@@ -1,0 +1,100 @@
+// The text form of a table: lines of seven columns and a line feed.
+use crate::LINE;
+use crate::ROW;
+ghost use mathlib.Core.Path.{_≡_};
+ghost use Prim.Native.Nat.{_+_, _*_, _<_, _≤_};
+ghost use mathlib.Core.List.{_++_};
+ghost use lib.ListN.{length, take, drop};
+ghost use Rattle.decimal.specs.Decimal.{readColumn};
+ghost use Rattle.frame_table.specs.Columns.{startOf};
+ghost use Rattle.frame_table.specs.Text.{fieldOf, columnAt, fieldAt, fieldsFrom, lineOf, linesFrom};
+
+// Where each column starts, and at 7 the line feed.
+const STARTS: [usize; 8] = [0, 3, 13, 16, 18, 26, 34, 42];
+
+const LINE_FEED: u8 = 10;
+
+// What stands for a column that breaks the notation, and for the first field of a line that does not
+// end in a line feed: above all numbers of a column.
+pub const MALFORMED: u64 = 1_000_000_000_000_000_000;
+
+pub const UNTERMINATED: u64 = 1_000_000_000_000_000_001;
+
+fn start(j: usize) -> usize
+    requires { ⌜ j < 8 ⌝ }
+    ensures { λ r. ⌜ r ≡ startOf j ⌝ }
+{
+    STARTS[j]
+}
+
+// The number in column j of line i.
+fn column(file: &[u8], i: usize, j: usize) -> u64
+    requires { ⌜ (43 * i + 43 ≤ length (now file)) × (j < 7) ⌝ }
+    ensures { λ r. ⌜ r ≡ fieldOf (readColumn (columnAt (now (file .entry)) i j)) ⌝ }
+{
+    let from = LINE * i + start(j);
+    let to = LINE * i + start(j + 1);
+    let column = decimal::read(&file[from..to]);
+    match column {
+        decimal::Column::Value(n) => n,
+        decimal::Column::Broken => MALFORMED,
+    }
+}
+
+// Field j of line i.
+fn field(file: &[u8], i: usize, j: usize) -> u64
+    requires { ⌜ (43 * i + 43 ≤ length (now file)) × (j < 7) ⌝ }
+    ensures { λ r. ⌜ r ≡ fieldAt (now (file .entry)) i j ⌝ }
+{
+    if j == 0 {
+        if file[LINE * i + LINE - 1] == LINE_FEED {
+            column(file, i, j)
+        } else {
+            UNTERMINATED
+        }
+    } else {
+        column(file, i, j)
+    }
+}
+
+// Reads the fields of the file's lines.
+pub fn read_fields(file: &[u8], lines: usize, fields: &mut [u64])
+    requires { ⌜ (43 * lines ≤ length (now file)) × (7 * lines ≤ length (now fields)) ⌝ }
+    ensures { λ _. ⌜ take (7 * lines) (now (fields .exit)) ≡ fieldsFrom (now (file .entry)) (7 * lines) 0 ⌝ }
+{
+    let mut k = 0;
+    while k < ROW * lines {
+        fields[k] = field(file, k / ROW, k % ROW);
+        k += 1;
+    }
+}
+
+// Writes line i of the rows.
+fn write_line(rows: &[u32], i: usize, line: &mut [u8])
+    requires { ⌜ (7 * i + 7 ≤ length (now rows)) × (length (now line) ≡ 43) ⌝ }
+    ensures { λ _. ⌜ now (line .exit) ≡ lineOf (now (rows .entry)) i ⌝ }
+{
+    let mut j = 0;
+    while j < ROW {
+        let from = start(j);
+        let to = start(j + 1);
+        let value = crate::wide(rows[ROW * i + j]);
+        decimal::write(&mut line[from..to], value);
+        j += 1;
+    }
+    line[LINE - 1] = LINE_FEED;
+}
+
+// Writes the lines of the rows.
+pub fn write_lines(rows: &[u32], lines: usize, file: &mut [u8])
+    requires { ⌜ (7 * lines ≤ length (now rows)) × (43 * lines ≤ length (now file)) ⌝ }
+    ensures { λ _. ⌜ now (file .exit) ≡ linesFrom (now (rows .entry)) lines 0 ++ drop (43 * lines) (now (file .entry)) ⌝ }
+{
+    let mut i = 0;
+    while i < lines {
+        let from = LINE * i;
+        let to = from + LINE;
+        write_line(rows, i, &mut file[from..to]);
+        i += 1;
+    }
+}
