@@ -1,4 +1,4 @@
--- What the loops over the characters and the numbers of a table share.
+-- What the proofs of `text` and of reading and writing a table share.
 use Prim.Native.Nat.{ℕ, _+_, _-_, _≤_, _<_}
 use mathlib.Core.Path.{_≡_, refl, sym}
 use mathlib.Core.List.{List, _++_, append-assoc}

@@ -10,7 +10,8 @@ use native.Mathlib.Numerals.{add-one}
 use native.Mathlib.Decide.{decLe}
 use native.Mathlib.Omega.{arith}
 use lib.Dec.{T}
-use lib.ListN.{length}
+use lib.ListN.{length, getD, drop, drop-of-length-le}
+use lib.Seq.{drop-cons}
 use Rattle.arith.specs.Lists.{sum, product, greatest, keep, exists, range}
 use Rattle.arith.specs.Least.{least}
 use Rattle.arith.specs.laws.Least.{least-within}
@@ -163,3 +164,24 @@ module _ {A B : Type 0} (F : List ℕ → B) (join : A → B → B) (p : ℕ →
   walk-end {a = a} w step none =
       let over : least p (e - suc a) (suc a) ≡ Nothing = rw add-one at none in
       rw (keep-end p e (suc a) over) at (sym (step _) ∙ w .is)
+
+-- ---- through a list
+
+pub record Through {X A B : Type 0} (F : List X → B) (join : A → B → B) (xs : List X) (goal : B) (done : A) (i : ℕ) : Type 0 where
+  pub inside : i ≤ length xs
+  pub is : join done (F (drop i xs)) ≡ goal
+
+module _ {X A B : Type 0} (F : List X → B) (join : A → B → B) (xs : List X) (goal : B) where
+  -- It starts at the first element.
+  pub through-start : {done : A} → join done (F xs) ≡ goal → Through F join xs goal done 0
+  through-start g = record { inside = omega arith; is = g }
+
+  -- It goes on to the next one.
+  pub through-more : (d : X) {done next : A} {i : ℕ} → Through F join xs goal done i → i < length xs
+      → ((ys : List X) → join done (F (getD xs i d ∷ ys)) ≡ join next (F ys)) → Through F join xs goal next (i + 1)
+  through-more d {i = i} t less step =
+      record { inside = omega arith; is = rw add-one (sym (step (drop (suc i) xs)) ∙ (rw (drop-cons xs i d less) at (t .is))) }
+
+  -- It ends after the last.
+  pub through-end : {done : A} {i : ℕ} → Through F join xs goal done i → length xs ≤ i → join done (F []) ≡ goal
+  through-end {i = i} t over = rw (drop-of-length-le xs {i = i} over) at (t .is)

@@ -15,7 +15,7 @@ use Rattle.frame_table.specs.laws.Sizes.{file-size}
 use Rattle.frame_table.proofs.read_lines.Statement.{statement}
 use Rattle.frame_table.proofs.read_lines.Tie as tie
 
--- what was read are the fields of the file
+-- what is known of the fields that were read is known of those of the file
 stored : (read t rows l : List ℕ) (checked : Checked) (answer : Answer) → read ≡ t → checked ≡ tableCheck read
     → (answer ≡ answerFor checked read rows) × (l ≡ areaAfter answer read rows) → (answer ≡ answerFor (tableCheck t) t rows) × (l ≡ areaAfter answer t rows)
 stored read t rows l checked answer e is both = rw (← e, ← is) both

@@ -9,6 +9,7 @@ use Rattle.frame_table.proofs.TextLaws.{area-refused, area-short, area-
 use Rattle.frame_table.proofs.write.Statement.{statement}
 use Rattle.frame_table.proofs.write.Tie as tie
 
+-- the rows passed
 passed : (c : tie.After-enum-told) → rowsCheck (c .before .before .before .before .before .args .rows .now) ≡ Passed
 passed c = sym (c .before .before .check .ensures) ∙ c .enum-told .given .1
 

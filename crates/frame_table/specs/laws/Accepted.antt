@@ -28,6 +28,7 @@ use Rattle.frame_table.specs.Table.{rowsCheck, Accepted}
 use Rattle.frame_table.specs.laws.First.{first-passed, first-each}
 use Rattle.frame_table.specs.laws.Limits.{Limits, not-passed, line-limits, lines-each, identified-cases}
 use Rattle.frame_table.specs.laws.Lengths.{length-bounds}
+use Rattle.frame_table.specs.laws.Sizes.{RowsSize, rows-size}
 
 -- ---- the frames of a table
 
@@ -80,6 +81,11 @@ module _ (rows : List ℕ) (accepted : Accepted rows) where
   table-passed : tableCheck rows ≡ Passed
   unfolding rowsCheck
   table-passed = first-passed (rowsSizeCheck (length rows)) (tableCheck rows) accepted .1
+
+  -- There are 1 to 64 rows, and no number besides.
+  pub accepted-size : RowsSize (length rows)
+  unfolding rowsCheck
+  accepted-size = rows-size (length rows) (first-passed (rowsSizeCheck (length rows)) (tableCheck rows) accepted .0)
 
   lines-passed : linesCheck rows ≡ Passed
   unfolding tableCheck

@@ -68,6 +68,7 @@ module _ (rows : List ℕ) (i : ℕ) where
 
 -- ---- a file
 
+-- n lines have 43 characters each.
 pub length-lines : (rows : List ℕ) (n i : ℕ) → length (linesFrom rows n i) ≡ 43 * n
 length-lines rows zero i = refl
 length-lines rows (suc n) i =
@@ -95,11 +96,13 @@ lines-at rows n i l =
     let z : 0 + i ≡ i = omega arith in
     ap (λ (x : ℕ). drop (43 * i) (linesFrom rows x 0)) e ∙ lines-from rows i (suc (n - (i + 1))) 0 ∙ ap (linesFrom rows (suc (n - (i + 1)))) z
 
+-- Line i.
 pub line-at : (rows : List ℕ) (n i : ℕ) → i < n → take 43 (drop (43 * i) (linesFrom rows n 0)) ≡ lineOf rows i
 line-at rows n i l = ap (take 43) (lines-at rows n i l) ∙ take-at (lineOf rows i) (linesFrom rows (n - (i + 1)) (i + 1)) 43 (length-line rows i)
 
 -- ---- the fields of a file
 
+-- There are as many as were asked for.
 pub length-fields : (file : List ℕ) (n k : ℕ) → length (fieldsFrom file n k) ≡ n
 length-fields file zero k = refl
 length-fields file (suc n) k = ap suc (length-fields file n (k + 1))

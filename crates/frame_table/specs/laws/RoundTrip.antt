@@ -28,12 +28,14 @@ use Rattle.frame_table.specs.laws.Sizes.{FileSize, RowsSize, file-size, 
 -- ---- what stands in the text of rows
 
 module _ (rows : List ℕ) (n i : ℕ) (h : i < n) where
+  -- A column holds its number.
   text-column : (j : ℕ) → j < 7 → columnAt (linesFrom rows n 0) i j ≡ writeColumn (widthOf j) (field rows i j)
   unfolding columnAt
   text-column j l =
       ap (take (widthOf j)) (sym (drop-drop (startOf j) (43 * i) (linesFrom rows n 0)) ∙ ap (drop (startOf j)) (lines-at rows n i h))
       ∙ line-column rows i (linesFrom rows (n - (i + 1)) (i + 1)) j l
 
+  -- A line ends in a line feed.
   text-feed : getD (linesFrom rows n 0) (43 * i + 42) 0 ≡ 10
   text-feed =
       sym (getD-drop (43 * i) (linesFrom rows n 0) 42 0) ∙ ap (λ (x : List ℕ). getD x 42 0) (lines-at rows n i h)

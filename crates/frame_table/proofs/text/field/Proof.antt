@@ -8,6 +8,7 @@ use Rattle.frame_table.specs.Text.{fieldAt, terminated}
 use Rattle.frame_table.proofs.text.field.Statement.{statement}
 use Rattle.frame_table.proofs.text.field.Tie as tie
 
+-- the line feed's place
 last : (i : ℕ) → 43 * i + 43 - 1 ≡ 43 * i + 42
 last i = omega arith
 

@@ -10,6 +10,7 @@ use Rattle.frame_table.specs.laws.Limits.{by-column}
 use Rattle.frame_table.proofs.text.start.Statement.{statement}
 use Rattle.frame_table.proofs.text.start.Tie as tie
 
+-- the constant table, entry by entry
 starts : (j : ℕ) → j < 8 → getD (0 ∷ 3 ∷ 13 ∷ 16 ∷ 18 ∷ 26 ∷ 34 ∷ 42 ∷ []) j 0 ≡ startOf j
 unfolding startOf
 starts zero l = refl

@@ -1,0 +1,14 @@
+-- What computing an example unfolds, in one name: a proof that says `unfolding everything` sees through the checks, the frames,
+-- the bounds and the judgement.
+use Prim.Native.Nat.{ℕ}
+use Rattle.bus_model.specs.examples.Compute.{everything as model}
+use Rattle.frame_table.specs.Columns.{between, isIdentifier}
+use Rattle.frame_table.specs.Frames.{priorityOf, largestLength, frameAt, framesOf}
+use Rattle.frame_table.specs.Refusal.{numberOf, checkReturns}
+use Rattle.frame_table.specs.Checks.{firstOf, rowsSizeCheck, columnCheck, columnsCheck, isSameFrame, standsEarlier, lineCheck, linesCheck, nodeCheck, nodesCheck, tableCheck}
+use Rattle.frame_table.specs.Table.{rowsCheck}
+
+-- its value is of no use
+unfoldable pub everything : ℕ
+unfolding model between isIdentifier priorityOf largestLength frameAt framesOf numberOf checkReturns firstOf rowsSizeCheck columnCheck columnsCheck isSameFrame standsEarlier lineCheck linesCheck nodeCheck nodesCheck tableCheck rowsCheck
+everything = 0

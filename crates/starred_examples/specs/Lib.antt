@@ -1,0 +1,4 @@
+-- The examples, and demand 3 applied to document 01's whole case.
+pub mod Compute
+pub mod Cases
+pub mod Applied
