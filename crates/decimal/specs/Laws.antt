@@ -1,8 +1,7 @@
 -- Reading and writing a column undo each other, at any width.
 --     read-write      a number that a column of width w has room for is read back
 --     write-read      a column that holds a number is what writing the number gives
---     length-write    a written column has its width
--- Assumes nothing.
+--     length-write, length-signed    a written column has its width
 use Prim.Native.Nat.{ℕ, zero, suc, _+_, _-_, _*_, _/_, _%_, _^_, _≤_, _<_}
 use mathlib.Core.Path.{_≡_, refl, sym, ap, ap₂, _∙_}
 use mathlib.Core.Bool.{Bool, true, false}
@@ -11,6 +10,7 @@ use native.Mathlib.Nat.{pow-suc, zero-add, add-zero, add-suc, suc-add, not-suc-l
 use native.Mathlib.Numerals.{add-one}
 use native.Mathlib.Omega.{arith}
 use borrow.Author.Tests.{lt-ltb, le-ltb, lt-leb, ltb-true, ltb-false, leb-false, eqb-true, eqb-false, eq-eqb, ne-eqb}
+use lib.IntN.{ℤ, pos, negsuc}
 use lib.ListN.{length}
 use lib.Dec.{ltb, leb, eqb}
 use Rattle.arith.specs.laws.Tests.{by-test}
@@ -18,7 +18,7 @@ use Rattle.decimal.specs.declared.Prefix.{Prefix}
 use Rattle.decimal.specs.declared.Prefix.the-variants.{Blank, Number, Minus, Negative, Broken}
 use Rattle.decimal.specs.declared.Column.{Column}
 use Rattle.decimal.specs.declared.Column.the-variants.{Value, Broken as Unreadable}
-use Rattle.decimal.specs.Decimal.{withDigit, extended, extendedBy, valueOf, readColumn, lastOf, shortened, written, writeColumn}
+use Rattle.decimal.specs.Decimal.{withDigit, extended, extendedBy, valueOf, readColumn, lastOf, shortened, written, writeColumn, writeSigned}
 
 -- ---- one character
 
@@ -158,3 +158,8 @@ length-written (suc w) p after = length-written w (shortened p) (lastOf p ∷ af
 pub length-write : (w n : ℕ) → length (writeColumn w n) ≡ w
 unfolding writeColumn
 length-write w n = length-written w (Number n) [] ∙ add-zero w
+
+pub length-signed : (w : ℕ) (z : ℤ) → length (writeSigned w z) ≡ w
+unfolding writeSigned
+length-signed w (pos n) = length-written w (Number n) [] ∙ add-zero w
+length-signed w (negsuc n) = length-written w (Negative (suc n)) [] ∙ add-zero w

@@ -7,7 +7,6 @@ mod text;
 pub use frames::frame;
 pub use frames::largest_length;
 pub use frames::priority;
-
 ghost use mathlib.Core.Path.{_≡_};
 ghost use Prim.Native.Nat.{ℕ, _<_, _≤_, _^_};
 ghost use mathlib.Core.List.{_++_};

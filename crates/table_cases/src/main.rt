@@ -3,11 +3,8 @@
 // line feed, and then the payload: for R a file to be read, for C and W rows to be checked and written,
 // each number four bytes with the lowest first. A line is the letter, the number (3) and the place (6) of a
 // refusal, or 0 and the count of lines, and for R and W the fingerprint (10) of the lent area.
-use decimal::Column;
 use frame_table::Answer;
 use frame_table::Checked;
-
-const MOST_CASES: usize = 100_000;
 
 // What the lent area holds before the call.
 const FILL_WORD: u32 = 7;
@@ -16,7 +13,7 @@ const FILL_BYTE: u8 = 7;
 
 fn main() {
     let mut done = 0;
-    while done < MOST_CASES {
+    while done < case_reader::MOST_CASES {
         if run_case() {
             done += 1;
         } else {
@@ -27,36 +24,19 @@ fn main() {
 
 // Runs the next case; false at the end of the input.
 fn run_case() -> bool {
-    let mut header = [0u8; 18];
+    let mut header = [0u8; case_reader::HEADER];
     let got = io::read_full(0, &mut header);
-    if got < 18 {
+    if got < case_reader::HEADER {
         return false;
     }
-    let area = number(&header[1..9]);
-    let size = number(&header[9..17]);
+    let area = case_reader::number(&header[1..9]) as usize;
+    let size = case_reader::number(&header[9..17]) as usize;
     let mut buffer = io::buffer();
-    if read_payload(size, &mut buffer) {
+    if case_reader::read_payload(size, &mut buffer) {
         run(header[0], area, size, &buffer);
         return true;
     }
     false
-}
-
-// The number in a column, or 0.
-fn number(s: &[u8]) -> usize {
-    let column = decimal::read(s);
-    match column {
-        Column::Value(n) => n as usize,
-        Column::Broken => 0,
-    }
-}
-
-// Reads so many bytes of the input; false where there are fewer or no room for them.
-fn read_payload(size: usize, buffer: &mut [u8]) -> bool {
-    if buffer.len() < size {
-        return false;
-    }
-    io::read_full(0, &mut buffer[0..size]) == size
 }
 
 fn run(letter: u8, area: usize, size: usize, buffer: &[u8]) {
@@ -70,29 +50,12 @@ fn run(letter: u8, area: usize, size: usize, buffer: &[u8]) {
         return;
     }
     let mut rows = [0u32; 512];
-    let count = unpack(payload, &mut rows);
+    let count = case_reader::unpack(payload, &mut rows);
     if letter == b'C' {
         run_check(&rows, count);
     } else {
         run_write(&rows, count, area);
     }
-}
-
-// Puts the numbers of the payload at the start of rows, and answers how many they are.
-fn unpack(payload: &[u8], rows: &mut [u32]) -> usize {
-    let mut i = 0;
-    while i < rows.len() {
-        if payload.len() / 4 <= i {
-            return i;
-        }
-        rows[i] = word(payload[4 * i], payload[4 * i + 1], payload[4 * i + 2], payload[4 * i + 3]);
-        i += 1;
-    }
-    i
-}
-
-fn word(a: u8, b: u8, c: u8, d: u8) -> u32 {
-    a as u32 + 256 * b as u32 + 65_536 * c as u32 + 16_777_216 * d as u32
 }
 
 fn run_read(file: &[u8], area: usize, words: &mut [u32]) {

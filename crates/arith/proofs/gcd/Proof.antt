@@ -1,4 +1,4 @@
--- `arith::gcd` meets its contract: each turn is a step of Euclid's algorithm. Assumes nothing.
+-- `arith::gcd` meets its contract: each turn is a step of Euclid's algorithm.
 use Prim.Native.Nat.{ℕ, _≤_}
 use mathlib.Core.Path.{_≡_, refl, _∙_}
 use native.Mathlib.Nat.{mod-lt}

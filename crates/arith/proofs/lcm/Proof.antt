@@ -1,5 +1,4 @@
 -- `arith::lcm` meets its contract: the product fits, since both factors are 32-bit numbers.
--- Assumes nothing.
 use borrow.Author.Needs.{needs}
 use Prim.Native.Nat.{ℕ, _*_, _/_, _^_, _-_, _<_, _≤_}
 use native.Mathlib.Nat.{mul-le-mul, div-le-self, lt-of-le-of-lt}

@@ -1,4 +1,4 @@
--- `frame_table::checks::bounded_hyperperiod` meets its contract: the invariant has the hyperperiod of the rows read, which no row lowers, so one that is too great stays so. Assumes nothing.
+-- `frame_table::checks::bounded_hyperperiod` meets its contract: the invariant has the hyperperiod of the rows read, which no row lowers, so one that is too great stays so.
 use Prim.Native.Nat.{_-_, _≤_, _<_}
 use native.Mathlib.Omega.{arith}
 use borrow.Author.Needs.{needs}

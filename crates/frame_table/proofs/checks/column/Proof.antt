@@ -1,4 +1,4 @@
--- `frame_table::checks::column` meets its contract: the tests stand in the order of the causes. Assumes nothing.
+-- `frame_table::checks::column` meets its contract: the tests stand in the order of the causes.
 use Prim.Native.Nat.{ℕ, _+_, _-_}
 use mathlib.Core.Path.{_≡_, sym, ap, _∙_}
 use mathlib.Core.Bool.{Bool, cond}

@@ -1,4 +1,4 @@
--- `frame_table::checks::columns` meets its contract: the invariant says that the columns left decide. Assumes nothing.
+-- `frame_table::checks::columns` meets its contract: the invariant says that the columns left decide.
 use Prim.Native.Nat.{_-_, _≤_}
 use mathlib.Core.Path.{_≡_, refl, _∙_}
 use borrow.Author.Needs.{needs}

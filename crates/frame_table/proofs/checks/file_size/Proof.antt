@@ -1,4 +1,4 @@
--- `frame_table::checks::file_size` meets its contract: the tests stand in the order of the causes. Assumes nothing.
+-- `frame_table::checks::file_size` meets its contract: the tests stand in the order of the causes.
 use borrow.Author.Tests.{eq-eqb, ne-eqb, lt-ltb, le-ltb}
 use borrow.Author.Needs.{needs}
 use Rattle.frame_table.specs.Checks.{fileSizeCheck}

@@ -1,4 +1,4 @@
--- `frame_table::checks::is_between` meets its contract: the second test counts where the first holds. Assumes nothing.
+-- `frame_table::checks::is_between` meets its contract: the second test counts where the first holds.
 use borrow.Author.Tests.{le-leb, lt-leb}
 use Rattle.frame_table.specs.Columns.{between}
 use Rattle.frame_table.proofs.checks.is_between.Statement.{statement}

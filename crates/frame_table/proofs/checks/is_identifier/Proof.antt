@@ -1,4 +1,4 @@
--- `frame_table::checks::is_identifier` meets its contract: a kind has one limit. Assumes nothing.
+-- `frame_table::checks::is_identifier` meets its contract: a kind has one limit.
 use mathlib.Core.Bool.{or-false}
 use borrow.Author.Tests.{ne-eqb}
 use Rattle.frame_table.specs.Columns.{isIdentifier}

@@ -1,4 +1,4 @@
--- `frame_table::checks::is_same_frame` meets its contract: both numbers are compared. Assumes nothing.
+-- `frame_table::checks::is_same_frame` meets its contract: both numbers are compared.
 use borrow.Author.Tests.{eq-eqb, ne-eqb}
 use borrow.Author.Needs.{needs}
 use Rattle.frame_table.specs.Checks.{isSameFrame}

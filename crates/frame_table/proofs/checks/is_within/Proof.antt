@@ -1,4 +1,4 @@
--- `frame_table::checks::is_within` meets its contract: each column has its limits. Assumes nothing.
+-- `frame_table::checks::is_within` meets its contract: each column has its limits.
 use mathlib.Core.Path.{_≡_, refl, sym}
 use mathlib.Core.Bool.{false}
 use native.Mathlib.Nat.{lt-of-not-le, suc-le-suc-iff}

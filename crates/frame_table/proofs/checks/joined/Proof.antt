@@ -1,4 +1,4 @@
--- `frame_table::checks::joined` meets its contract: only frames of the node count. Assumes nothing.
+-- `frame_table::checks::joined` meets its contract: only frames of the node count.
 use borrow.Author.Tests.{eq-eqb, ne-eqb}
 use borrow.Author.Needs.{needs}
 use Rattle.frame_table.proofs.checks.joined.Statement.{statement}

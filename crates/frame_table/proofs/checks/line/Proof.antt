@@ -1,4 +1,4 @@
--- `frame_table::checks::line` meets its contract: a cause against the columns comes first. Assumes nothing.
+-- `frame_table::checks::line` meets its contract: a cause against the columns comes first.
 use mathlib.Core.Path.{sym, _∙_}
 use borrow.Author.Needs.{needs}
 use Rattle.frame_table.specs.Checks.{lineCheck}

@@ -1,4 +1,4 @@
--- `frame_table::checks::node` meets its contract: a bounded hyperperiod within its limit is the hyperperiod. Assumes nothing.
+-- `frame_table::checks::node` meets its contract: a bounded hyperperiod within its limit is the hyperperiod.
 use mathlib.Core.Path.{_∙_}
 use borrow.Author.Needs.{needs}
 use Rattle.frame_table.proofs.ChecksLaws.{node-long, node-many, node-passes}

@@ -1,4 +1,4 @@
--- `frame_table::checks::node_releases` meets its contract: the invariant has the sum over the rows read. Assumes nothing.
+-- `frame_table::checks::node_releases` meets its contract: the invariant has the sum over the rows read.
 use Prim.Native.Nat.{_-_, _*_, _/_, _≤_}
 use native.Mathlib.Omega.{arith}
 use lib.ListN.{length}

@@ -1,4 +1,4 @@
--- `frame_table::checks::nodes` meets its contract: the invariant says that the nodes left decide. Assumes nothing.
+-- `frame_table::checks::nodes` meets its contract: the invariant says that the nodes left decide.
 use Prim.Native.Nat.{_-_, _≤_}
 use mathlib.Core.Path.{_≡_, refl, _∙_}
 use native.Mathlib.Omega.{arith}

@@ -1,4 +1,4 @@
--- `frame_table::checks::rows_size` meets its contract: each test that fails leads to the same cause. Assumes nothing.
+-- `frame_table::checks::rows_size` meets its contract: each test that fails leads to the same cause.
 use borrow.Author.Tests.{eq-eqb, ne-eqb, lt-ltb, le-ltb}
 use borrow.Author.Needs.{needs}
 use Rattle.frame_table.specs.Checks.{rowsSizeCheck}

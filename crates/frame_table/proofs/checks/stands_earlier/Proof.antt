@@ -1,4 +1,4 @@
--- `frame_table::checks::stands_earlier` meets its contract: the invariant says that the lines left decide. Assumes nothing.
+-- `frame_table::checks::stands_earlier` meets its contract: the invariant says that the lines left decide.
 use Prim.Native.Nat.{_-_, _≤_}
 use mathlib.Core.Path.{_≡_, _∙_}
 use native.Mathlib.Nat.{sub-zero}

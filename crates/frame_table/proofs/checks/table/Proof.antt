@@ -1,4 +1,4 @@
--- `frame_table::checks::table` meets its contract: the lines come first, and where they pass, the periods are within their limits. Assumes nothing.
+-- `frame_table::checks::table` meets its contract: the lines come first, and where they pass, the periods are within their limits.
 use mathlib.Core.Path.{sym, _∙_}
 use borrow.Author.Needs.{needs}
 use Rattle.frame_table.specs.Checks.{tableCheck}

@@ -1,0 +1,261 @@
+//! The rough and the exact bound of one frame.
+
+use crate::table::{self, Row, IDENTIFIER, KIND, NODE, NODES, OFFSET, PAYLOAD, PERIOD};
+
+const LENGTHS: [[u64; 9]; 2] =
+    [[55, 65, 75, 85, 95, 105, 115, 125, 135], [80, 90, 100, 110, 120, 130, 140, 150, 160]];
+
+/// The largest length of a row's frame.
+pub fn length(row: &Row) -> u64 {
+    LENGTHS[usize::from(row[KIND] == 29)][row[PAYLOAD] as usize]
+}
+
+/// Kind 11 goes ahead of kind 29, then the smaller identifier.
+fn rank(row: &Row) -> (u32, u32) {
+    (row[KIND], row[IDENTIFIER])
+}
+
+/// A frame seen from an alignment of its node.
+struct Release {
+    distance: u64,
+    period: u64,
+    length: u64,
+}
+
+impl Release {
+    fn new(row: &Row, instant: u64) -> Release {
+        let period = u64::from(row[PERIOD]);
+        let distance = (u64::from(row[OFFSET]) + period - instant % period) % period;
+        let length = length(row);
+        Release { distance, period, length }
+    }
+
+    /// The lengths of what it queues in 0..end-1.
+    fn work(&self, end: u64) -> u64 {
+        if end <= self.distance {
+            return 0;
+        }
+        ((end - self.distance - 1) / self.period + 1) * self.length
+    }
+}
+
+/// An alignment of a node with its better frames.
+struct Alignment {
+    instant: u64,
+    better: Vec<Release>,
+}
+
+impl Alignment {
+    fn work(&self, end: u64) -> u64 {
+        self.better.iter().map(|release| release.work(end)).sum()
+    }
+}
+
+/// The greatest response and the least q that gives it.
+#[derive(Clone, Copy, Debug, PartialEq, Eq)]
+pub struct Worst {
+    pub response: u64,
+    pub q: u64,
+}
+
+impl Worst {
+    const NONE: Worst = Worst { response: 0, q: 0 };
+
+    fn or(self, other: Worst) -> Worst {
+        let greater = other.response > self.response;
+        let sooner = other.response == self.response && other.q < self.q;
+        if greater || sooner {
+            other
+        } else {
+            self
+        }
+    }
+}
+
+/// Work of other nodes queued in 0..end-1.
+type Others<'a> = &'a dyn Fn(u64) -> u64;
+
+/// The bus as the frame of one row meets it.
+pub struct View<'a> {
+    frame: &'a Row,
+    blocking: u64,
+    own: usize,
+    nodes: Vec<Vec<Alignment>>,
+}
+
+impl<'a> View<'a> {
+    /// The view of a row of an accepted table.
+    pub fn new(rows: &'a [Row], row: usize) -> View<'a> {
+        let frame = &rows[row];
+        View {
+            frame,
+            blocking: blocking(rows, frame),
+            own: frame[NODE] as usize - 1,
+            nodes: (1..=NODES).map(|n| alignments(rows, frame, n)).collect(),
+        }
+    }
+
+    /// The scenario count; a product beyond 64 bits stays at their greatest number.
+    pub fn scenario_count(&self) -> u64 {
+        let counts = self.nodes.iter().map(|node| node.len() as u64);
+        counts.fold(1, u64::saturating_mul)
+    }
+
+    /// The rough bound, or none if an alignment of the own node has no window.
+    pub fn rough(&self, limit: u64) -> Option<Worst> {
+        let greatest = |end| self.other_nodes().map(|n| self.greatest(n, end)).sum();
+        let mut worst = Worst::NONE;
+        for own in &self.nodes[self.own] {
+            worst = worst.or(self.worst(own, &greatest, limit)?);
+        }
+        Some(worst)
+    }
+
+    /// The exact bound by all scenarios, nodes rising, the last node fastest.
+    pub fn exact(&self, limit: u64) -> Option<Worst> {
+        let mut worst = Worst::NONE;
+        for number in 0..self.scenario_count() {
+            let scenario = self.scenario(number);
+            let others = |end| self.other_nodes().map(|n| scenario[n].work(end)).sum();
+            worst = worst.or(self.worst(scenario[self.own], &others, limit)?);
+        }
+        Some(worst)
+    }
+
+    /// The exact bound, passing over scenarios that cannot exceed one already seen.
+    pub fn exact_pruned(&self, limit: u64) -> Option<u64> {
+        let nodes: Vec<usize> = self.other_nodes().collect();
+        let branching = |n: &usize| self.nodes[*n].len() > 1;
+        let (rest, fixed): (Vec<usize>, Vec<usize>) = nodes.into_iter().partition(branching);
+        let mut best = 0;
+        for own in &self.nodes[self.own] {
+            let mut picks = fixed.iter().map(|n| &self.nodes[*n][0]).collect();
+            self.refine(own, &mut picks, &rest, limit, &mut best)?;
+        }
+        Some(best)
+    }
+
+    /// Fixes the first of the remaining nodes, unless all at their greatest is too little.
+    fn refine<'b>(
+        &'b self,
+        own: &Alignment,
+        picks: &mut Vec<&'b Alignment>,
+        rest: &[usize],
+        limit: u64,
+        best: &mut u64,
+    ) -> Option<()> {
+        let at_most = |end| {
+            let fixed: u64 = picks.iter().map(|pick| pick.work(end)).sum();
+            let open: u64 = rest.iter().map(|n| self.greatest(*n, end)).sum();
+            fixed + open
+        };
+        let worst = self.worst(own, &at_most, limit)?;
+        if worst.response <= *best {
+            return Some(());
+        }
+        let Some((next, rest)) = rest.split_first() else {
+            *best = worst.response;
+            return Some(());
+        };
+        for alignment in &self.nodes[*next] {
+            picks.push(alignment);
+            self.refine(own, picks, rest, limit, best)?;
+            picks.pop();
+        }
+        Some(())
+    }
+
+    fn other_nodes(&self) -> impl Iterator<Item = usize> + '_ {
+        (0..self.nodes.len()).filter(|node| *node != self.own)
+    }
+
+    /// The greatest sum that any alignment of a node gives in 0..end-1.
+    fn greatest(&self, node: usize, end: u64) -> u64 {
+        let sums = self.nodes[node].iter().map(|pick| pick.work(end));
+        sums.max().unwrap_or(0)
+    }
+
+    /// A scenario by its number: one alignment for each node.
+    fn scenario(&self, mut number: u64) -> Vec<&Alignment> {
+        let mut picks = Vec::with_capacity(self.nodes.len());
+        for node in self.nodes.iter().rev() {
+            let count = node.len() as u64;
+            picks.push(&node[(number % count) as usize]);
+            number /= count;
+        }
+        picks.reverse();
+        picks
+    }
+
+    /// The greatest response of the frame at one alignment of its node.
+    fn worst(&self, own: &Alignment, others: Others, limit: u64) -> Option<Worst> {
+        let frame = Release::new(self.frame, own.instant);
+        let window = self.window(own, &frame, others, limit)?;
+        let mut worst = Worst::NONE;
+        let mut queueing = frame.distance;
+        for q in 1.. {
+            if queueing >= window {
+                break;
+            }
+            let start = self.start(own, &frame, others, q);
+            let response = start + frame.length - queueing;
+            worst = worst.or(Worst { response, q });
+            queueing += frame.period;
+        }
+        Some(worst)
+    }
+
+    /// The least L from 1 to the limit that holds blocking and all work ahead.
+    fn window(&self, own: &Alignment, frame: &Release, others: Others, limit: u64) -> Option<u64> {
+        let mut end = 1;
+        while end <= limit {
+            let need = self.blocking + own.work(end) + frame.work(end) + others(end);
+            if need <= end {
+                return Some(end);
+            }
+            end = need;
+        }
+        None
+    }
+
+    /// The least w for the q-th queueing; better frames queued at w still win.
+    fn start(&self, own: &Alignment, frame: &Release, others: Others, q: u64) -> u64 {
+        let before = self.blocking + (q - 1) * frame.length;
+        let mut start = 0;
+        loop {
+            let need = before + own.work(start + 1) + others(start + 1);
+            if need <= start {
+                return start;
+            }
+            start = need;
+        }
+    }
+}
+
+/// The greatest length ranked below, minus 1.
+fn blocking(rows: &[Row], frame: &Row) -> u64 {
+    let below = rows.iter().filter(|row| rank(row) > rank(frame));
+    below.map(|row| length(row) - 1).max().unwrap_or(0)
+}
+
+/// The alignments of a node; one empty alignment where no frame is ahead.
+fn alignments(rows: &[Row], frame: &Row, node: u32) -> Vec<Alignment> {
+    let of_node = rows.iter().filter(|row| row[NODE] == node);
+    let ahead: Vec<&Row> = of_node.filter(|row| rank(row) <= rank(frame)).collect();
+    let hyperperiod = table::node_hyperperiod(rows, node);
+    let mut instants: Vec<u64> = Vec::new();
+    for row in &ahead {
+        let offset = u64::from(row[OFFSET]);
+        instants.extend((offset..hyperperiod).step_by(row[PERIOD] as usize));
+    }
+    instants.sort_unstable();
+    instants.dedup();
+    if instants.is_empty() {
+        instants.push(0);
+    }
+    let align = |instant| {
+        let better = ahead.iter().filter(|row| rank(row) < rank(frame));
+        Alignment { instant, better: better.map(|row| Release::new(row, instant)).collect() }
+    };
+    instants.into_iter().map(align).collect()
+}

@@ -1,0 +1,95 @@
+//! Judging a claim: the rough bound first, the exact bound second.
+
+use crate::bounds::View;
+use crate::table::{self, refuse, Refusal, Row, CLAIM};
+
+/// The longest window and the greatest scenario count served.
+#[derive(Clone, Copy)]
+pub struct Limits {
+    pub window: u64,
+    pub scenarios: u64,
+}
+
+/// The limits of document 01.
+pub const LIMITS: Limits = Limits { window: 1_000_000, scenarios: 65_536 };
+
+#[derive(Clone, Copy, Debug, PartialEq, Eq)]
+pub enum Verdict {
+    CertifiedRough = 1,
+    CertifiedExact = 2,
+    TooSmall = 3,
+    NoWindow = 11,
+    Undecided = 12,
+}
+
+#[derive(Clone, Copy, Debug, PartialEq, Eq)]
+pub struct Judgement {
+    pub verdict: Verdict,
+    pub bound: u64,
+    pub margin: i64,
+}
+
+impl Judgement {
+    fn new(verdict: Verdict, bound: u64, claim: u64) -> Judgement {
+        let margin = claim as i64 - bound as i64;
+        Judgement { verdict, bound, margin }
+    }
+}
+
+/// Judges a row of accepted rows.
+pub fn judge_row(rows: &[Row], row: usize, limits: Limits) -> Judgement {
+    let claim = u64::from(rows[row][CLAIM]);
+    let view = View::new(rows, row);
+    let Some(rough) = view.rough(limits.window) else {
+        return Judgement::new(Verdict::NoWindow, 0, 0);
+    };
+    if rough.response <= claim {
+        return Judgement::new(Verdict::CertifiedRough, rough.response, claim);
+    }
+    if view.scenario_count() > limits.scenarios {
+        return Judgement::new(Verdict::Undecided, rough.response, claim);
+    }
+    let exact = exact_bound(&view, limits);
+    let verdict = if exact <= claim { Verdict::CertifiedExact } else { Verdict::TooSmall };
+    Judgement::new(verdict, exact, claim)
+}
+
+/// No scenario has a longer window than the rough bound, which has one here.
+fn exact_bound(view: &View, limits: Limits) -> u64 {
+    let exact = view.exact_pruned(limits.window);
+    exact.expect("a window for the rough bound serves every scenario")
+}
+
+/// Judges a row of rows in memory.
+pub fn judge(words: &[u32], row: i128) -> Result<Judgement, Refusal> {
+    let rows = table::check(words)?;
+    Ok(judge_row(&rows, find_row(&rows, row)?, LIMITS))
+}
+
+/// Judges a row of a file.
+pub fn judge_file(file: &[u8], row: i128) -> Result<Judgement, Refusal> {
+    let rows = table::parse(file)?;
+    Ok(judge_row(&rows, find_row(&rows, row)?, LIMITS))
+}
+
+/// The exact bound alone, of rows in memory.
+pub fn precise_bound(words: &[u32], row: i128) -> Result<u64, Refusal> {
+    let rows = table::check(words)?;
+    let row = find_row(&rows, row)?;
+    let view = View::new(&rows, row);
+    if view.rough(LIMITS.window).is_none() {
+        return refuse(11, row as u32);
+    }
+    if view.scenario_count() > LIMITS.scenarios {
+        return refuse(12, row as u32);
+    }
+    Ok(exact_bound(&view, LIMITS))
+}
+
+/// Rows count from 0; what is no row gives 9.
+fn find_row(rows: &[Row], row: i128) -> Result<usize, Refusal> {
+    match usize::try_from(row) {
+        Ok(row) if row < rows.len() => Ok(row),
+        _ => refuse(9, 0),
+    }
+}

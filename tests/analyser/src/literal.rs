@@ -1,0 +1,242 @@
+//! Document 01 followed tick by tick, slow and sharing nothing with the fast path.
+
+use crate::judgement::{Judgement, Limits, Verdict};
+use crate::table::Row;
+use std::collections::BTreeSet;
+
+/// Lengths by the rule instead of the constant table.
+fn length(row: &Row) -> u64 {
+    let bits = if row[2] == 11 { 34 } else { 54 } + 8 * u64::from(row[3]);
+    bits + 13 + (bits - 1) / 4
+}
+
+fn goes_ahead(row: &Row, of: &Row) -> bool {
+    if row[2] == of[2] {
+        row[1] < of[1]
+    } else {
+        row[2] == 11
+    }
+}
+
+/// A frame ahead at some alignment, and whether it is the frame judged.
+struct Queued {
+    distance: u64,
+    period: u64,
+    length: u64,
+    judged: bool,
+}
+
+impl Queued {
+    fn at(&self, tick: u64) -> bool {
+        tick >= self.distance && (tick - self.distance) % self.period == 0
+    }
+}
+
+/// The alignments in play of one node, each with the work queued so far.
+struct Running {
+    alignments: Vec<(Vec<Queued>, u64)>,
+}
+
+impl Running {
+    fn tick(&mut self, tick: u64, with_judged: bool) {
+        for (frames, sum) in &mut self.alignments {
+            for frame in frames {
+                if frame.at(tick) && (with_judged || !frame.judged) {
+                    *sum += frame.length;
+                }
+            }
+        }
+    }
+
+    fn greatest(&self) -> u64 {
+        self.alignments.iter().map(|(_, sum)| *sum).max().unwrap()
+    }
+}
+
+/// What the tick-by-tick path says of one row.
+pub struct Answer {
+    pub rough: Option<u64>,
+    pub exact: Option<u64>,
+    pub scenarios: u64,
+    pub judgement: Judgement,
+}
+
+/// One row of a table; `instants` holds the alignments of each node.
+struct Literal<'a> {
+    rows: &'a [Row],
+    judged: &'a Row,
+    blocking: u64,
+    instants: Vec<Vec<u64>>,
+    longest_window: u64,
+}
+
+pub fn answer(rows: &[Row], row: usize, limits: Limits) -> Answer {
+    let judged = &rows[row];
+    let below = rows.iter().filter(|other| goes_ahead(judged, other));
+    let literal = Literal {
+        rows,
+        judged,
+        blocking: below.map(length).max().map_or(0, |longest| longest - 1),
+        instants: (1..=16).map(|node| instants(rows, judged, node)).collect(),
+        longest_window: limits.window,
+    };
+    let rough = literal.rough();
+    let (exact, scenarios) = literal.exact();
+    let judgement = judgement(judged[6], rough, exact, scenarios, limits);
+    Answer { rough, exact, scenarios, judgement }
+}
+
+fn judgement(
+    claim: u32,
+    rough: Option<u64>,
+    exact: Option<u64>,
+    scenarios: u64,
+    limits: Limits,
+) -> Judgement {
+    let claim = i64::from(claim);
+    let (verdict, bound) = match (rough, exact) {
+        (None, _) => (Verdict::NoWindow, claim),
+        (Some(rough), _) if rough as i64 <= claim => (Verdict::CertifiedRough, rough as i64),
+        (Some(rough), _) if scenarios > limits.scenarios => (Verdict::Undecided, rough as i64),
+        (_, Some(exact)) if exact as i64 <= claim => (Verdict::CertifiedExact, exact as i64),
+        (_, Some(exact)) => (Verdict::TooSmall, exact as i64),
+        (_, None) => panic!("a scenario without a window below a rough bound"),
+    };
+    Judgement {
+        verdict,
+        bound: if rough.is_some() { bound as u64 } else { 0 },
+        margin: claim - bound,
+    }
+}
+
+/// The distinct instants o + m*p of a node's frames ahead, or one empty alignment.
+fn instants(rows: &[Row], judged: &Row, node: u32) -> Vec<u64> {
+    let of_node: Vec<&Row> = rows.iter().filter(|row| row[0] == node).collect();
+    let divides = |multiple: u64| of_node.iter().all(|row| multiple % u64::from(row[4]) == 0);
+    let hyperperiod = (1..).find(|multiple| divides(*multiple)).unwrap();
+    let mut found = BTreeSet::new();
+    for row in of_node.iter().filter(|row| !goes_ahead(judged, row)) {
+        let mut instant = u64::from(row[5]);
+        while instant < hyperperiod {
+            found.insert(instant);
+            instant += u64::from(row[4]);
+        }
+    }
+    if found.is_empty() {
+        found.insert(0);
+    }
+    found.into_iter().collect()
+}
+
+impl Literal<'_> {
+    fn own(&self) -> usize {
+        self.judged[0] as usize - 1
+    }
+
+    fn rough(&self) -> Option<u64> {
+        let mut greatest = 0;
+        for instant in &self.instants[self.own()] {
+            let mut choices = self.instants.clone();
+            choices[self.own()] = vec![*instant];
+            greatest = greatest.max(self.greatest_response(&choices)?);
+        }
+        Some(greatest)
+    }
+
+    /// The exact bound and the number of scenarios gone through.
+    fn exact(&self) -> (Option<u64>, u64) {
+        let mut odometer = vec![0; self.instants.len()];
+        let mut greatest = Some(0);
+        let mut scenarios = 0;
+        loop {
+            let pick = |node: usize| vec![self.instants[node][odometer[node]]];
+            let choices: Vec<Vec<u64>> = (0..odometer.len()).map(pick).collect();
+            let response = self.greatest_response(&choices);
+            greatest = greatest.and_then(|so_far| Some(response?.max(so_far)));
+            scenarios += 1;
+            if !self.advance(&mut odometer) {
+                return (greatest, scenarios);
+            }
+        }
+    }
+
+    fn advance(&self, odometer: &mut [usize]) -> bool {
+        for node in (0..odometer.len()).rev() {
+            odometer[node] += 1;
+            if odometer[node] < self.instants[node].len() {
+                return true;
+            }
+            odometer[node] = 0;
+        }
+        false
+    }
+
+    fn greatest_response(&self, choices: &[Vec<u64>]) -> Option<u64> {
+        let window = self.window(choices)?;
+        let distance = self.distance(self.judged, choices[self.own()][0]);
+        let mut greatest = 0;
+        let mut q = 1;
+        while distance + (q - 1) * u64::from(self.judged[4]) < window {
+            let queueing = distance + (q - 1) * u64::from(self.judged[4]);
+            let end = self.start(choices, q) + length(self.judged);
+            greatest = greatest.max(end - queueing);
+            q += 1;
+        }
+        Some(greatest)
+    }
+
+    /// Tries L = 1, 2, 3, ...; tick L - 1 is the last that counts.
+    fn window(&self, choices: &[Vec<u64>]) -> Option<u64> {
+        let mut running = self.running(choices);
+        for window in 1..=self.longest_window {
+            running.iter_mut().for_each(|node| node.tick(window - 1, true));
+            if self.blocking + sum(&running) <= window {
+                return Some(window);
+            }
+        }
+        None
+    }
+
+    /// Tries w = 0, 1, 2, ...; tick w still counts.
+    fn start(&self, choices: &[Vec<u64>], q: u64) -> u64 {
+        let mut running = self.running(choices);
+        let before = self.blocking + (q - 1) * length(self.judged);
+        let mut start = 0;
+        loop {
+            running.iter_mut().for_each(|node| node.tick(start, false));
+            if before + sum(&running) <= start {
+                return start;
+            }
+            start += 1;
+        }
+    }
+
+    fn running(&self, choices: &[Vec<u64>]) -> Vec<Running> {
+        let nodes = choices.iter().enumerate();
+        let of_node = |(node, instants): (usize, &Vec<u64>)| Running {
+            alignments: instants.iter().map(|a| (self.queued(node, *a), 0)).collect(),
+        };
+        nodes.map(of_node).collect()
+    }
+
+    fn queued(&self, node: usize, instant: u64) -> Vec<Queued> {
+        let of_node = self.rows.iter().filter(|row| row[0] as usize == node + 1);
+        let ahead = of_node.filter(|row| !goes_ahead(self.judged, row));
+        let queued = |row: &Row| Queued {
+            distance: self.distance(row, instant),
+            period: u64::from(row[4]),
+            length: length(row),
+            judged: row == self.judged,
+        };
+        ahead.map(queued).collect()
+    }
+
+    fn distance(&self, row: &Row, instant: u64) -> u64 {
+        let ahead = i64::from(row[5]) - instant as i64;
+        ahead.rem_euclid(i64::from(row[4])) as u64
+    }
+}
+
+fn sum(running: &[Running]) -> u64 {
+    running.iter().map(Running::greatest).sum()
+}

@@ -1,0 +1,77 @@
+//! An analyser of CAN frame tables beside the certifier, by document 01.
+
+mod bounds;
+mod cases;
+#[cfg(test)]
+mod examples;
+mod judge_cases;
+mod judgement;
+mod listing;
+mod literal;
+mod random;
+mod self_check;
+mod table;
+mod table_cases;
+
+use std::io::{self, Read, Write};
+use std::process::ExitCode;
+
+const USAGE: &str = "usage:
+  analyser list < table
+  analyser judge ROW < table
+  analyser precise ROW < table
+  analyser self-check SEED COUNT
+  analyser table-cases stdin|stdout
+  analyser judge-cases stdin|stdout";
+
+fn main() -> ExitCode {
+    let words: Vec<String> = std::env::args().skip(1).collect();
+    let words: Vec<&str> = words.iter().map(String::as_str).collect();
+    match run(&words) {
+        Ok(true) => ExitCode::SUCCESS,
+        Ok(false) => ExitCode::FAILURE,
+        Err(error) => {
+            eprintln!("{error}");
+            ExitCode::from(2)
+        }
+    }
+}
+
+/// Runs a command; false means that a check failed.
+fn run(words: &[&str]) -> io::Result<bool> {
+    match words {
+        ["list"] => print(listing::list(&input()?).as_bytes()),
+        ["judge", row] => {
+            let judged = judgement::judge_file(&input()?, number(row)?);
+            print(format!("{}\n", listing::judge_number(judged)).as_bytes())
+        }
+        ["precise", row] => {
+            let row = number(row)?;
+            let rows = table::parse(&input()?);
+            let bound = rows.and_then(|rows| judgement::precise_bound(&rows.concat(), row));
+            print(format!("{}\n", listing::bound_number(bound)).as_bytes())
+        }
+        ["self-check", seed, count] => Ok(self_check::self_check(number(seed)?, number(count)?)),
+        ["table-cases", "stdin"] => print(&cases::stdin(&table_cases::all())),
+        ["table-cases", "stdout"] => print(&cases::stdout(&table_cases::all())),
+        ["judge-cases", "stdin"] => print(&cases::stdin(&judge_cases::all())),
+        ["judge-cases", "stdout"] => print(&cases::stdout(&judge_cases::all())),
+        _ => Err(io::Error::other(USAGE)),
+    }
+}
+
+fn number<T: std::str::FromStr>(word: &str) -> io::Result<T> {
+    let error = || io::Error::other(format!("no number: {word}\n{USAGE}"));
+    word.parse().map_err(|_| error())
+}
+
+fn input() -> io::Result<Vec<u8>> {
+    let mut bytes = Vec::new();
+    io::stdin().read_to_end(&mut bytes)?;
+    Ok(bytes)
+}
+
+fn print(bytes: &[u8]) -> io::Result<bool> {
+    io::stdout().write_all(bytes)?;
+    Ok(true)
+}

@@ -1,0 +1,196 @@
+//! Random tables of several shapes from a fixed seed.
+
+use crate::bounds::{self, View};
+use crate::judgement::Limits;
+use crate::table::{self, Row, CLAIM, IDENTIFIER, KIND, NODE, OFFSET, PERIOD};
+
+/// A splitmix generator.
+pub struct Random(u64);
+
+impl Random {
+    pub fn new(seed: u64) -> Random {
+        Random(seed)
+    }
+
+    fn next(&mut self) -> u64 {
+        self.0 = self.0.wrapping_add(0x9e37_79b9_7f4a_7c15);
+        let mut word = self.0;
+        word = (word ^ (word >> 30)).wrapping_mul(0xbf58_476d_1ce4_e5b9);
+        word = (word ^ (word >> 27)).wrapping_mul(0x94d0_49bb_1331_11eb);
+        word ^ (word >> 31)
+    }
+
+    pub fn below(&mut self, count: u64) -> u64 {
+        self.next() % count
+    }
+
+    /// Both ends included.
+    pub fn between(&mut self, least: u64, most: u64) -> u64 {
+        least + self.below(most - least + 1)
+    }
+
+    pub fn percent(&mut self, chance: u64) -> bool {
+        self.below(100) < chance
+    }
+
+    pub fn pick<T: Copy>(&mut self, list: &[T]) -> T {
+        list[self.below(list.len() as u64) as usize]
+    }
+
+    pub fn shuffle<T>(&mut self, list: &mut [T]) {
+        for last in (1..list.len()).rev() {
+            list.swap(last, self.below(last as u64 + 1) as usize);
+        }
+    }
+
+    /// So many different nodes.
+    fn nodes(&mut self, count: u64) -> Vec<u32> {
+        let mut nodes: Vec<u32> = (1..=table::NODES).collect();
+        self.shuffle(&mut nodes);
+        nodes.truncate(count as usize);
+        nodes
+    }
+
+    /// The kinds that a table draws from.
+    fn kinds(&mut self) -> &'static [u32] {
+        self.pick(&[&[11][..], &[29], &[11, 29]])
+    }
+
+    /// A frame that still lacks identifier, period and offset.
+    fn frame(&mut self, node: u32, kinds: &[u32]) -> Row {
+        let payload = self.below(9) as u32;
+        let claim = self.between(1, 2000) as u32;
+        [node, 0, self.pick(kinds), payload, 1, 0, claim]
+    }
+}
+
+/// Nodes whose frames are queued closely one after the other; the period is
+/// the sum of all lengths times a percentage.
+pub fn clustered(random: &mut Random, nodes: u64, most: u64, percent: (u64, u64)) -> Vec<Row> {
+    let kinds = random.kinds();
+    let rising = random.percent(70);
+    let mut rows = Vec::new();
+    for node in random.nodes(nodes) {
+        let count = random.between(1, most);
+        let mut frames: Vec<Row> = (0..count).map(|_| random.frame(node, kinds)).collect();
+        if rising {
+            frames.sort_by_key(bounds::length);
+        }
+        rows.extend(frames);
+    }
+    rows.truncate(table::MOST_LINES);
+    let total: u64 = rows.iter().map(bounds::length).sum();
+    let base = total * random.between(percent.0, percent.1) / 100;
+    let mut offset = 0;
+    for at in 0..rows.len() {
+        if at == 0 || rows[at][NODE] != rows[at - 1][NODE] {
+            offset = random.below(base);
+        }
+        let period = base * random.pick(&[1, 1, 1, 1, 2]);
+        rows[at][PERIOD] = period as u32;
+        rows[at][OFFSET] = (offset % period) as u32;
+        offset += gap(random, bounds::length(&rows[at]), base);
+    }
+    finish(random, rows)
+}
+
+/// A distance to the next offset, mostly a little more than the length.
+fn gap(random: &mut Random, length: u64, base: u64) -> u64 {
+    let blocking = random.below(12) * 10 + 54;
+    match random.below(12) {
+        0 => 0,
+        1 => length - 1,
+        2 => length,
+        3 => length + 1,
+        4 => length + blocking,
+        5 => length + blocking + 1,
+        6 => random.below(base / 3 + 1),
+        _ => length + random.below(60),
+    }
+}
+
+/// Few frames with different periods that nearly fill the bus.
+pub fn dense(random: &mut Random, most: u64) -> Vec<Row> {
+    let kinds = random.kinds();
+    let count = random.between(2, most);
+    let mut rows: Vec<Row> = Vec::new();
+    for node in random.nodes(count) {
+        let mut row = random.frame(node, kinds);
+        row[PERIOD] = random.between(75, 125) as u32;
+        if let Some(last) = rows.last().filter(|_| random.percent(20)) {
+            row[NODE] = last[NODE];
+            row[PERIOD] = last[PERIOD];
+        }
+        rows.push(row);
+    }
+    let weight = |row: &Row| bounds::length(row) * 1000 / u64::from(row[PERIOD]);
+    let load: u64 = rows.iter().map(weight).sum();
+    let target = random.between(950, 1001);
+    for row in &mut rows {
+        let period = u64::from(row[PERIOD]) * load / target;
+        row[PERIOD] = period.max(1) as u32;
+        row[OFFSET] = random.below(u64::from(row[PERIOD])) as u32;
+    }
+    finish(random, rows)
+}
+
+/// Nodes with a period and a multiple of it, so that alignments are many.
+pub fn stretched(random: &mut Random, nodes: u64, multiple: u64, base: u64) -> Vec<Row> {
+    let kinds = random.kinds();
+    let mut rows = Vec::new();
+    for node in random.nodes(nodes) {
+        let period = random.between(base, 2 * base);
+        for times in [1, random.between(1, multiple)] {
+            let mut row = random.frame(node, kinds);
+            row[PERIOD] = (period * times) as u32;
+            row[OFFSET] = random.below(period * times) as u32;
+            rows.push(row);
+        }
+    }
+    finish(random, rows)
+}
+
+/// Gives identifiers and mixes the lines.
+fn finish(random: &mut Random, mut rows: Vec<Row>) -> Vec<Row> {
+    let narrow = random.percent(60);
+    let mut used = Vec::new();
+    for row in &mut rows {
+        let range = match (narrow, row[KIND]) {
+            (true, _) => 70,
+            (false, 11) => 2048,
+            (false, _) => 536_870_912,
+        };
+        row[IDENTIFIER] = random.below(range) as u32;
+        while used.contains(&(row[KIND], row[IDENTIFIER])) {
+            row[IDENTIFIER] = random.below(range) as u32;
+        }
+        used.push((row[KIND], row[IDENTIFIER]));
+    }
+    random.shuffle(&mut rows);
+    rows
+}
+
+/// Sets the claim of a row at, beside or away from its bounds.
+pub fn set_claim(random: &mut Random, rows: &mut [Row], row: usize, limits: Limits) {
+    let view = View::new(rows, row);
+    let Some(rough) = view.rough(limits.window) else {
+        return;
+    };
+    let rough = rough.response;
+    let exact = if view.scenario_count() > limits.scenarios {
+        random.between(1, rough)
+    } else {
+        view.exact_pruned(limits.window).unwrap_or(rough)
+    };
+    let claim = match random.below(8) {
+        0 => rough,
+        1 => rough - 1,
+        2 => exact,
+        3 => exact - 1,
+        4 => exact + 1,
+        5 => random.between(exact, rough),
+        6 => random.between(1, exact),
+        _ => random.between(1, 2 * rough),
+    };
+    rows[row][CLAIM] = claim.clamp(1, 1_000_000) as u32;
+}

@@ -1,0 +1,95 @@
+//! Small random tables through the fast, the pruned and the tick-by-tick path.
+
+use crate::bounds::View;
+use crate::judgement::{judge_row, Limits};
+use crate::literal;
+use crate::random::{clustered, dense, set_claim, stretched, Random};
+use crate::table::{self, Row};
+
+const MOST_SCENARIOS: u64 = 150;
+
+#[derive(Default)]
+struct Tally {
+    tables: u64,
+    rows: u64,
+    differences: u64,
+    verdicts: [u64; 13],
+    apart: u64,
+    later_queueings: u64,
+    rough_only_without_window: u64,
+}
+
+/// Prints the result; true if nothing differs.
+pub fn self_check(seed: u64, count: u64) -> bool {
+    let mut random = Random::new(seed);
+    let mut tally = Tally::default();
+    while tally.tables < count {
+        let mut rows = small_table(&mut random);
+        if !cheap(&rows) {
+            continue;
+        }
+        let limits = Limits {
+            window: random.pick(&[400, 1000, 2000, 4000, 4000]),
+            scenarios: random.pick(&[12, 65_536, 65_536, 65_536]),
+        };
+        tally.tables += 1;
+        for row in 0..rows.len() {
+            set_claim(&mut random, &mut rows, row, limits);
+            compare(&rows, row, limits, &mut tally);
+        }
+    }
+    tally.print();
+    tally.differences == 0
+}
+
+fn small_table(random: &mut Random) -> Vec<Row> {
+    let nodes = random.between(1, 3);
+    match random.below(10) {
+        0..=3 => clustered(random, nodes.max(2), 5, (110, 500)),
+        4 => clustered(random, nodes.max(2), 4, (88, 100)),
+        5..=7 => dense(random, 4),
+        8 => stretched(random, nodes, 6, 250),
+        _ => stretched(random, nodes, 9, 1),
+    }
+}
+
+fn cheap(rows: &[Row]) -> bool {
+    let count = |row| View::new(rows, row).scenario_count();
+    table::check(&rows.concat()).is_ok() && (0..rows.len()).all(|row| count(row) <= MOST_SCENARIOS)
+}
+
+fn compare(rows: &[Row], row: usize, limits: Limits, tally: &mut Tally) {
+    let view = View::new(rows, row);
+    let rough = view.rough(limits.window);
+    let exact = view.exact(limits.window);
+    let fast = (rough.map(|w| w.response), exact.map(|w| w.response));
+    let pruned = rough.and_then(|_| view.exact_pruned(limits.window));
+    let judgement = judge_row(rows, row, limits);
+    let slow = literal::answer(rows, row, limits);
+    let same = fast == (slow.rough, slow.exact)
+        && (rough.is_none() || pruned == slow.exact)
+        && view.scenario_count() == slow.scenarios
+        && judgement == slow.judgement;
+    tally.rows += 1;
+    if !same {
+        tally.differences += 1;
+        eprintln!("row {row} differs in {rows:?}");
+    }
+    tally.verdicts[judgement.verdict as usize] += 1;
+    tally.apart += u64::from(fast.0 != fast.1);
+    tally.later_queueings += u64::from(exact.is_some_and(|worst| worst.q > 1));
+    tally.rough_only_without_window += u64::from(rough.is_none() && exact.is_some());
+}
+
+impl Tally {
+    fn print(&self) {
+        for verdict in [1, 2, 3, 11, 12] {
+            eprintln!("verdict {verdict:>2}: {}", self.verdicts[verdict]);
+        }
+        eprintln!("rough and exact bound differ: {}", self.apart);
+        eprintln!("exact bound by a later q only: {}", self.later_queueings);
+        eprintln!("only the rough bound has no window: {}", self.rough_only_without_window);
+        let Tally { tables, rows, .. } = self;
+        println!("{tables} tables, {rows} rows, {} differences", self.differences);
+    }
+}
