@@ -1,10 +1,10 @@
 -- The checks on tables and their order (document 01, "Where a call is turned back").
 -- A table is given by its fields: those of a file as Text.antt has them, or the numbers in memory.
-use Prim.Native.Nat.{ℕ, zero, suc, _+_, _-_, _*_, _/_, _%_, _≤_, _<_}
+use Prim.Native.Nat.{ℕ, zero, suc, _+_, _-_, _/_, _%_}
 use mathlib.Core.Bool.{Bool, cond, not, _&&_, _||_}
 use mathlib.Core.List.{List}
 use lib.ListN.{length}
-use lib.Dec.{ltb, leb, eqb}
+use lib.Dec.{ltb, eqb}
 use Rattle.arith.specs.Lists.{exists, range}
 use Rattle.bus_model.specs.declared.Frame.{Frame}
 use Rattle.bus_model.specs.Pattern.{ofNode, hyperperiod, patternReleases}

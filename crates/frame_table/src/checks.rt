@@ -36,7 +36,7 @@ fn fail(cause: Cause, place: u32) -> Checked
 }
 
 // The check of a file's length.
-pub fn file_size(size: usize) -> Checked
+pub fn check_length(size: usize) -> Checked
     ensures { λ r. ⌜ r ≡ fileSizeCheck size ⌝ }
 {
     if size == 0 {

@@ -4,6 +4,7 @@ mod checks;
 mod frames;
 mod text;
 
+pub use checks::check_length;
 pub use frames::frame;
 pub use frames::largest_length;
 pub use frames::priority;
@@ -105,7 +106,7 @@ pub fn read(file: &[u8], rows: &mut [u32]) -> Answer
     ensures { λ r. ⌜ r ≡ answerFor (readCheck (now (file .entry))) (fieldsOf (now (file .entry))) (now (rows .entry)) ⌝ }
     ensures { λ r. ⌜ now (rows .exit) ≡ areaAfter r (fieldsOf (now (file .entry))) (now (rows .entry)) ⌝ }
 {
-    let sized = checks::file_size(file.len());
+    let sized = checks::check_length(file.len());
     match sized {
         Checked::Failed(refusal) => Answer::Refused(refusal),
         Checked::Passed => read_lines(file, rows),

@@ -5,8 +5,8 @@ use Rattle.frame_table.specs.Table.{readCheck}
 use Rattle.frame_table.proofs.read.Statement.{statement}
 use Rattle.frame_table.proofs.read.Tie as tie
 
-file-size-requires : tie.Need-file-size-requires
-file-size-requires c κs = search needs
+check-length-requires : tie.Need-check-length-requires
+check-length-requires c κs = search needs
 
 enum-known-sized : tie.Need-enum-known-sized
 enum-known-sized c = search needs
@@ -15,11 +15,11 @@ enum-told : tie.Need-enum-told
 enum-told c = search needs
 
 read-lines-requires : tie.Need-read-lines-requires
-read-lines-requires c κs = sym (c .before .before .before .file-size .ensures) ∙ c .before .enum-told .given .1
+read-lines-requires c κs = sym (c .before .before .before .check-length .ensures) ∙ c .before .enum-told .given .1
 
 returns : tie.Need-returns
 unfolding readCheck
-returns c = (rw (← c .before .before .before .file-size .ensures, c .before .sized .given .1), refl)
+returns c = (rw (← c .before .before .before .check-length .ensures, c .before .sized .given .1), refl)
 
 same-length : tie.Need-same-length
 same-length c = search needs
@@ -29,13 +29,13 @@ unfolding readCheck
 returns-2 c =
     let at-told = c .before .before .before .before in
     let lines = c .before .before .read-lines .ensures in
-    (rw (← at-told .before .before .file-size .ensures, at-told .enum-told .given .1) (lines .0), lines .1)
+    (rw (← at-told .before .before .check-length .ensures, at-told .enum-told .given .1) (lines .0), lines .1)
 
 pub read-spec : {M : Type 1} → statement M
 read-spec =
     tie.close
     (tie.spec
-    file-size-requires
+    check-length-requires
     enum-known-sized
     enum-told
     read-lines-requires

@@ -1,9 +1,9 @@
--- `frame_table::checks::file_size` meets its contract: the tests stand in the order of the causes.
+-- `frame_table::checks::check_length` meets its contract: the tests stand in the order of the causes.
 use borrow.Author.Tests.{eq-eqb, ne-eqb, lt-ltb, le-ltb}
 use borrow.Author.Needs.{needs}
 use Rattle.frame_table.specs.Checks.{fileSizeCheck}
-use Rattle.frame_table.proofs.checks.file_size.Statement.{statement}
-use Rattle.frame_table.proofs.checks.file_size.Tie as tie
+use Rattle.frame_table.proofs.checks.check_length.Statement.{statement}
+use Rattle.frame_table.proofs.checks.check_length.Tie as tie
 
 fail-requires : tie.Need-fail-requires
 fail-requires c κs = search needs
@@ -30,7 +30,7 @@ returns-4 : tie.Need-returns-4
 unfolding fileSizeCheck
 returns-4 c = simp (ne-eqb _ _ (c .before .before .if1 .left), eq-eqb _ _ (c .before .if2 .left), le-ltb _ _ (c .if3 .left))
 
-pub file-size-spec : {M : Type 1} → statement M
-file-size-spec =
+pub check-length-spec : {M : Type 1} → statement M
+check-length-spec =
     tie.close
     (tie.spec fail-requires returns fail-requires-2 returns-2 fail-requires-3 returns-3 returns-4)
