@@ -1,76 +1,35 @@
 -- A node's hyperperiod and its releases, as the loops over the rows find them.
-use Prim.Native.Nat.{ℕ, zero, suc, min, _+_, _-_, _*_, _/_, _≤_, _<_}
+use Prim.Native.Nat.{ℕ, min, _+_, _-_, _*_, _/_, _≤_, _<_}
 use mathlib.Core.Path.{_≡_, refl, sym, ap, _∙_}
 use mathlib.Core.Bool.{Bool, true, false, cond}
 use mathlib.Core.List.{List, _∷_}
-use native.Mathlib.Nat.{le-refl, add-zero, div-le-self}
+use native.Mathlib.Nat.{add-zero, div-le-self}
 use native.Mathlib.Omega.{arith}
 use lib.Dec.{eqb}
 use lib.ListN.{length, getD}
 use borrow.Author.Tests.{lt-ltb, le-ltb}
 use Rattle.arith.specs.Lists.{sum, keep}
-use Rattle.arith.specs.Multiples.{lcm, lcmOf}
-use Rattle.arith.specs.laws.Members.{fold-keep}
+use Rattle.arith.specs.Multiples.{lcm}
 use Rattle.arith.specs.laws.Sums.{sum-keep}
-use Rattle.arith.specs.laws.Multiples.{lcm-ge-second}
 use Rattle.bus_model.specs.declared.Frame.{Frame}
-use Rattle.bus_model.specs.Pattern.{ofNode, hyperperiod, patternReleases}
+use Rattle.bus_model.specs.Pattern.{ofNode, patternReleases}
 use Rattle.frame_table.specs.declared.Cause.the-variants.{Hyperperiod, Releases}
 use Rattle.frame_table.specs.declared.Checked.the-variants.{Passed}
 use Rattle.frame_table.specs.Columns.{field}
-use Rattle.frame_table.specs.Frames.{frameAt, framesOf}
+use Rattle.frame_table.specs.Frames.{frameAt}
 use Rattle.frame_table.specs.Refusal.{failed}
 use Rattle.frame_table.specs.Checks.{nodeCheck}
 use Rattle.frame_table.specs.Steps.{Periods}
-use Rattle.frame_table.specs.laws.Rows.{Folded, folded-none, folded-more, folded-all}
+use Rattle.frame_table.specs.laws.Rows.{Folded, folded-none, folded-more}
+use Rattle.frame_table.specs.laws.Hyperperiod.{hyperOf, hyper-more}
 
 -- ---- the hyperperiod
 
--- of node j's frames among some
-abbrev pub hyperOf : ℕ → List Frame → ℕ
-hyperOf j gs = hyperperiod (ofNode gs j)
-
--- what a frame more makes of it
-abbrev joinOf : ℕ → Frame → ℕ → ℕ
-joinOf j g h = cond (eqb (g .node) j) (lcm (g .period) h) h
-
-hyper-cons : (j : ℕ) (g : Frame) (gs : List Frame) → hyperOf j (g ∷ gs) ≡ joinOf j g (hyperOf j gs)
-unfolding ofNode
-hyper-cons j g gs = fold-keep hyperperiod (λ x. lcm (x .period)) (λ x xs. unfold hyperperiod lcmOf in refl) _ g gs
-
-join-ge : (j : ℕ) (g : Frame) (h : ℕ) → 0 < g .period → h ≤ joinOf j g h
-join-ge j g h pos = go (eqb (g .node) j)
-  where
-    go : (b : Bool) → h ≤ cond b (lcm (g .period) h) h
-    go true = lcm-ge-second (g .period) h pos
-    go false = le-refl h
-
-module _ (t : List ℕ) (j : ℕ) where
-  -- The loop starts at 1.
-  pub hyper-none : Folded (hyperOf j) t 1 (length t / 7)
-  unfolding hyperperiod lcmOf ofNode keep
-  hyper-none = folded-none (hyperOf j) t 1 refl
-
-  module _ (periods : Periods t) where
-    join-row : (i h : ℕ) → i < length t / 7 → h ≤ joinOf j (frameAt t i) h
-    unfolding frameAt Periods
-    join-row i h l = join-ge j (frameAt t i) h (periods i l .0)
-
-    -- It takes one row more, which never lowers the hyperperiod.
-    pub hyper-more : (i h r : ℕ) → Folded (hyperOf j) t h i → 0 < i
-        → r ≡ cond (eqb (getD t (7 * (i - 1)) 0) j) (lcm (field t (i - 1) 4) h) h → Folded (hyperOf j) t r (i - 1) × (h ≤ r)
-    unfolding frameAt
-    hyper-more i h r f pos e =
-        let is : r ≡ joinOf j (frameAt t (i - 1)) h = rw add-zero e in
-        (folded-more (hyperOf j) t (joinOf j) (hyper-cons j) i _ h r f pos refl is, rw is (join-row (i - 1) h (omega (arith, f .inside))))
-
-    -- So that of the rows read is at most that of all.
-    pub hyper-le : (i h : ℕ) → Folded (hyperOf j) t h i → h ≤ hyperOf j (framesOf t)
-    hyper-le zero h f = omega (arith, folded-all (hyperOf j) t h zero f (le-refl zero))
-    hyper-le (suc i) h f =
-        let s : suc i - 1 ≡ i = omega arith in
-        let next = folded-more (hyperOf j) t (joinOf j) (hyper-cons j) (suc i) _ h _ f (omega arith) refl refl in
-        omega (arith, join-row i h (f .inside), hyper-le i _ (rw s at next))
+-- The loop takes one row more, whose numbers it reads.
+pub hyper-row : (t : List ℕ) (j : ℕ) → Periods t → (i h r : ℕ) → Folded (hyperOf j) t h i → 0 < i
+    → r ≡ cond (eqb (getD t (7 * (i - 1)) 0) j) (lcm (field t (i - 1) 4) h) h → Folded (hyperOf j) t r (i - 1) × (h ≤ r)
+unfolding frameAt
+hyper-row t j periods i h r f pos e = hyper-more t j periods i _ h r f pos refl (rw add-zero e)
 
 -- ---- the releases in a hyperperiod of h ticks
 

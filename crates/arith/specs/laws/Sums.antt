@@ -1,14 +1,14 @@
--- Laws of sums and greatest values, over lists and over the places of a list.
+-- Laws of sums, products and greatest values, over lists and over the places of a list.
 -- A sum over what a test keeps is a sum over the whole list in which the rest counts 0.
-use Prim.Native.Nat.{ℕ, zero, suc, _+_, _≤_, _<_}
-use mathlib.Core.Path.{_≡_, refl, sym, _∙_, ap}
+use Prim.Native.Nat.{ℕ, zero, suc, _+_, _*_, _≤_, _<_}
+use mathlib.Core.Path.{_≡_, refl, sym, _∙_, ap, ap₂}
 use mathlib.Core.List.{List, [], _∷_, List·Memᴰ as Mem, List·Memᴰ·head as here, List·Memᴰ·tail as there}
 use mathlib.Core.Bool.{Bool, true, false, cond}
 use mathlib.Core.Logic.{_≢_}
 use native.Mathlib.Omega.{arith}
 use native.Mathlib.Decide.{ℕ-discrete, decLt}
 use lib.ListN.{length, getD}
-use Rattle.arith.specs.Lists.{sum, greatest, keep, range}
+use Rattle.arith.specs.Lists.{sum, product, greatest, keep, range}
 use Rattle.arith.specs.laws.Members.{of-range}
 
 module _ {A : Type 0} where
@@ -96,3 +96,9 @@ pub sum-places : {A : Type 0} (f : A → ℕ) (d : A) (xs : List A) → sum f xs
 unfolding sum range
 sum-places f d [] = refl
 sum-places f d (x ∷ xs) = ap (λ (s : ℕ). f x + s) (sum-places f d xs ∙ sym (range-shift (λ i. f (getD (x ∷ xs) i d)) 0 (length xs)))
+
+-- A product over a range, moved by one.
+pub product-shift : (f g : ℕ → ℕ) (n m : ℕ) → ((i : ℕ) → n ≤ i → i < n + m → f i ≡ g (suc i)) → product f (range n m) ≡ product g (range (suc n) m)
+unfolding product range
+product-shift f g n zero same = refl
+product-shift f g n (suc m) same = ap₂ _*_ (same n (omega arith) (omega arith)) (product-shift f g (suc n) m (λ i low high. same i (omega arith) (omega arith)))

@@ -3,7 +3,7 @@
 -- and `rest` is what is left: sums, products, greatest values, counts and tests are each an F and a join.
 use Prim.Native.Nat.{ℕ, zero, suc, _+_, _-_, _*_, _≤_, _<_, min, max}
 use mathlib.Core.Path.{_≡_, refl, sym, _∙_}
-use mathlib.Core.List.{List, [], _∷_}
+use mathlib.Core.List.{List, [], _∷_, _++_}
 use mathlib.Core.Bool.{Bool, true, false, cond, _||_}
 use native.Mathlib.Nat.{sub-zero, mul-assoc, mul-zero, mul-suc}
 use native.Mathlib.Numerals.{add-one}
@@ -11,7 +11,7 @@ use native.Mathlib.Decide.{decLe}
 use native.Mathlib.Omega.{arith}
 use lib.Dec.{T}
 use lib.ListN.{length, getD, drop, drop-of-length-le}
-use lib.Seq.{drop-cons}
+use lib.Seq.{drop-cons, append-snoc}
 use Rattle.arith.specs.Lists.{sum, product, greatest, keep, exists, range}
 use Rattle.arith.specs.Least.{least}
 use Rattle.arith.specs.laws.Least.{least-within}
@@ -49,6 +49,15 @@ module _ {X : Type 0} where
       → min m (done * product f (a ∷ xs)) ≡ min m (next * product f xs)
   unfolding product
   product-more f m done a e xs = rw (e, cut-mul m (done * f a) (product f xs), mul-assoc done (f a) (product f xs))
+
+  -- a selection
+  pub keep-more : (p : X → Bool) (done : List X) (a : X) {next : List X} → p a ≡ true → next ≡ done ++ (a ∷ []) → (xs : List X) → done ++ keep p (a ∷ xs) ≡ next ++ keep p xs
+  unfolding keep
+  keep-more p done a t e xs = rw (e, t) (sym (append-snoc done a (keep p xs)))
+
+  pub keep-less : (p : X → Bool) (done : List X) (a : X) → p a ≡ false → (xs : List X) → done ++ keep p (a ∷ xs) ≡ done ++ keep p xs
+  unfolding keep
+  keep-less p done a f xs = rw f
 
   -- a test that fails
   pub exists-more : (q : X → Bool) (a : X) → ¬ T (q a) → (xs : List X) → exists q (a ∷ xs) ≡ exists q xs
@@ -127,6 +136,19 @@ module _ (p : ℕ → Bool) where
   -- There are none where it finds none.
   pub keep-end : (e n : ℕ) → least p (e - n) n ≡ Nothing → keep p (range n (e - n)) ≡ []
   keep-end e n none = kept-none (e - n) n none
+
+-- A loop through a range may go from one of them to the next.
+module _ {A B : Type 0} (F : List ℕ → B) (join : A → B → B) (p : ℕ → Bool) (e : ℕ) (goal : B) where
+  pub count-next : {done next : A} {n b : ℕ} {found : Found} → CountUp (λ ns. F (keep p ns)) join e goal done n → found ≡ least p (e - n) n → found ≡ At b
+      → ((xs : List ℕ) → join done (F (b ∷ xs)) ≡ join next (F xs)) → CountUp (λ ns. F (keep p ns)) join e goal next (b + 1)
+  count-next {n = n} {b} c is at step =
+      let (low, high, t) = least-within p e (sym is ∙ at) in
+      record { inside = omega arith; is = rw add-one (sym (step _) ∙ (rw (keep-next p e n b (sym is ∙ at)) at (c .is))) }
+
+  -- It ends where none is left.
+  pub count-none : {done : A} {n : ℕ} {found : Found} → CountUp (λ ns. F (keep p ns)) join e goal done n → found ≡ least p (e - n) n → found ≡ Nothing
+      → join done (F []) ≡ goal
+  count-none {n = n} c is none = rw (keep-end p e n (sym is ∙ none)) at (c .is)
 
 -- The walk stands at a, the first of what is left.
 pub record Walk {A B : Type 0} (F : List ℕ → B) (join : A → B → B) (p : ℕ → Bool) (e : ℕ) (goal : B) (done : A) (a : ℕ) : Type 0 where

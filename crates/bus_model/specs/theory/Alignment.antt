@@ -33,7 +33,7 @@ both true false s t = t
 both false c s t = s
 
 -- A frame is released at each number that leaves its phase as the remainder.
-released-at : (g : Frame) (a : ℕ) → a % (g .period) ≡ phase g → T (isReleasedAt a g)
+pub released-at : (g : Frame) (a : ℕ) → a % (g .period) ≡ phase g → T (isReleasedAt a g)
 unfolding isReleasedAt
 released-at g a rest =
     let p = g .period in
@@ -61,6 +61,21 @@ instant-aligned {fs} valid k j {g} m l below =
     let own = valid-frame valid (of-ahead fs k (of-node (ahead fs k) j l .0)) in
     mem-alignments fs k j (phase g + m * g .period) l below (add-mul-mod-self-right (phase g) m (g .period) ∙ mod-eq-of-lt (phase-fits own))
 
+-- two tests that pass together pass
+halves : (b c : Bool) → T (b && c) → T b × T c
+halves true true t = (tt, tt)
+halves true false t = absurd t
+halves false c t = absurd t
+
+-- A frame is released at instants o + m×p only.
+pub released-turn : (g : Frame) (a : ℕ) → T (isReleasedAt a g) → (m : ℕ) × (a ≡ phase g + m * g .period)
+unfolding isReleasedAt
+released-turn g a t =
+    let (late, whole) = halves (leb (phase g) a) (eqb ((a - phase g) % g .period) 0) t in
+    let after = leb→le (phase g) a late in
+    let rest = eqb→eq ((a - phase g) % g .period) 0 whole in
+    ((a - phase g) / g .period, omega (arith, mod-add-div' (a - phase g) (g .period)))
+
 -- An instant of one of the node's frames ahead, below its hyperperiod.
 pub record Instant (fs : List Frame) (k : Frame) (j a : ℕ) : Type 0 where
   pub below : a < hyperperiod (ofNode fs j)
@@ -69,29 +84,15 @@ pub record Instant (fs : List Frame) (k : Frame) (j a : ℕ) : Type 0 where
   pub turn : ℕ
   pub is : a ≡ phase frame + turn * frame .period
 
--- and the other way round
-halves : (b c : Bool) → T (b && c) → T b × T c
-halves true true t = (tt, tt)
-halves true false t = absurd t
-halves false c t = absurd t
-
 -- Every alignment is one.
 pub aligned-instant : (fs : List Frame) (k : Frame) (j : ℕ) {a : ℕ} → Mem a (alignments fs k j) → Instant fs k j a
-unfolding alignments isReleasedAt
+unfolding alignments
 aligned-instant fs k j {a} m =
     let (r, t) = of-keep _ (range 0 (hyperperiod (ofNode fs j))) m in
     let (low, high) = of-range 0 (hyperperiod (ofNode fs j)) r in
     let (g, l, u) = of-exists (isReleasedAt a) (ofNode (ahead fs k) j) t in
-    let (late, whole) = halves (leb (phase g) a) (eqb ((a - phase g) % g .period) 0) u in
-    let after = leb→le (phase g) a late in
-    let rest = eqb→eq ((a - phase g) % g .period) 0 whole in
-    record {
-      below = omega arith;
-      frame = g;
-      listed = l;
-      turn = (a - phase g) / g .period;
-      is = omega (arith, mod-add-div' (a - phase g) (g .period));
-    }
+    let (n, is) = released-turn g a u in
+    record { below = omega arith; frame = g; listed = l; turn = n; is = is }
 
 -- There is an alignment for the bounds to look at.
 some-alignment : (als : List ℕ) → (a : ℕ) × Mem a (orEmpty als)

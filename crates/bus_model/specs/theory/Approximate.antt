@@ -99,7 +99,7 @@ module _ (fs : List Frame) (k : Frame) (cs : List Choice) where
       go Nothing e = rw (found-none e, e)
 
   -- It is what the scenario counts with.
-  found-counts : orZero (scenarioFound fs k cs) ≡ scenarioResponse fs k cs
+  pub found-counts : orZero (scenarioFound fs k cs) ≡ scenarioResponse fs k cs
   unfolding orZero
   found-counts = go (busyWindow fs k cs) refl
     where

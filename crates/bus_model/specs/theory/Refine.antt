@@ -43,11 +43,11 @@ free = replicate nodes Any
 
 module _ (cs : List Choice) {j : ℕ} (listed : Mem j (range 1 nodes)) where
   -- It has that alignment.
-  set-same : (a : ℕ) → length cs ≡ nodes → choiceOf (set cs (j - 1) (Fixed a)) j ≡ Fixed a
+  pub set-same : (a : ℕ) → length cs ≡ nodes → choiceOf (set cs (j - 1) (Fixed a)) j ≡ Fixed a
   set-same a long = let (low, high) = of-range 1 nodes listed in getD-set-same cs (j - 1) (Fixed a) Any (omega arith)
 
   -- The others stand as before.
-  set-other : (a : ℕ) {i : ℕ} → Mem i (range 1 nodes) → i ≢ j → choiceOf (set cs (j - 1) (Fixed a)) i ≡ choiceOf cs i
+  pub set-other : (a : ℕ) {i : ℕ} → Mem i (range 1 nodes) → i ≢ j → choiceOf (set cs (j - 1) (Fixed a)) i ≡ choiceOf cs i
   set-other a {i} m other =
       let (low, high) = of-range 1 nodes listed in
       let (i-low, i-high) = of-range 1 nodes m in
@@ -221,7 +221,7 @@ module _ (k : Frame) where
   node-after (suc i) some le = rw (le-ltb (suc i) (k .node) le) (omega arith)
 
   -- Two levels have two nodes.
-  node-apart : (i m : ℕ) → i < m → nodeAt k i ≢ nodeAt k m
+  pub node-apart : (i m : ℕ) → i < m → nodeAt k i ≢ nodeAt k m
   node-apart zero m less e =
       elim (decLt m (k .node)) [
         | yes low ↦ omega (arith, node-first, node-before m less low)

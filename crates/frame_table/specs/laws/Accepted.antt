@@ -13,7 +13,7 @@ use lib.Dec.{T, ltb, eqb}
 use lib.ListN.{length, getD, length-map}
 use Rattle.arith.specs.Lists.{exists, range}
 use Rattle.arith.specs.laws.Tests.{by-test}
-use Rattle.arith.specs.laws.Members.{getD-table, getD-beyond, exists-mem, mem-range}
+use Rattle.arith.specs.laws.Members.{length-range, getD-table, getD-beyond, exists-mem, mem-range}
 use Rattle.bus_model.specs.declared.Frame.{Frame}
 use Rattle.bus_model.specs.Frame.{noFrame, row}
 use Rattle.bus_model.specs.Pattern.{ofNode, hyperperiod, patternReleases}
@@ -25,17 +25,13 @@ use Rattle.frame_table.specs.Frames.{priorityOf, frameAt, framesOf}
 use Rattle.frame_table.specs.Refusal.{failed}
 use Rattle.frame_table.specs.Checks.{rowsSizeCheck, columnsCheck, isSameFrame, standsEarlier, lineCheck, linesCheck, nodeCheck, nodesCheck, tableCheck}
 use Rattle.frame_table.specs.Table.{rowsCheck, Accepted}
+use Rattle.frame_table.specs.Steps.{Periods}
 use Rattle.frame_table.specs.laws.First.{first-passed, first-each}
-use Rattle.frame_table.specs.laws.Limits.{Limits, not-passed, line-limits, lines-each, identified-cases}
+use Rattle.frame_table.specs.laws.Limits.{Limits, not-passed, line-limits, lines-each, lines-periods, identified-cases}
 use Rattle.frame_table.specs.laws.Lengths.{length-bounds}
 use Rattle.frame_table.specs.laws.Sizes.{RowsSize, rows-size}
 
 -- ---- the frames of a table
-
-length-range : (n k : ℕ) → length (range n k) ≡ k
-unfolding range
-length-range n zero = refl
-length-range n (suc k) = ap suc (length-range (suc n) k)
 
 -- There is a frame for each row.
 pub length-frames : (t : List ℕ) → length (framesOf t) ≡ length t / 7
@@ -94,6 +90,9 @@ module _ (rows : List ℕ) (accepted : Accepted rows) where
   -- The numbers of each row are within their limits.
   pub accepted-limits : (i : ℕ) → i < length rows / 7 → Limits rows i
   accepted-limits = lines-each rows lines-passed
+
+  pub accepted-periods : Periods rows
+  accepted-periods = lines-periods rows lines-passed
 
   -- ---- patterns
 

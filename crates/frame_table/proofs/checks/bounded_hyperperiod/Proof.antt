@@ -4,7 +4,8 @@ use native.Mathlib.Omega.{arith}
 use borrow.Author.Needs.{needs}
 use Rattle.frame_table.specs.Steps.{Periods}
 use Rattle.frame_table.specs.laws.Rows.{Folded, folded-all}
-use Rattle.frame_table.proofs.ChecksLaws.{hyperOf, hyper-none, hyper-more, hyper-le}
+use Rattle.frame_table.specs.laws.Hyperperiod.{hyperOf, hyper-none, hyper-le}
+use Rattle.frame_table.proofs.ChecksLaws.{hyper-row}
 use Rattle.frame_table.proofs.checks.bounded_hyperperiod.Statement.{statement}
 use Rattle.frame_table.proofs.checks.bounded_hyperperiod.Tie as tie
 
@@ -55,7 +56,7 @@ returns : tie.Need-returns Inv-loop μ-loop
 returns c =
     let at-loop = c .before .before .before .before .before in
     let s = at-loop .before .before in
-    let m = hyper-more _ _ (s .pre) _ _ _ (at-loop .loop .inv .0) (c .before .before .before .before .loop-test .taken) (c .before .joined .ensures) in
+    let m = hyper-row _ _ (s .pre) _ _ _ (at-loop .loop .inv .0) (c .before .before .before .before .loop-test .taken) (c .before .joined .ensures) in
     omega (arith, hyper-le _ _ (s .pre) _ _ (m .0), c .if1 .taken)
 
 loop-less : tie.Need-loop-less Inv-loop μ-loop
@@ -64,7 +65,7 @@ loop-less c = search needs
 loop-again : tie.Need-loop-again Inv-loop μ-loop
 loop-again c =
     let at-loop = c .before .before .before .before .before in
-    let m = hyper-more _ _ (at-loop .before .before .pre) _ _ _ (at-loop .loop .inv .0) (c .before .before .before .before .loop-test .taken) (c .before .joined .ensures) in
+    let m = hyper-row _ _ (at-loop .before .before .pre) _ _ _ (at-loop .loop .inv .0) (c .before .before .before .before .loop-test .taken) (c .before .joined .ensures) in
     (m .0, omega (arith, m .1, at-loop .loop .inv .1), c .if1 .left)
 
 returns-2 : tie.Need-returns-2 Inv-loop μ-loop

@@ -1,0 +1,129 @@
+-- The loop goes through the instances released in the window; each starts in the window, and no delay of the next one is below the end of this one,
+-- so its search starts there. The measure is how many instances are left.
+use Prim.Native.Nat.{_-_, _+_, _*_, _≤_, _<_}
+use native.Mathlib.Omega.{arith}
+use borrow.Author.Needs.{needs}
+use Rattle.frame_table.specs.Frames.{framesOf}
+use Rattle.response_time.specs.laws.Fine.{in-table-fine}
+use Rattle.response_time.specs.laws.Searches.{window-small, Windowed, Turn, turn-start, turn-fits, turn-ends, turn-more, turn-end}
+use Rattle.response_time.proofs.response.greatest_response.Statement.{statement}
+use Rattle.response_time.proofs.response.greatest_response.Tie as tie
+
+abbrev Inv-loop : tie.InvT-loop
+Inv-loop rows members counts ends k choices own blocked l d instances best₀ from₀ q₀ best from q =
+    Turn (framesOf rows) k choices l instances best from q
+
+abbrev μ-loop : tie.MeasureT-loop
+μ-loop rows members counts ends k choices own blocked l d instances best₀ from₀ q₀ best from q = instances - q
+
+distance-from-requires : tie.Need-distance-from-requires Inv-loop μ-loop
+distance-from-requires c κs = let s = c .before .before .before .before in in-table-fine _ (s .pre .0) (s .pre .1 .1 .0)
+
+releases-before-requires : tie.Need-releases-before-requires Inv-loop μ-loop
+releases-before-requires c κs =
+    let s = c .before .before .before .before .before in
+    let f = in-table-fine _ (s .pre .0) (s .pre .1 .1 .0) in
+    (f .period-low, f .period-high, omega (arith, window-small _ _ _ (s .pre .1 .1 .1 .2)))
+
+-- what the calls before the loop tell of the window
+window : (c : tie.After-releases-before Inv-loop μ-loop) →
+    let a = c .before .before .before .before .before .before .args in Windowed (a .rows .now) (a .k) (a .choices) (a .own) (a .l) (c .before .distance-from .result) (c .releases-before .result)
+window c =
+    let s = c .before .before .before .before .before .before in
+    record {
+      accepted = s .pre .0;
+      listed = s .pre .1 .1 .0;
+      fixed = s .pre .1 .1 .1 .0;
+      window = s .pre .1 .1 .1 .2;
+      away = c .before .distance-from .ensures .0;
+      number = c .releases-before .ensures .0;
+    }
+
+loop-holds : tie.Need-loop-holds Inv-loop μ-loop
+loop-holds c = turn-start (window c)
+
+-- what an instance waits for and its release are small
+fits : (c : tie.In-loop Inv-loop μ-loop) →
+    let a = c .before .before .before .before .before .before .before .before .args in
+    (a .blocked + c .before .loop .q * a .k .length ≤ 1000000) × (c .before .before .before .distance-from .result + c .before .loop .q * a .k .period < 1000000)
+fits c = rw (c .before .before .before .before .before .before .before .before .pre .1 .1 .1 .1) (turn-fits (window (c .before .before)) (c .before .loop .inv) (c .loop-test .taken))
+
+-- and so is its end
+ends : (c : tie.After-or-zero Inv-loop μ-loop) → c .or-zero .result + c .before .before .before .before .before .before .before .before .before .before .before .args .k .length ≤ 1000000
+ends c =
+    turn-ends (window (c .before .before .before .before .before)) (c .before .before .before .before .loop .inv) (c .before .before .before .loop-test .taken) (c .before .before .before .before .before .before .before .before .before .before .before .pre .1 .1 .1 .1) (c .before .settle .ensures) (c .or-zero .ensures)
+
+cast-base : tie.Need-cast-base Inv-loop μ-loop
+cast-base c = search needs
+
+cast-base-2 : tie.Need-cast-base-2 Inv-loop μ-loop
+cast-base-2 c = search needs
+
+mul-base : tie.Need-mul-base Inv-loop μ-loop
+mul-base c = omega (arith, fits (c .before) .0)
+
+add-base : tie.Need-add-base Inv-loop μ-loop
+add-base c = omega (arith, fits (c .before) .0)
+
+settle-requires : tie.Need-settle-requires Inv-loop μ-loop
+settle-requires c κs =
+    let s = c .before .before .before .before .before .before .before .before .before in
+    (s .pre .0, (s .pre .1 .0, (s .pre .1 .1 .0, (s .pre .1 .1 .1 .0, omega (arith, fits (c .before) .0), omega arith))))
+
+or-zero-requires : tie.Need-or-zero-requires Inv-loop μ-loop
+or-zero-requires c κs = search needs
+
+mul-response : tie.Need-mul-response Inv-loop μ-loop
+mul-response c = omega (arith, fits (c .before .before .before .before) .1)
+
+add-response : tie.Need-add-response Inv-loop μ-loop
+add-response c = omega (arith, fits (c .before .before .before .before) .1)
+
+response-requires : tie.Need-response-requires Inv-loop μ-loop
+response-requires c κs =
+    let s = c .before .before .before .before .before .before .before .before .before .before .before .before in
+    (omega (arith, ends (c .before)), in-table-fine _ (s .pre .0) (s .pre .1 .1 .0) .length-high)
+
+bigger-requires : tie.Need-bigger-requires Inv-loop μ-loop
+bigger-requires c κs = search needs
+
+add-from : tie.Need-add-from Inv-loop μ-loop
+add-from c = omega (arith, ends (c .before .before .before .before))
+
+add-q : tie.Need-add-q Inv-loop μ-loop
+add-q c = search needs
+
+loop-less : tie.Need-loop-less Inv-loop μ-loop
+loop-less c = search needs
+
+loop-again : tie.Need-loop-again Inv-loop μ-loop
+loop-again c =
+    turn-more (window (c .before .before .before .before .before .before .before .before .before)) (c .before .before .before .before .before .before .before .before .loop .inv) (c .before .before .before .before .before .before .before .loop-test .taken) (c .before .before .before .before .before .before .before .before .before .before .before .before .before .before .before .pre .1 .1 .1 .1) (c .before .before .before .before .before .settle .ensures) (c .before .before .before .before .or-zero .ensures) (c .before .before .response .ensures) (c .before .bigger .ensures)
+
+returns : tie.Need-returns Inv-loop μ-loop
+returns c = turn-end (c .before .loop .inv) (c .loop-test .left)
+
+pub greatest-response-spec : {M : Type 1} → statement M
+greatest-response-spec =
+    tie.close
+    (tie.spec
+    Inv-loop
+    μ-loop
+    distance-from-requires
+    releases-before-requires
+    loop-holds
+    cast-base
+    cast-base-2
+    mul-base
+    add-base
+    settle-requires
+    or-zero-requires
+    mul-response
+    add-response
+    response-requires
+    bigger-requires
+    add-from
+    add-q
+    loop-less
+    loop-again
+    returns)

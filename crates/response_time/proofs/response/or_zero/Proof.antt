@@ -1,0 +1,23 @@
+-- By the two answers of a search.
+use mathlib.Core.Path.{sym, ap}
+use borrow.Author.Needs.{needs}
+use Rattle.arith.specs.Least.{orZero}
+use Rattle.response_time.proofs.response.or_zero.Statement.{statement}
+use Rattle.response_time.proofs.response.or_zero.Tie as tie
+
+enum-known-found : tie.Need-enum-known-found
+enum-known-found c = search needs
+
+enum-told : tie.Need-enum-told
+enum-told c = search needs
+
+returns : tie.Need-returns
+unfolding orZero
+returns c = sym (ap orZero (c .before .found .given .1))
+
+returns-2 : tie.Need-returns-2
+unfolding orZero
+returns-2 c = sym (ap orZero (c .enum-told .given .1))
+
+pub or-zero-spec : {M : Type 1} → statement M
+or-zero-spec = tie.close (tie.spec enum-known-found enum-told returns returns-2)

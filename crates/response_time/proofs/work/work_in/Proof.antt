@@ -1,0 +1,89 @@
+-- The loop goes through the rows and adds up the demand of the frame in each.
+use Prim.Native.Nat.{ℕ, _+_, _-_, _*_, _≤_}
+use mathlib.Core.Path.{sym, ap, _∙_}
+use native.Mathlib.Omega.{arith}
+use native.Mathlib.Nat.{add-zero, zero-add}
+use borrow.Author.Needs.{needs}
+use lib.ListN.{length}
+use Rattle.arith.specs.Lists.{sum}
+use Rattle.arith.specs.laws.Walks.{Through, through-start, through-more, through-end, sum-more}
+use Rattle.bus_model.specs.declared.Frame.{Frame}
+use Rattle.bus_model.specs.Frame.{row}
+use Rattle.bus_model.specs.Bounds.{demand, workAt}
+use Rattle.frame_table.specs.Frames.{framesOf}
+use Rattle.response_time.specs.Grouped.{framesIn}
+use Rattle.response_time.specs.laws.Parts.{part-fine}
+use Rattle.response_time.proofs.work.work_in.Statement.{statement}
+use Rattle.response_time.proofs.work.work_in.Tie as tie
+
+abbrev Inv-loop : tie.InvT-loop
+Inv-loop rows part a n sum₀ i₀ sum i =
+    Through (λ ms. workAt (framesIn rows ms) a n) _+_ part (workAt (framesIn rows part) a n) sum i × (sum ≤ 400400400 * i)
+
+abbrev μ-loop : tie.MeasureT-loop
+μ-loop rows part a n sum₀ i₀ sum i = length part - i
+
+loop-holds : tie.Need-loop-holds Inv-loop μ-loop
+loop-holds c = (through-start _ _ _ _ (zero-add _), omega arith)
+
+shared-slice-read-index : tie.Need-shared-slice-read-index Inv-loop μ-loop
+shared-slice-read-index c = search needs
+
+index-requires : tie.Need-index-requires Inv-loop μ-loop
+index-requires c κs = search needs
+
+frame-requires : tie.Need-frame-requires Inv-loop μ-loop
+frame-requires c κs = search needs
+
+frame-demand-requires : tie.Need-frame-demand-requires Inv-loop μ-loop
+frame-demand-requires c κs =
+    let s = c .before .before .before .before .before .before .before in
+    (part-fine (s .pre .0) (c .before .before .before .loop-test .taken) (c .frame .ensures ∙ ap (row (framesOf _)) (c .before .index .ensures)), s .pre .1)
+
+add-sum : tie.Need-add-sum Inv-loop μ-loop
+add-sum c =
+    let s = c .before .before .before .before .before .before .before .before in
+    let l = c .before .before .before .before .before .loop in
+    omega (arith, l .inv .1, l .inv .0 .inside, c .frame-demand .ensures .1, s .pre .0 .few)
+
+add-i : tie.Need-add-i Inv-loop μ-loop
+add-i c = search needs
+
+loop-less : tie.Need-loop-less Inv-loop μ-loop
+loop-less c = search needs
+
+loop-again : tie.Need-loop-again Inv-loop μ-loop
+unfolding workAt
+loop-again c =
+    let l = c .before .before .before .before .before .loop in
+    let a = c .before .before .before .before .before .before .before .before .args in
+    let f : Frame → ℕ = λ g. demand g (a .a) (a .n) in
+    let read = c .before .frame .ensures ∙ ap (row (framesOf _)) (c .before .before .index .ensures) in (
+      through-more _ _ _ _ 0 (l .inv .0) (c .before .before .before .before .loop-test .taken)
+          (λ ms. sum-more f (l .sum) _ (ap (λ (x : ℕ). l .sum + x) (c .frame-demand .ensures .0 ∙ ap f read)) (framesIn (a .rows .now) ms)),
+      omega (arith, l .inv .1, c .frame-demand .ensures .1),
+    )
+
+returns : tie.Need-returns Inv-loop μ-loop
+unfolding workAt sum
+returns c =
+    let s = c .before .before .before .before in
+    let l = c .before .loop in
+    (sym (add-zero _) ∙ through-end _ _ _ _ (l .inv .0) (c .loop-test .left), omega (arith, l .inv .1, l .inv .0 .inside, s .pre .0 .few))
+
+pub work-in-spec : {M : Type 1} → statement M
+work-in-spec =
+    tie.close
+    (tie.spec
+    Inv-loop
+    μ-loop
+    loop-holds
+    shared-slice-read-index
+    index-requires
+    frame-requires
+    frame-demand-requires
+    add-sum
+    add-i
+    loop-less
+    loop-again
+    returns)

@@ -1,0 +1,6 @@
+-- What is proved of these definitions, for the proofs of the code.
+pub mod Fine
+pub mod Parts
+pub mod Groups
+pub mod Searches
+pub mod Levels

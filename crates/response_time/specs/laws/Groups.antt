@@ -1,0 +1,228 @@
+-- The rows of each node's frames ahead of k, as they are found and then read; and the lengths below k.
+use Prim.Native.Nat.{ℕ, _+_, _-_, _*_, _/_, _≤_, _<_, max}
+use mathlib.Core.Path.{_≡_, refl, sym, ap, _∙_}
+use mathlib.Core.Bool.{Bool, true, false, cond, _&&_}
+use mathlib.Core.List.{List, _∷_, _++_, append-nil}
+use native.Mathlib.Omega.{arith}
+use native.Mathlib.Numerals.{add-one}
+use lib.Dec.{eqb, leb}
+use lib.ListN.{length, getD, take, drop, set, length-set}
+use lib.Seq.{take-suc-set, getD-set-same, getD-set-other}
+use borrow.Author.Count.{below-more}
+use borrow.Rule.Slice.PartMut.{midOf, postOf, putMid, mid-len, same-len-mid}
+use Rattle.arith.specs.Lists.{greatest, keep, range}
+use Rattle.arith.specs.laws.Members.{of-keep, fold-keep, map-keep, keep-keep, list-places, part-before, part-written, getD-within}
+use Rattle.arith.specs.laws.Sums.{greatest-le}
+use Rattle.arith.specs.laws.Walks.{CountUp, count-start, count-more, count-end, keep-more, keep-less}
+use Rattle.arith.specs.laws.Multiples.{lcmOf-pos}
+use Rattle.bus_model.specs.declared.Frame.{Frame}
+use Rattle.bus_model.specs.declared.Choice.{Choice}
+use Rattle.bus_model.specs.declared.Choice.the-variants.{Fixed, Any}
+use Rattle.bus_model.specs.Frame.{noFrame, row}
+use Rattle.bus_model.specs.Pattern.{ofNode, hyperperiod}
+use Rattle.bus_model.specs.Bounds.{isAhead, isBelow, ahead, below, alignments, choiceOf, nodeWork}
+use Rattle.frame_table.specs.Frames.{frameAt, framesOf}
+use Rattle.frame_table.specs.Table.{Accepted}
+use Rattle.frame_table.specs.laws.Rows.{Folded, folded-none, folded-more}
+use Rattle.frame_table.specs.laws.Accepted.{length-frames, accepted-pattern}
+use Rattle.response_time.specs.Grouped.{FinePart, framesIn, instantsIn, partOf, Grouped}
+use Rattle.response_time.specs.laws.Fine.{member-fine, group-fine}
+
+-- ---- blocking
+
+-- the greatest length of the frames below k among some
+abbrev pub longestBelow : Frame → List Frame → ℕ
+longestBelow k gs = greatest (λ g. g .length) (below gs k)
+
+-- what a frame more makes of it
+abbrev longerOf : Frame → Frame → ℕ → ℕ
+longerOf k g n = cond (isBelow k g) (max (g .length) n) n
+
+longest-cons : (k g : Frame) (gs : List Frame) → longestBelow k (g ∷ gs) ≡ longerOf k g (longestBelow k gs)
+unfolding below
+longest-cons k g gs = fold-keep (greatest (λ (x : Frame). x .length)) (λ (x : Frame). max (x .length)) (λ x xs. unfold greatest in refl) (isBelow k) g gs
+
+module _ (t : List ℕ) (k : Frame) where
+  -- A loop over the rows starts at 0.
+  pub longest-none : Folded (longestBelow k) t 0 (length t / 7)
+  unfolding greatest below keep
+  longest-none = folded-none (longestBelow k) t 0 refl
+
+  -- It takes one row more.
+  pub longest-more : (i : ℕ) (g : Frame) (n r : ℕ) → Folded (longestBelow k) t n i → 0 < i → g ≡ frameAt t (i - 1) → r ≡ longerOf k g n
+      → Folded (longestBelow k) t r (i - 1)
+  longest-more = folded-more (longestBelow k) t (longerOf k) (longest-cons k)
+
+  -- In an accepted table it is small.
+  pub longest-small : Accepted t → longestBelow k (framesOf t) ≤ 400
+  unfolding below
+  longest-small accepted = greatest-le (below (framesOf t) k) (λ g m. member-fine t accepted (of-keep (isBelow k) (framesOf t) m .0) .length-high)
+
+-- ---- the rows of a node
+
+-- whether a frame is of the node and ahead of k
+abbrev isMember : Frame → ℕ → Frame → Bool
+isMember k node g = eqb (g .node) node && leb (g .priority) (k .priority)
+
+-- whether that in row i is
+abbrev rowBelongs : List ℕ → Frame → ℕ → ℕ → Bool
+rowBelongs rows k node i = isMember k node (row (framesOf rows) i)
+
+-- The rows that belong to the node have its frames ahead of k.
+rows-frames : (rows : List ℕ) (k : Frame) (node : ℕ) → framesIn rows (keep (rowBelongs rows k node) (range 0 (length rows / 7))) ≡ ofNode (ahead (framesOf rows) k) node
+unfolding ofNode ahead
+rows-frames rows k node =
+    map-keep (row (framesOf rows)) (isMember k node) (range 0 (length rows / 7))
+    ∙ rw (← length-frames rows, list-places noFrame (framesOf rows)) (sym (keep-keep (isAhead k) (λ g. eqb (g .node) node) (framesOf rows)))
+
+-- the rows found before row i stand at the start of the area
+pub record Gathered (rows : List ℕ) (k : Frame) (node : ℕ) (area : List ℕ) (count i : ℕ) : Type 0 where
+  pub size : length area ≡ 64
+  pub short : length rows ≤ 448
+  pub few : count ≤ i
+  pub found : CountUp (keep (rowBelongs rows k node)) _++_ (length rows / 7) (keep (rowBelongs rows k node) (range 0 (length rows / 7))) (take count area) i
+
+module _ {rows : List ℕ} {k : Frame} {node : ℕ} {area : List ℕ} where
+  -- Before the first row there are none.
+  pub gathered-none : length rows ≤ 448 → length area ≡ 64 → Gathered rows k node area 0 0
+  gathered-none short size = record { size = size; short = short; few = omega arith; found = count-start _ _ _ _ refl }
+
+  module _ {count i : ℕ} (s : Gathered rows k node area count i) where
+    -- There is room for one more.
+    pub gathered-room : i < length rows / 7 → count < 64
+    gathered-room l = omega (arith, s .few, s .short)
+
+    module _ (l : i < length rows / 7) (g : Frame) (b : Bool) (is : g ≡ row (framesOf rows) i) (test : b ≡ isMember k node g) where
+      tested : b ≡ rowBelongs rows k node i
+      tested = test ∙ ap (isMember k node) is
+
+      -- A row that belongs is put there.
+      pub gathered-put : {area′ : List ℕ} {count′ : ℕ} → b ≡ true → area′ ≡ set area count i → count′ ≡ count + 1 → Gathered rows k node area′ count′ (i + 1)
+      gathered-put t put more = rw (put, more) (record {
+        size = length-set area count i ∙ s .size;
+        short = s .short;
+        few = omega (arith, s .few);
+        found = count-more _ _ _ _ (s .found) l (keep-more _ (take count area) i {next = take (count + 1) (set area count i)} (sym tested ∙ t) (rw add-one (take-suc-set area count i (omega (arith, s .size, gathered-room l)))));
+      })
+
+      -- Any other is passed over.
+      pub gathered-skip : {area′ : List ℕ} {count′ : ℕ} → b ≡ false → area′ ≡ area → count′ ≡ count → Gathered rows k node area′ count′ (i + 1)
+      gathered-skip f same still = rw (same, still) (record {
+        size = s .size;
+        short = s .short;
+        few = omega (arith, s .few);
+        found = count-more _ _ _ _ (s .found) l (keep-less _ (take count area) i (sym tested ∙ f));
+      })
+
+    -- At the end all are found.
+    pub gathered-all : length rows / 7 ≤ i → (framesIn rows (take count area) ≡ ofNode (ahead (framesOf rows) k) node) × (count ≤ 64)
+    unfolding keep
+    gathered-all over =
+        let all = count-end _ _ _ _ (s .found) over in
+        (ap (framesIn rows) (sym (append-nil (take count area)) ∙ all) ∙ rows-frames rows k node, omega (arith, s .few, s .short, s .found .inside))
+
+-- ---- the groups of the first nodes
+
+-- the group of node i + 1 is filled
+pub record Filled (rows : List ℕ) (k : Frame) (members counts ends : List ℕ) (i : ℕ) : Type 0 where
+  pub few : getD counts i 0 ≤ 64
+  pub part : framesIn rows (take (getD counts i 0) (drop (64 * i) members)) ≡ ofNode (ahead (framesOf rows) k) (i + 1)
+  pub end : getD ends i 0 ≡ hyperperiod (ofNode (framesOf rows) (i + 1))
+
+-- the groups of the first m nodes are
+pub record FilledTo (rows : List ℕ) (k : Frame) (members counts ends : List ℕ) (m : ℕ) : Type 0 where
+  pub members-size : length members ≡ 1024
+  pub counts-size : length counts ≡ 16
+  pub ends-size : length ends ≡ 16
+  pub each : (i : ℕ) → i < m → Filled rows k members counts ends i
+
+module _ {rows : List ℕ} {k : Frame} {members counts ends : List ℕ} where
+  -- One group more is filled, from an area of its size.
+  pub filled-more : (m c h from to : ℕ) (area : List ℕ) → FilledTo rows k members counts ends m → m < 16 → from ≡ 64 * m → to ≡ from + 64
+      → length area ≡ length (midOf from (to - from) members) → c ≤ 64
+      → framesIn rows (take c area) ≡ ofNode (ahead (framesOf rows) k) (m + 1) → h ≡ hyperperiod (ofNode (framesOf rows) (m + 1))
+      → FilledTo rows k (putMid from (to - from) members area) (set counts m c) (set ends m h) (m + 1)
+  filled-more m c h from to area f l at wide size small frames hyper = record {
+    members-size = same-len-mid from (to - from) members area size ∙ f .members-size;
+    counts-size = length-set counts m c ∙ f .counts-size;
+    ends-size = length-set ends m h ∙ f .ends-size;
+    each = below-more _ _ old new;
+  }
+    where
+      inside : from ≤ length members
+      inside = omega (arith, f .members-size)
+
+      whole : length area ≡ 64
+      whole = size ∙ mid-len from to members (omega (arith, f .members-size)) ∙ omega arith
+
+      old : (i : ℕ) → i < m → Filled rows k (putMid from (to - from) members area) (set counts m c) (set ends m h) i
+      old i less = let g = f .each i less in record {
+        few = rw (getD-set-other counts m i c 0 (omega arith)) (g .few);
+        part = rw (getD-set-other counts m i c 0 (omega arith), part-before (getD counts i 0) (64 * i) from members (area ++ postOf from (to - from) members) (omega (arith, g .few)) inside) (g .part);
+        end = rw (getD-set-other ends m i h 0 (omega arith)) (g .end);
+      }
+
+      new : Filled rows k (putMid from (to - from) members area) (set counts m c) (set ends m h) m
+      new = record {
+        few = rw (getD-set-same counts m c 0 (omega (arith, f .counts-size))) small;
+        part = rw (getD-set-same counts m c 0 (omega (arith, f .counts-size)), ← at, part-written c from members area (postOf from (to - from) members) inside (omega (arith, whole))) frames;
+        end = rw (getD-set-same ends m h 0 (omega (arith, f .ends-size))) hyper;
+      }
+
+  -- At the end all are.
+  pub filled-all : (m : ℕ) → FilledTo rows k members counts ends m → 16 ≤ m → Grouped rows k members counts ends
+  filled-all m f over = record {
+    members-size = f .members-size;
+    counts-size = f .counts-size;
+    ends-size = f .ends-size;
+    few = λ j low high. f .each (j - 1) (omega arith) .few;
+    part = λ j low high. let same : j - 1 + 1 ≡ j = omega arith in rw same at (f .each (j - 1) (omega arith) .part);
+    end = λ j low high. let same : j - 1 + 1 ≡ j = omega arith in rw same at (f .each (j - 1) (omega arith) .end);
+  }
+
+-- ---- the group of a node
+
+module _ {rows : List ℕ} {k : Frame} {members counts ends : List ℕ} (g : Grouped rows k members counts ends) where
+  module _ (j : ℕ) (low : 1 ≤ j) (high : j ≤ 16) where
+    -- It gives the node's alignments.
+    pub group-alignments : instantsIn (framesIn rows (partOf members counts j)) (getD ends (j - 1) 0) ≡ alignments (framesOf rows) k j
+    unfolding alignments
+    group-alignments = rw (g .part j low high, g .end j low high)
+
+    -- Its hyperperiod is within its limits.
+    pub group-end : Accepted rows → (1 ≤ getD ends (j - 1) 0) × (getD ends (j - 1) 0 ≤ 1000000)
+    unfolding hyperperiod ofNode
+    group-end accepted =
+        rw (g .end j low high)
+        (lcmOf-pos (λ x. x .period) _ (λ x m. member-fine rows accepted (of-keep _ (framesOf rows) m .0) .period-low), accepted-pattern rows accepted j low high .0)
+
+  -- The same of node i + 1, whose part of the members the code lends so:
+  module _ (i : ℕ) (l : i < 16) where
+    abbrev lent : List ℕ
+    lent = take (64 * i + getD counts i 0 - 64 * i) (drop (64 * i) members)
+
+    size : 64 * i + getD counts i 0 - 64 * i ≡ getD counts i 0
+    size = omega arith
+
+    place : i + 1 - 1 ≡ i
+    place = omega arith
+
+    pub lent-few : getD counts i 0 ≤ 64
+    lent-few = rw place at (g .few (i + 1) (omega arith) (omega arith))
+
+    pub lent-fine : Accepted rows → FinePart rows lent × (getD ends i 0 ≤ 1000000)
+    lent-fine accepted = (
+      rw size (rw place at (group-fine rows accepted g (i + 1) (omega arith) (omega arith))),
+      rw place at (group-end (i + 1) (omega arith) (omega arith) accepted .1),
+    )
+
+    pub lent-frames : framesIn rows lent ≡ ofNode (ahead (framesOf rows) k) (i + 1)
+    lent-frames = rw size (rw place at (g .part (i + 1) (omega arith) (omega arith)))
+
+    pub lent-alignments : instantsIn (framesIn rows lent) (getD ends i 0) ≡ alignments (framesOf rows) k (i + 1)
+    lent-alignments = rw size (rw place at (group-alignments (i + 1) (omega arith) (omega arith)))
+
+    -- It gives the node's work.
+    pub lent-work : (cs : List Choice) (n : ℕ) {r : ℕ} → length cs ≡ 16 → r ≡ nodeWork (framesIn rows lent) (instantsIn (framesIn rows lent) (getD ends i 0)) (getD cs i (Fixed 0)) n
+        → r ≡ nodeWork (ofNode (ahead (framesOf rows) k) (i + 1)) (alignments (framesOf rows) k (i + 1)) (choiceOf cs (i + 1)) n
+    lent-work cs n all e = rw place (rw (lent-alignments, lent-frames, getD-within cs i (Fixed 0) Any (omega arith)) at e)

@@ -1,0 +1,228 @@
+-- What the searches for the bounds need: a node's rows as the code cuts them out of a group, their instants as the node's
+-- alignments, the greatest value over these as a loop finds it, and the choices of a search that goes one level on.
+use Prim.Native.Nat.{ℕ, _+_, _-_, _*_, _≤_, _<_, max}
+use mathlib.Core.Path.{_≡_, refl, sym, ap, subst, _∙_}
+use mathlib.Core.List.{List, [], List·Memᴰ as Mem, List·Memᴰ·head as here}
+use mathlib.Core.Bool.{Bool, false}
+use native.Mathlib.Omega.{arith}
+use native.Mathlib.Nat.{le-refl}
+use native.Mathlib.Decide.{ℕ-discrete}
+use lib.Dec.{T, lit<}
+use lib.ListN.{length, getD, take, drop, set}
+use denote.Enum.Declared.{tagOf}
+use Rattle.arith.specs.declared.Found.{Found}
+use Rattle.arith.specs.declared.Found.the-variants.{At, Nothing}
+use Rattle.arith.proofs.Found as found
+use Rattle.arith.specs.Lists.{product, greatest, range}
+use Rattle.arith.specs.Least.{least, orZero}
+use Rattle.arith.specs.laws.Members.{mem-keep, mem-range, of-range}
+use Rattle.arith.specs.laws.Sums.{product-shift}
+use Rattle.arith.specs.laws.Least.{least-within}
+use Rattle.arith.specs.laws.Walks.{Walk, greatest-more, walk-more, walk-end}
+use Rattle.bus_model.specs.declared.Frame.{Frame}
+use Rattle.bus_model.specs.declared.Choice.{Choice}
+use Rattle.bus_model.specs.declared.Choice.the-variants.{Fixed}
+use Rattle.bus_model.specs.Frame.{row}
+use Rattle.bus_model.specs.Pattern.{ofNode, hyperperiod}
+use Rattle.bus_model.specs.Valid.{ValidFrame, Valid}
+use Rattle.bus_model.specs.Bounds.{nodes, ahead, alignments, orEmpty, choiceOf, busyWindow, scenarioResponse, preciseBound, scenarioCount}
+use Rattle.bus_model.specs.Judgement.{lacksWindow}
+use Rattle.bus_model.specs.theory.Frames.{node-listed}
+use Rattle.bus_model.specs.theory.Alignment.{or-empty}
+use Rattle.bus_model.specs.theory.Work.{Allows, RefinedBy}
+use Rattle.bus_model.specs.theory.Response.{window-refine}
+use Rattle.bus_model.specs.theory.Scenarios.{allows-self}
+use Rattle.bus_model.specs.theory.Judged.{has-windows}
+use Rattle.bus_model.specs.theory.Visits.{isAlignment, visit-first}
+use Rattle.bus_model.specs.theory.Refine.{refined, free, set-same, set-other, nodeAt, levels, node-first, node-apart, level-node, own-scenarios, precise-refined, refined-step, Level, level-start, level-more, pruned}
+use Rattle.bus_model.specs.theory.Approximate.{both, greatestFound, scenarioFound}
+use Rattle.frame_table.specs.Frames.{framesOf}
+use Rattle.frame_table.specs.Table.{Accepted}
+use Rattle.frame_table.specs.laws.Accepted.{accepted-pattern, accepted-valid}
+use Rattle.response_time.specs.Grouped.{FinePart, framesIn, isInstant, instantsIn, partOf, Grouped, InTable}
+use Rattle.response_time.specs.laws.Fine.{group-fine}
+
+-- What the else arm of a `let Found::At(..)` knows is the tag alone.
+pub nothing : (r : Found) → tagOf found.the-type r ≡ 1 → r ≡ Nothing
+nothing (At n) e = absurd (omega arith)
+nothing Nothing e = refl
+
+-- ---- the rows of a node, as the code cuts them out of a group
+
+-- those at place i
+abbrev pub cutOut : List ℕ → List ℕ → ℕ → List ℕ
+cutOut members counts i = take (64 * i + getD counts i 0 - 64 * i) (drop (64 * i) members)
+
+module _ {rows : List ℕ} (accepted : Accepted rows) {k : Frame} {members counts ends : List ℕ} (grouped : Grouped rows k members counts ends) {i j : ℕ} (low : 1 ≤ j) (high : j ≤ 16) (place : i ≡ j - 1) where
+  -- They are those of node j, whose place this is.
+  cut-part : cutOut members counts i ≡ partOf members counts j
+  cut-part = let size : 64 * (j - 1) + getD counts (j - 1) 0 - 64 * (j - 1) ≡ getD counts (j - 1) 0 = omega arith in rw (place, size)
+
+  cut-frames : framesIn rows (cutOut members counts i) ≡ ofNode (ahead (framesOf rows) k) j
+  cut-frames = ap (framesIn rows) cut-part ∙ grouped .part j low high
+
+  pub cut-fine : FinePart rows (cutOut members counts i)
+  cut-fine = subst (FinePart rows) (sym cut-part) (group-fine rows accepted grouped j low high)
+
+  -- They are inside the group.
+  pub cut-inside : 64 * i + getD counts i 0 ≤ length members
+  cut-inside = rw place (omega (arith, grouped .few j low high, grouped .members-size))
+
+  -- The node's hyperperiod stands beside them.
+  pub cut-end : getD ends i 0 ≡ hyperperiod (ofNode (framesOf rows) j)
+  cut-end = rw place (grouped .end j low high)
+
+  pub cut-end-small : getD ends i 0 ≤ 1000000
+  cut-end-small = rw cut-end (accepted-pattern rows accepted j low high .0)
+
+  -- A search among their instants is one among the node's alignments.
+  pub cut-search : (after : ℕ) → least (isInstant (framesIn rows (cutOut members counts i))) (getD ends i 0 - after) after
+      ≡ least (isAlignment (framesOf rows) k j) (hyperperiod (ofNode (framesOf rows) j) - after) after
+  cut-search after = rw (cut-frames, cut-end)
+
+  -- The instants are the alignments.
+  pub group-instants : instantsIn (framesIn rows (cutOut members counts i)) (getD ends i 0) ≡ alignments (framesOf rows) k j
+  unfolding alignments
+  group-instants = rw (cut-frames, cut-end)
+
+-- how many they are at place i, an empty one counting 1
+abbrev pub countAt : List ℕ → List ℕ → List ℕ → List ℕ → ℕ → ℕ
+countAt rows members counts ends i = length (orEmpty (instantsIn (framesIn rows (cutOut members counts i)) (getD ends i 0)))
+
+-- The product over the places is the scenario count.
+pub counts-product : {rows : List ℕ} → Accepted rows → {k : Frame} {members counts ends : List ℕ} → Grouped rows k members counts ends
+    → product (countAt rows members counts ends) (range 0 16) ≡ scenarioCount (framesOf rows) k
+unfolding scenarioCount
+counts-product {rows} accepted {k} grouped =
+    product-shift _ (λ j. length (orEmpty (alignments (framesOf rows) k j))) 0 16
+    (λ i low high. ap (λ (instants : List ℕ). length (orEmpty instants)) (group-instants accepted grouped (omega arith) (omega arith) (omega arith)))
+
+-- ---- the approximate bound, as a loop finds it
+
+-- the response of its scenario in which k's own node has alignment a
+abbrev pub ownFound : List Frame → Frame → ℕ → Found
+ownFound fs k a = scenarioFound fs k (set free (k .node - 1) (Fixed a))
+
+-- The loop ends with what it has found.
+pub found-end : (f : ℕ → Found) (done : ℕ) → At done ≡ both (At done) (greatestFound f [])
+unfolding both greatestFound
+found-end f done = ap At (omega arith)
+
+-- ---- the greatest value over a node's alignments, as a loop finds it
+
+-- What a search among the alignments finds is one.
+found-listed : (fs : List Frame) (k : Frame) (j n : ℕ) {b : ℕ} → least (isAlignment fs k j) (hyperperiod (ofNode fs j) - n) n ≡ At b → Mem b (orEmpty (alignments fs k j))
+unfolding alignments
+found-listed fs k j n {b} is =
+    let (low, high, t) = least-within (isAlignment fs k j) (hyperperiod (ofNode fs j)) is in
+    or-empty (mem-keep (isAlignment fs k j) (mem-range 0 (hyperperiod (ofNode fs j)) b (omega arith) (omega arith)) t)
+
+-- The loop stands at a: `most` is the greatest of `from` and the values f of the alignments before a.
+pub record Best (fs : List Frame) (k : Frame) (j : ℕ) (f : ℕ → ℕ) (from most a : ℕ) : Type 0 where
+  pub walk : Walk (greatest f) max (isAlignment fs k j) (hyperperiod (ofNode fs j)) (max from (greatest f (orEmpty (alignments fs k j)))) most a
+  pub listed : Mem a (orEmpty (alignments fs k j))
+
+module _ (fs : List Frame) (k : Frame) (j : ℕ) (f : ℕ → ℕ) where
+  abbrev passes : ℕ → Bool
+  passes = isAlignment fs k j
+
+  abbrev end : ℕ
+  end = hyperperiod (ofNode fs j)
+
+  abbrev goal : ℕ → ℕ
+  goal from = max from (greatest f (orEmpty (alignments fs k j)))
+
+  -- It starts at the first.
+  pub best-first : Valid fs → {from a : ℕ} (first : Found) → first ≡ least passes (end - 0) 0 → a ≡ orZero first → Best fs k j f from from a
+  best-first valid {from} first is at =
+      let w = visit-first {A = ℕ} (λ xs. xs) (λ done xs. xs) (orEmpty (alignments fs k j)) valid k j {done = 0} first is refl in
+      rw at (record { walk = visit-first (greatest f) max (goal from) valid k j first is refl; listed = subst (Mem (orZero first)) (w .is) (here refl) })
+
+  module _ {from most next a : ℕ} (best : Best fs k j f from most a) (more : next ≡ max most (f a)) where
+    -- It goes on to the next.
+    pub best-more : {b : ℕ} → least passes (end - (a + 1)) (a + 1) ≡ At b → Best fs k j f from next b
+    best-more is = record { walk = walk-more (greatest f) max passes end (goal from) (best .walk) (greatest-more f most a more) is; listed = found-listed fs k j (a + 1) is }
+
+    -- It ends after the last.
+    pub best-end : least passes (end - (a + 1)) (a + 1) ≡ Nothing → next ≡ max from (greatest f (orEmpty (alignments fs k j)))
+    unfolding greatest
+    best-end none = let ended = walk-end (greatest f) max passes end (goal from) (best .walk) (greatest-more f most a more) none in omega arith
+
+-- ---- one level on
+
+-- the greatest response from level i on, where its node j takes alignment a
+abbrev pub nextLevel : List Frame → Frame → List Choice → ℕ → ℕ → ℕ → ℕ
+nextLevel fs k cs i j a = refined fs k (levels k (i + 1) nodes) (set cs (j - 1) (Fixed a))
+
+-- The greatest over its alignments is that from level i on.
+pub next-levels : (fs : List Frame) (k : Frame) (cs : List Choice) {i j : ℕ} → j ≡ nodeAt k i → i < nodes
+    → greatest (nextLevel fs k cs i j) (orEmpty (alignments fs k j)) ≡ refined fs k (levels k i nodes) cs
+next-levels fs k cs {i} at less = rw at (sym (refined-step fs k cs i nodes less))
+
+-- A search has come to level i with the choices cs: k's own node has alignment own, and there is a window.
+abbrev pub Reached : List Frame → Frame → ℕ → ℕ → List Choice → Type 0
+Reached fs k i own cs = (choiceOf cs (k .node) ≡ Fixed own) × Level k i cs × ((l : ℕ) × (busyWindow fs k cs ≡ At l))
+
+module _ {fs : List Frame} (valid : Valid fs) {n : ℕ} (inside : n < length fs) where
+  abbrev f : Frame
+  f = row fs n
+
+  self : ValidFrame f
+  self = valid .frame n inside
+
+  -- An alignment of the level's node refines the scenario.
+  finer : {i : ℕ} {cs : List Choice} → Level f i cs → i < nodes → {a : ℕ} → Mem a (orEmpty (alignments fs f (nodeAt f i))) → RefinedBy fs f cs (set cs (nodeAt f i - 1) (Fixed a))
+  unfolding Allows
+  finer {i} {cs} level less {a} m j l =
+      elim (ℕ-discrete j (nodeAt f i)) [
+        | yes e ↦ rw (e, level .left i (omega arith) less, set-same cs (level-node f self i less) a (level .long)) m
+        | no other ↦ rw (set-other cs (level-node f self i less) a l other) (allows-self (alignments fs f j) (choiceOf cs j))
+      ]
+
+  row-first : lacksWindow fs f ≡ false → {a : ℕ} → Mem a (orEmpty (alignments fs f (f .node))) → {cs : List Choice} → cs ≡ set free (f .node - 1) (Fixed a) → Reached fs f 1 a cs
+  row-first has {a} m e =
+      rw e (
+        set-same free (node-listed self) a refl,
+        level-more self (level-start self) (omega arith) (f .node) a (sym (node-first f)),
+        has-windows fs f (λ t. subst T has t) _ (own-scenarios fs self .1 (a, m, refl)),
+      )
+
+  row-next : {i own : ℕ} {cs : List Choice} → Reached fs f i own cs → 1 ≤ i → i < nodes → {j : ℕ} → j ≡ nodeAt f i → {a : ℕ} → Mem a (orEmpty (alignments fs f j))
+      → {cs′ : List Choice} → cs′ ≡ set cs (j - 1) (Fixed a) → Reached fs f (i + 1) own cs′
+  row-next {i} {own} {cs} (fixed, level, (l, window)) some less {j} at {a} m e =
+      let m′ : Mem a (orEmpty (alignments fs f (nodeAt f i))) = rw at at m in
+      let (l′, window′, le) = window-refine valid inside cs (set cs (nodeAt f i - 1) (Fixed a)) (finer level less m′) l window in
+      rw (e, at) (
+        set-other cs (level-node f self i less) a (node-listed self) (λ same. node-apart f 0 i some (node-first f ∙ same)) ∙ fixed,
+        level-more self level less (nodeAt f i) a refl,
+        (l′, window′),
+      )
+
+module _ {rows : List ℕ} (accepted : Accepted rows) {k : Frame} (table : InTable rows k) where
+  valid-self : ValidFrame k
+  valid-self = subst ValidFrame (sym (table .is)) (accepted-valid rows accepted .frame (table .at) (table .inside))
+
+  -- A level's node is one of the nodes.
+  pub reached-node : {i j : ℕ} → j ≡ nodeAt k i → i < nodes → (1 ≤ j) × (j ≤ 16)
+  reached-node {i} at less = rw at (let (low, high) = of-range 1 nodes (level-node k valid-self i less) in (low, omega arith))
+
+  pub own-node : (1 ≤ k .node) × (k .node ≤ 16)
+  own-node = reached-node (sym (node-first k)) (lit< tt)
+
+  -- The search starts with an alignment of k's own node, if none of these lacks a window.
+  pub reached-first : lacksWindow (framesOf rows) k ≡ false → {a : ℕ} → Mem a (orEmpty (alignments (framesOf rows) k (k .node)))
+      → {cs : List Choice} → cs ≡ set free (k .node - 1) (Fixed a) → Reached (framesOf rows) k 1 a cs
+  reached-first = rw (table .is) (row-first (accepted-valid rows accepted) (table .inside))
+
+  -- It goes on with an alignment of the level's node.
+  pub reached-next : {i own : ℕ} {cs : List Choice} → Reached (framesOf rows) k i own cs → 1 ≤ i → i < nodes → {j : ℕ} → j ≡ nodeAt k i
+      → {a : ℕ} → Mem a (orEmpty (alignments (framesOf rows) k j)) → {cs′ : List Choice} → cs′ ≡ set cs (j - 1) (Fixed a) → Reached (framesOf rows) k (i + 1) own cs′
+  reached-next = rw (table .is) (row-next (accepted-valid rows accepted) (table .inside))
+
+  -- No scenario further on has a greater response.
+  pub reached-most : {i own : ℕ} {cs : List Choice} → Reached (framesOf rows) k i own cs → 1 ≤ i → refined (framesOf rows) k (levels k i nodes) cs ≤ scenarioResponse (framesOf rows) k cs
+  reached-most {i} {own} {cs} = rw (table .is) (λ (fixed, level, (l, window)) some. pruned (accepted-valid rows accepted) (table .inside) level some nodes (le-refl nodes) l window)
+
+  -- From the first level on it finds the precise bound.
+  pub precise-levels : {most : ℕ} → most ≡ max 0 (greatest (nextLevel (framesOf rows) k free 0 (k .node)) (orEmpty (alignments (framesOf rows) k (k .node)))) → most ≡ preciseBound (framesOf rows) k
+  precise-levels is = omega (arith, next-levels (framesOf rows) k free (sym (node-first k)) (lit< tt), precise-refined (framesOf rows) valid-self)

@@ -1,0 +1,199 @@
+-- The two searches of a scenario, as one loop computes them: the load of a number, what the loop may pass over,
+-- the busy window, and the instances of a window one after the other.
+use Prim.Native.Nat.{ℕ, suc, _+_, _-_, _*_, _≤_, _<_, max}
+use mathlib.Core.Path.{_≡_, sym, ap, subst, _∙_}
+use mathlib.Core.List.{List}
+use mathlib.Core.Bool.{Bool, true, false}
+use native.Mathlib.Omega.{arith}
+use native.Mathlib.Numerals.{add-one}
+use lib.Dec.{T, leb→le, le→leb}
+use lib.ListN.{length}
+use Rattle.arith.specs.Lists.{greatest}
+use Rattle.arith.specs.Least.{least, orZero}
+use Rattle.arith.specs.Releases.{releasesBefore}
+use Rattle.arith.specs.laws.Members.{of-keep}
+use Rattle.arith.specs.laws.Sums.{greatest-le}
+use Rattle.arith.specs.laws.Walks.{CountUp, count-start, count-more, count-end, greatest-more}
+use Rattle.arith.specs.laws.Releases.{counted}
+use Rattle.arith.specs.laws.Least.{least-le, least-here, least-none, least-skip}
+use Rattle.arith.specs.declared.Found.{Found}
+use Rattle.arith.specs.declared.Found.the-variants.{At, Nothing}
+use Rattle.bus_model.specs.declared.Frame.{Frame}
+use Rattle.bus_model.specs.declared.Choice.{Choice}
+use Rattle.bus_model.specs.declared.Choice.the-variants.{Fixed}
+use Rattle.bus_model.specs.Frame.{row}
+use Rattle.bus_model.specs.Valid.{Valid}
+use Rattle.bus_model.specs.Bounds.{windowLimit, ahead, better, below, blocking, distance, choiceOf, demand, work, windowLoad, busyWindow, delayLoad, queueingDelay, ownDistance, instanceResponse, responseTime}
+use Rattle.bus_model.specs.theory.Frames.{better-ahead}
+use Rattle.bus_model.specs.theory.Work.{work-mono, work-own}
+use Rattle.bus_model.specs.theory.Response.{window-at, own-distance, delay-at, delay-within}
+use Rattle.bus_model.specs.theory.Iteration.{delay-next}
+use Rattle.frame_table.specs.Frames.{framesOf}
+use Rattle.frame_table.specs.Table.{Accepted}
+use Rattle.frame_table.specs.laws.Accepted.{accepted-valid}
+use Rattle.response_time.specs.Grouped.{InTable}
+use Rattle.response_time.specs.Load.{loadOf, holds}
+use Rattle.response_time.specs.laws.Fine.{member-fine, in-table-fine}
+
+module _ {fs : List Frame} (valid : Valid fs) (k : Frame) (cs : List Choice) where
+  -- ---- the load of a number
+
+  -- It does not fall.
+  load-mono : (delay : Bool) (base : ℕ) {x y : ℕ} → x ≤ y → loadOf fs k cs delay base x ≤ loadOf fs k cs delay base y
+  unfolding loadOf
+  load-mono true base {x} {y} le = let later : suc x ≤ suc y = omega arith in omega (arith, work-mono later fs valid k (better-ahead fs k) cs)
+  load-mono false base le = omega (arith, work-mono le fs valid k (λ g m. m) cs)
+
+  -- ---- the search
+
+  module _ (delay : Bool) (base e x : ℕ) {needed : ℕ} (is : needed ≡ loadOf fs k cs delay base x) where
+    -- It stops at a number that holds its load.
+    pub settle-here : x < e → needed ≤ x → At x ≡ least (holds fs k cs delay base) (e - x) x
+    unfolding holds
+    settle-here inside fits = sym (least-here _ e x inside (le→leb _ x (rw is at fits)))
+
+    -- Nothing below its load holds its own.
+    passed-over : (y : ℕ) → x ≤ y → y < needed → ¬ T (holds fs k cs delay base y)
+    unfolding holds
+    passed-over y le less t = omega (arith, load-mono delay base le, leb→le _ y t)
+
+    -- So the search goes on at the load,
+    pub settle-skip : x < needed → needed ≤ e → least (holds fs k cs delay base) (e - x) x ≡ least (holds fs k cs delay base) (e - needed) needed
+    settle-skip more inside = least-skip _ e x needed (omega arith) inside passed-over
+
+    -- and finds nothing where that is beyond its end.
+    pub settle-beyond : e ≤ needed → Nothing ≡ least (holds fs k cs delay base) (e - x) x
+    settle-beyond over = sym (least-none _ (e - x) x (λ y le less. passed-over y le (omega arith)))
+
+-- ---- the busy window
+
+-- Blocking is at most a frame's length.
+pub blocking-small : (rows : List ℕ) → Accepted rows → (k : Frame) → blocking (framesOf rows) k ≤ 400
+unfolding blocking below
+blocking-small rows accepted k =
+    let most = greatest-le {f = λ g. g .length} {n = 400} (below (framesOf rows) k) (λ g m. member-fine rows accepted (of-keep _ (framesOf rows) m .0) .length-high) in
+    omega arith
+
+module _ (fs : List Frame) (k : Frame) (cs : List Choice) where
+  -- What the search finds is the window.
+  pub window-search : {blocked : ℕ} {found answer : Found} → blocked ≡ blocking fs k → found ≡ least (holds fs k cs false blocked) (1000001 - 1) 1
+      → found ≡ answer → busyWindow fs k cs ≡ answer
+  unfolding busyWindow holds loadOf windowLoad windowLimit
+  window-search blocks search is = sym (rw blocks at search) ∙ is
+
+  -- It is not longer than the limit.
+  pub window-small : {l : ℕ} → busyWindow fs k cs ≡ At l → l ≤ 1000000
+  unfolding windowLimit
+  window-small {l} e = window-at fs k cs l e .1
+
+  -- ---- the queueing delay of instance q
+
+  -- The search finds it from any number on that no delay is below.
+  pub delay-search : (q from : ℕ) {blocked : ℕ} → blocked ≡ blocking fs k → ((w : ℕ) → delayLoad fs k cs q w ≤ w → from ≤ w) → from ≤ 1000000
+      → least (holds fs k cs true (blocked + q * k .length)) (1000000 - from) from ≡ queueingDelay fs k cs q
+  unfolding queueingDelay holds loadOf delayLoad windowLimit
+  delay-search q from e later inside = rw e (sym (least-skip _ 1000000 0 from (omega arith) inside (λ w low less t. omega (arith, later w (leb→le _ w t)))))
+
+  -- No other delay is below it.
+  delay-least : (q v w : ℕ) → queueingDelay fs k cs q ≡ At v → delayLoad fs k cs q w ≤ w → v ≤ w
+  unfolding queueingDelay
+  delay-least q v w e fits = least-le _ windowLimit 0 v w e (omega arith) (le→leb _ w fits)
+
+-- ---- a frame k of the table, in a scenario that fixes the alignment of its own node
+
+module _ {fs : List Frame} (valid : Valid fs) {k : Frame} {at : ℕ} (inside : at < length fs) (is : k ≡ row fs at) (cs : List Choice) (own : ℕ) (fixed : choiceOf cs (k .node) ≡ Fixed own) where
+  -- The work of the frames ahead is that of the better ones and k's own.
+  own-part : (n : ℕ) → work fs k (better fs k) cs n + demand k own n ≡ work fs k (ahead fs k) cs n
+  own-part n =
+      subst (λ (f : Frame). choiceOf cs (f .node) ≡ Fixed own → work fs f (better fs f) cs n + demand f own n ≡ work fs f (ahead fs f) cs n)
+      (sym is) (work-own valid inside own n cs) fixed
+
+  -- So the load of a start comes from all work and k's own.
+  pub start-load : (base x : ℕ) {all mine : ℕ} → all ≡ work fs k (ahead fs k) cs (x + 1) → mine ≡ demand k own (x + 1)
+      → (mine ≤ all) × (base + (all - mine) ≡ loadOf fs k cs true base x)
+  unfolding loadOf
+  start-load base x whole part = let share = own-part (x + 1) in (omega arith, rw (← add-one x) (omega arith))
+
+  -- An instance released in the window ends in it.
+  ends-within : {l : ℕ} → busyWindow fs k cs ≡ At l → (q : ℕ) → distance k own + q * k .period < l → (w : ℕ) × (queueingDelay fs k cs q ≡ At w) × (w + k .length ≤ l)
+  ends-within {l} window =
+      subst (λ (f : Frame). choiceOf cs (f .node) ≡ Fixed own → busyWindow fs f cs ≡ At l
+      → (q : ℕ) → distance f own + q * f .period < l → (w : ℕ) × (queueingDelay fs f cs q ≡ At w) × (w + f .length ≤ l))
+      (sym is) (λ f. delay-within valid inside cs own f l) fixed window
+
+-- ---- the instances released in a busy window
+
+-- The window of a scenario in which k's node has alignment `own`: its length is l, k is released d ticks after its start, and so often in it.
+pub record Windowed (rows : List ℕ) (k : Frame) (cs : List Choice) (own l d instances : ℕ) : Type 0 where
+  pub accepted : Accepted rows
+  pub listed : InTable rows k
+  pub fixed : choiceOf cs (k .node) ≡ Fixed own
+  pub window : busyWindow (framesOf rows) k cs ≡ At l
+  pub away : d ≡ distance k own
+  pub number : instances ≡ releasesBefore d (k .period) l
+
+-- Instance q is next: those before it are counted, and no delay of it is below `from`.
+pub record Turn (fs : List Frame) (k : Frame) (cs : List Choice) (l instances best from q : ℕ) : Type 0 where
+  pub counts : CountUp (greatest (instanceResponse fs k cs)) max instances (responseTime fs k cs l) best q
+  pub later : (w : ℕ) → delayLoad fs k cs q w ≤ w → from ≤ w
+
+-- The last one was counted.
+pub turn-end : {fs : List Frame} {k : Frame} {cs : List Choice} {l instances best from q : ℕ} → Turn fs k cs l instances best from q → instances ≤ q → best ≡ responseTime fs k cs l
+unfolding greatest
+turn-end turn over = let all = count-end _ _ _ _ (turn .counts) over in omega arith
+
+module _ {rows : List ℕ} {k : Frame} {cs : List Choice} {own l d instances : ℕ} (v : Windowed rows k cs own l d instances) where
+  abbrev fs : List Frame
+  fs = framesOf rows
+
+  valid : Valid fs
+  valid = accepted-valid rows (v .accepted)
+
+  own-away : ownDistance k cs ≡ d
+  own-away = own-distance fs k cs own (v .fixed) ∙ sym (v .away)
+
+  -- The first one.
+  pub turn-start : Turn fs k cs l instances 0 0 0
+  unfolding responseTime
+  turn-start = record { counts = count-start _ _ _ _ (rw (v .number, own-away) (omega arith)); later = λ w t. omega arith }
+
+  module _ {best from q : ℕ} (turn : Turn fs k cs l instances best from q) (inside : q < instances) where
+    released : d + q * k .period < l
+    released = counted d (in-table-fine rows (v .accepted) (v .listed) .period-low) l q .0 (rw (v .number) at inside)
+
+    starts : (w : ℕ) × (queueingDelay fs k cs q ≡ At w) × (w + k .length ≤ l)
+    starts = ends-within valid (v .listed .inside) (v .listed .is) cs own (v .fixed) (v .window) q (rw (v .away) at released)
+
+    -- Its release is below the limit, and what it waits for at least is not above.
+    pub turn-fits : (blocking fs k + q * k .length ≤ 1000000) × (d + q * k .period < 1000000)
+    unfolding delayLoad
+    turn-fits =
+        let (w, e, le) = starts in
+        let small = window-small fs k cs (v .window) in
+        (omega (arith, delay-at fs k cs q w e), omega (arith, released))
+
+    -- Its delay, by the search from `from` on.
+    module _ {blocked delay : ℕ} {found : Found} (blocks : blocked ≡ blocking fs k)
+        (search : found ≡ least (holds fs k cs true (blocked + q * k .length)) (1000000 - from) from) (is : delay ≡ orZero found) where
+      its-delay : (queueingDelay fs k cs q ≡ At delay) × (delay + k .length ≤ l)
+      unfolding orZero
+      its-delay =
+          let (w, e, le) = starts in
+          let low : from ≤ 1000000 = omega (arith, turn .later w (delay-at fs k cs q w e), window-small fs k cs (v .window)) in
+          let same : delay ≡ w = is ∙ ap orZero (search ∙ delay-search fs k cs q from blocks (turn .later) low ∙ e) in
+          rw same (e, le)
+
+      -- It ends below the limit,
+      pub turn-ends : delay + k .length ≤ 1000000
+      turn-ends = omega (arith, its-delay .1, window-small fs k cs (v .window))
+
+      -- and with its response counted the next one's turn is there.
+      pub turn-more : {next response : ℕ} → response ≡ delay + k .length - (d + q * k .period) → next ≡ max best response
+          → Turn fs k cs l instances next (delay + k .length) (q + 1)
+      unfolding instanceResponse orZero
+      turn-more {response = response} response-is next-is =
+          let its : response ≡ instanceResponse fs k cs q = response-is ∙ rw (its-delay .0, own-away) in
+          record {
+            counts = count-more _ _ _ _ (turn .counts) inside (greatest-more _ best q (next-is ∙ ap (max best) its));
+            later = λ w t. delay-next valid k cs q delay (λ x u. delay-least fs k cs q delay x (its-delay .0) u) w (rw add-one at t);
+          }

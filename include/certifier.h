@@ -1,0 +1,92 @@
+/*
+ * The picker bus certifier for C: judges the claims of a frame table.
+ *
+ * A table is a file of 1 to 64 lines, each 42 characters and a line feed. Rows count from 0, lines from 1.
+ * Each call takes the whole file's bytes, checks it, and answers one number.
+ *
+ * Memory: a call reads `table_len` bytes from `table` and keeps nothing; `table` may be null only if the length
+ * is 0. It allocates nothing and needs less than 64 KiB of stack.
+ * Threads: there is no state between calls, so any number of threads may call at once.
+ */
+#ifndef CERTIFIER_H
+#define CERTIFIER_H
+
+#include <stddef.h>
+#include <stdint.h>
+
+#ifdef __cplusplus
+extern "C" {
+#endif
+
+/*
+ * Judges the claim of a row: verdict * 10^14 + bound * 10^7 + margin + 10^6, or, where the call is turned back,
+ * minus (number * 10000 + place). The functions below take the answer apart.
+ */
+int64_t certifier_judge(const uint8_t *table, size_t table_len, uint64_t row);
+
+/*
+ * The precise bound of a row, in ticks, or, where the call is turned back, minus (number * 10000 + place).
+ */
+int64_t certifier_precise_bound(const uint8_t *table, size_t table_len, uint64_t row);
+
+/* What a claim is found to be. In the first two cases the frame is certified: it is never late. */
+enum certifier_verdict {
+    CERTIFIER_BY_APPROXIMATE_BOUND = 1,
+    CERTIFIER_BY_PRECISE_BOUND = 2,
+    CERTIFIER_CLAIM_TOO_SMALL = 3,
+    CERTIFIER_NO_WINDOW = 11, /* the bus is overloaded for this frame: bound and margin are 0 */
+    CERTIFIER_UNDECIDED = 12  /* too many scenarios for the precise bound: the bound is the approximate one */
+};
+
+/* Why a call is turned back, and what the place is. */
+enum certifier_refusal {
+    CERTIFIER_FILE_FORM = 1,     /* length 0 or no multiple of 43: 0; no line feed: the line */
+    CERTIFIER_TOO_MANY_LINES = 2,/* 0 */
+    CERTIFIER_NOTATION = 3,      /* the line */
+    CERTIFIER_LIMITS = 4,        /* the line */
+    CERTIFIER_DUPLICATE = 5,     /* the later line */
+    CERTIFIER_HYPERPERIOD = 6,   /* the node */
+    CERTIFIER_RELEASES = 7,      /* the node */
+    CERTIFIER_NO_SUCH_ROW = 9,   /* 0 */
+    CERTIFIER_BOUND_NO_WINDOW = 11, /* the row; of certifier_precise_bound only */
+    CERTIFIER_BOUND_TOO_MANY_SCENARIOS = 12 /* the row; of certifier_precise_bound only */
+};
+
+/* Whether the call was turned back. */
+static inline int certifier_refused(int64_t answer)
+{
+    return answer < 0;
+}
+
+/* The number and the place of a refusal. */
+static inline int certifier_number(int64_t answer)
+{
+    return (int)(-answer / 10000);
+}
+
+static inline int certifier_place(int64_t answer)
+{
+    return (int)(-answer % 10000);
+}
+
+/* The verdict, the bound and the margin, claim minus bound, of a judgement. */
+static inline int certifier_verdict_of(int64_t answer)
+{
+    return (int)(answer / 100000000000000);
+}
+
+static inline int certifier_bound(int64_t answer)
+{
+    return (int)(answer / 10000000 % 10000000);
+}
+
+static inline int certifier_margin(int64_t answer)
+{
+    return (int)(answer % 10000000) - 1000000;
+}
+
+#ifdef __cplusplus
+}
+#endif
+
+#endif
