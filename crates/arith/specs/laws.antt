@@ -9,3 +9,6 @@ pub mod Least
 pub mod Walks
 pub mod Releases
 pub mod Multiples
+pub mod Signed
+pub mod Overwriting
+pub mod Lines

@@ -8,3 +8,4 @@ pub mod Accepted
 pub mod Layout
 pub mod Sizes
 pub mod RoundTrip
+pub mod Areas

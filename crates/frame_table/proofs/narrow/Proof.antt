@@ -3,7 +3,7 @@ use Prim.Native.Nat.{_-_, _≤_}
 use mathlib.Core.Path.{_≡_, refl}
 use borrow.Author.Needs.{needs}
 use lib.ListN.{length}
-use Rattle.frame_table.proofs.TextLaws.{over, over-element, over-all}
+use Rattle.arith.specs.laws.Overwriting.{over, over-element, over-all}
 use Rattle.frame_table.proofs.narrow.Statement.{statement}
 use Rattle.frame_table.proofs.narrow.Tie as tie
 

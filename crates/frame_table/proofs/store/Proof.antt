@@ -1,7 +1,7 @@
 -- `frame_table::store` meets its contract: fields that passed are stored where they have room, and else the area is left.
 use mathlib.Core.Path.{refl}
 use borrow.Author.Needs.{needs}
-use Rattle.frame_table.proofs.TextLaws.{area-refused, area-short, area-written}
+use Rattle.frame_table.specs.laws.Areas.{area-refused, area-short, area-written}
 use Rattle.frame_table.proofs.store.Statement.{statement}
 use Rattle.frame_table.proofs.store.Tie as tie
 
@@ -23,7 +23,7 @@ narrow-requires c κs =
     (c .before .if1 .left, rw (at-told .enum-told .given .1) at (at-told .before .before .before .before .pre))
 
 returns-2 : tie.Need-returns-2
-returns-2 c = area-refused _ _ _ _ (c .before .checked .given .1)
+returns-2 c = area-refused _ _ _ _ _ (c .before .checked .given .1) refl
 
 same-length : tie.Need-same-length
 same-length c = search needs

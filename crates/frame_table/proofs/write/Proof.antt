@@ -1,11 +1,11 @@
 -- `frame_table::write` meets its contract: rows that passed are written where their text has room, and else the area is left.
-use mathlib.Core.Path.{_≡_, sym, _∙_}
+use mathlib.Core.Path.{_≡_, refl, sym, _∙_}
 use borrow.Author.Needs.{needs}
 use Rattle.frame_table.specs.declared.Checked.the-variants.{Passed}
 use Rattle.frame_table.specs.Text.{textOf}
 use Rattle.frame_table.specs.Table.{rowsCheck}
 use Rattle.frame_table.specs.laws.Layout.{length-text}
-use Rattle.frame_table.proofs.TextLaws.{area-refused, area-short, area-written}
+use Rattle.frame_table.specs.laws.Areas.{area-refused, area-short, area-written}
 use Rattle.frame_table.proofs.write.Statement.{statement}
 use Rattle.frame_table.proofs.write.Tie as tie
 
@@ -39,7 +39,7 @@ mul-t7 : tie.Need-mul-t7
 mul-t7 c = search needs
 
 returns-2 : tie.Need-returns-2
-returns-2 c = area-refused _ _ _ _ (sym (c .before .before .before .check .ensures) ∙ c .before .checked .given .1)
+returns-2 c = area-refused _ _ _ _ _ (sym (c .before .before .before .check .ensures) ∙ c .before .checked .given .1) refl
 
 same-length : tie.Need-same-length
 same-length c = search needs

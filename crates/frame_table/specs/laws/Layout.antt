@@ -7,6 +7,7 @@ use native.Mathlib.Numerals.{add-one}
 use native.Mathlib.Omega.{arith}
 use lib.ListN.{length, getD, take, drop, length-append}
 use lib.Seq.{drop-drop, drop-at, take-at, getD-drop}
+use Rattle.arith.specs.laws.Lines.{Lines, length-lines}
 use Rattle.decimal.specs.Decimal.{writeColumn}
 use Rattle.decimal.specs.Laws.{length-write}
 use Rattle.frame_table.specs.Columns.{field, widthOf, startOf}
@@ -26,6 +27,10 @@ unfolding startOf
 end-most =
     by-column (λ j. startOf (j + 1) ≤ 42)
     (omega arith) (omega arith) (omega arith) (omega arith) (omega arith) (omega arith) (omega arith)
+
+-- The place of a column, by where it and the next one start.
+pub column-place : (j from to : ℕ) → j < 7 → from ≡ startOf j → to ≡ startOf (j + 1) → (from + widthOf j ≡ to) × (to ≤ 42)
+column-place j from to l p q = (omega (arith, start-next j l), omega (arith, end-most j l))
 
 -- ---- a line, and what stands behind it
 
@@ -68,37 +73,13 @@ module _ (rows : List ℕ) (i : ℕ) where
 
 -- ---- a file
 
--- n lines have 43 characters each.
-pub length-lines : (rows : List ℕ) (n i : ℕ) → length (linesFrom rows n i) ≡ 43 * n
-length-lines rows zero i = refl
-length-lines rows (suc n) i =
-    length-append (lineOf rows i) (linesFrom rows n (i + 1)) ∙ omega (arith, length-line rows i, length-lines rows n (i + 1))
+-- The lines of a table, of 43 characters each.
+pub table-lines : (rows : List ℕ) → Lines 43 (lineOf rows) (linesFrom rows)
+table-lines rows = record { wide = length-line rows; none = λ i. refl; more = λ n i. refl }
 
 pub length-text : (rows : List ℕ) → length (textOf rows) ≡ 43 * (length rows / 7)
 unfolding textOf
-length-text rows = length-lines rows (length rows / 7) 0
-
-lines-from : (rows : List ℕ) (i m s : ℕ) → drop (43 * i) (linesFrom rows (i + m) s) ≡ linesFrom rows m (s + i)
-lines-from rows zero m s = let e : 0 + m ≡ m = omega arith in rw (e, add-zero)
-lines-from rows (suc i) m s =
-    let e : suc i + m ≡ suc (i + m) = omega arith in
-    let d : 43 * suc i ≡ 43 + 43 * i = omega arith in
-    let a : s + suc i ≡ s + 1 + i = omega arith in
-    rw (e, d, a)
-    (sym (drop-drop (43 * i) 43 (lineOf rows s ++ linesFrom rows (i + m) (s + 1)))
-    ∙ ap (drop (43 * i)) (drop-at (lineOf rows s) (linesFrom rows (i + m) (s + 1)) 43 (length-line rows s))
-    ∙ lines-from rows i m (s + 1))
-
--- The lines from line i on.
-pub lines-at : (rows : List ℕ) (n i : ℕ) → i < n → drop (43 * i) (linesFrom rows n 0) ≡ lineOf rows i ++ linesFrom rows (n - (i + 1)) (i + 1)
-lines-at rows n i l =
-    let e : n ≡ i + suc (n - (i + 1)) = omega arith in
-    let z : 0 + i ≡ i = omega arith in
-    ap (λ (x : ℕ). drop (43 * i) (linesFrom rows x 0)) e ∙ lines-from rows i (suc (n - (i + 1))) 0 ∙ ap (linesFrom rows (suc (n - (i + 1)))) z
-
--- Line i.
-pub line-at : (rows : List ℕ) (n i : ℕ) → i < n → take 43 (drop (43 * i) (linesFrom rows n 0)) ≡ lineOf rows i
-line-at rows n i l = ap (take 43) (lines-at rows n i l) ∙ take-at (lineOf rows i) (linesFrom rows (n - (i + 1)) (i + 1)) 43 (length-line rows i)
+length-text rows = length-lines (table-lines rows) (length rows / 7) 0
 
 -- ---- the fields of a file
 

@@ -11,6 +11,7 @@ use lib.ListN.{length, getD, take, drop, length-take, length-drop}
 use lib.Seq.{drop-cons, drop-drop, getD-drop, take-all, take-add, ext-getD}
 use lib.Dec.{eqb}
 use Rattle.arith.specs.laws.Tests.{by-test}
+use Rattle.arith.specs.laws.Lines.{length-lines, lines-at}
 use Rattle.decimal.specs.declared.Column.{Column}
 use Rattle.decimal.specs.declared.Column.the-variants.{Value, Broken}
 use Rattle.decimal.specs.Decimal.{readColumn, writeColumn}
@@ -22,7 +23,7 @@ use Rattle.frame_table.specs.Text.{fieldOf, columnAt, terminated, fieldA
 use Rattle.frame_table.specs.Table.{readCheck, rowsCheck}
 use Rattle.frame_table.specs.laws.First.{first-passed}
 use Rattle.frame_table.specs.laws.Limits.{Limits, identified-max, by-column, field-small, lines-each, storable}
-use Rattle.frame_table.specs.laws.Layout.{start-next, end-most, line-column, line-feed, length-lines, lines-at, length-fields, field-at, field-in}
+use Rattle.frame_table.specs.laws.Layout.{start-next, end-most, line-column, line-feed, table-lines, length-fields, field-at, field-in}
 use Rattle.frame_table.specs.laws.Sizes.{FileSize, RowsSize, file-size, file-sized, rows-size, rows-sized}
 
 -- ---- what stands in the text of rows
@@ -32,13 +33,13 @@ module _ (rows : List ℕ) (n i : ℕ) (h : i < n) where
   text-column : (j : ℕ) → j < 7 → columnAt (linesFrom rows n 0) i j ≡ writeColumn (widthOf j) (field rows i j)
   unfolding columnAt
   text-column j l =
-      ap (take (widthOf j)) (sym (drop-drop (startOf j) (43 * i) (linesFrom rows n 0)) ∙ ap (drop (startOf j)) (lines-at rows n i h))
+      ap (take (widthOf j)) (sym (drop-drop (startOf j) (43 * i) (linesFrom rows n 0)) ∙ ap (drop (startOf j)) (lines-at (table-lines rows) n i h))
       ∙ line-column rows i (linesFrom rows (n - (i + 1)) (i + 1)) j l
 
   -- A line ends in a line feed.
   text-feed : getD (linesFrom rows n 0) (43 * i + 42) 0 ≡ 10
   text-feed =
-      sym (getD-drop (43 * i) (linesFrom rows n 0) 42 0) ∙ ap (λ (x : List ℕ). getD x 42 0) (lines-at rows n i h)
+      sym (getD-drop (43 * i) (linesFrom rows n 0) 42 0) ∙ ap (λ (x : List ℕ). getD x 42 0) (lines-at (table-lines rows) n i h)
       ∙ line-feed rows i (linesFrom rows (n - (i + 1)) (i + 1))
 
   -- A number within its limits is read back.
@@ -118,7 +119,7 @@ fields-text : (file : List ℕ) (n : ℕ) → length file ≡ 43 * n → ((i j :
 unfolding columnAt terminated
 fields-text file n size small =
     let t : List ℕ = fieldsFrom file (7 * n) 0 in
-    alike (linesFrom t n 0) file n (length-lines t n 0) size
+    alike (linesFrom t n 0) file n (length-lines (table-lines t) n 0) size
     (λ i h j l. let w : length (columnAt file i j) ≡ widthOf j = simp (length-take, length-drop) (omega (arith, start-next j l, end-most j l)) in
     text-column t n i h j l ∙ rw (field-in file n i j h l) (rw w at (write-read (columnAt file i j) _ (field-number file i j (small i j h l) .0))))
     (λ i h. text-feed t n i h ∙ sym (eqb-true _ 10 (field-number file i 0 (small i 0 h (omega arith)) .1 refl)))
@@ -132,7 +133,7 @@ read-text rows e =
     let both = first-passed _ _ e in
     let s = rows-size (length rows) (both .0) in
     let n : ℕ = length rows / 7 in
-    let size : length (linesFrom rows n 0) ≡ 43 * n = length-lines rows n 0 in
+    let size : length (linesFrom rows n 0) ≡ 43 * n = length-lines (table-lines rows) n 0 in
     let lines : length (linesFrom rows n 0) / 43 ≡ n = omega arith in
     let back : fieldsFrom (linesFrom rows n 0) (7 * (length (linesFrom rows n 0) / 43)) 0 ≡ rows
     = rw lines (text-fields rows n (omega (arith, s .whole)) (lines-each rows (first-passed _ _ (both .1) .0))) in

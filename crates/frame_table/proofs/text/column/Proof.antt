@@ -6,8 +6,7 @@ use borrow.Author.Needs.{needs}
 use Rattle.decimal.specs.Decimal.{readColumn}
 use Rattle.frame_table.specs.Columns.{widthOf}
 use Rattle.frame_table.specs.Text.{columnAt, fieldOf}
-use Rattle.frame_table.specs.laws.Layout.{start-next, end-most}
-use Rattle.frame_table.proofs.TextLaws.{column-place}
+use Rattle.frame_table.specs.laws.Layout.{start-next, end-most, column-place}
 use Rattle.frame_table.proofs.text.column.Statement.{statement}
 use Rattle.frame_table.proofs.text.column.Tie as tie
 

@@ -4,9 +4,9 @@ use mathlib.Core.Path.{_≡_, refl, sym, _∙_}
 use borrow.Author.Needs.{needs}
 use lib.ListN.{length}
 use lib.Seq.{take-at}
+use Rattle.arith.specs.laws.Overwriting.{over, over-element, over-all}
 use Rattle.frame_table.specs.Text.{fieldsFrom}
 use Rattle.frame_table.specs.laws.Layout.{length-fields, field-at}
-use Rattle.frame_table.proofs.TextLaws.{over, over-element, over-all}
 use Rattle.frame_table.proofs.text.read_fields.Statement.{statement}
 use Rattle.frame_table.proofs.text.read_fields.Tie as tie
 

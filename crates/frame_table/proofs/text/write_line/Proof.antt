@@ -6,11 +6,11 @@ use native.Mathlib.Omega.{arith}
 use borrow.Author.Needs.{needs}
 use borrow.Rule.Slice.PartMut.{midOf, mid-len}
 use lib.ListN.{length, take, drop, length-set, drop-of-length-le}
+use Rattle.arith.specs.laws.Overwriting.{over, over-part, over-element, over-all}
 use Rattle.decimal.specs.Decimal.{writeColumn}
 use Rattle.frame_table.specs.Columns.{field, startOf, widthOf}
 use Rattle.frame_table.specs.Text.{lineOf}
-use Rattle.frame_table.specs.laws.Layout.{start-next, end-most, length-line, line-column, line-feed}
-use Rattle.frame_table.proofs.TextLaws.{column-place, over, over-part, over-element, over-all}
+use Rattle.frame_table.specs.laws.Layout.{start-next, end-most, column-place, length-line, line-column, line-feed}
 use Rattle.frame_table.proofs.text.write_line.Statement.{statement}
 use Rattle.frame_table.proofs.text.write_line.Tie as tie
 

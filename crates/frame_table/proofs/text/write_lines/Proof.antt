@@ -1,12 +1,13 @@
 -- `frame_table::text::write_lines` meets its contract: after i turns the first i lines are written, and the rest is as it was.
-use Prim.Native.Nat.{_+_, _-_, _*_, _≤_}
-use mathlib.Core.Path.{_≡_, refl, sym, _∙_}
+use Prim.Native.Nat.{_-_, _*_, _≤_}
+use mathlib.Core.Path.{_≡_, refl}
 use native.Mathlib.Omega.{arith}
 use borrow.Author.Needs.{needs}
 use lib.ListN.{length, length-take, length-drop}
+use Rattle.arith.specs.laws.Overwriting.{over}
+use Rattle.arith.specs.laws.Lines.{line-over, lines-over}
 use Rattle.frame_table.specs.Text.{linesFrom}
-use Rattle.frame_table.specs.laws.Layout.{line-at, length-lines}
-use Rattle.frame_table.proofs.TextLaws.{over, over-part, over-all}
+use Rattle.frame_table.specs.laws.Layout.{table-lines}
 use Rattle.frame_table.proofs.text.write_lines.Statement.{statement}
 use Rattle.frame_table.proofs.text.write_lines.Tie as tie
 
@@ -49,10 +50,8 @@ loop-again : tie.Need-loop-again Inv-loop μ-loop
 loop-again c =
     let at-loop = c .before .before .before .before .before in
     let below = c .before .before .before .before .loop-test .taken in
-    let i = at-loop .loop .i in
-    let all = 43 * at-loop .before .before .before .args .lines in (
-      over-part _ _ _ all (length-lines _ _ 0) _ (43 * i) (43 * (i + 1)) 43 (43 * i) (43 * i + 43) (at-loop .loop .inv .0) refl (omega arith) (omega arith) (omega (arith, below))
-          (c .before .before .write-line .ensures ∙ sym (line-at _ _ i below)),
+    let lines = table-lines (at-loop .before .before .before .args .rows .now) in (
+      line-over lines _ _ _ _ (at-loop .loop .inv .0) _ below (c .before .before .write-line .ensures),
       search needs,
       search needs,
     )
@@ -62,8 +61,8 @@ same-length c = search needs
 
 returns : tie.Need-returns Inv-loop μ-loop
 returns c =
-    let below = c .before .loop .inv .1 in
-    over-all _ _ _ (43 * c .before .before .before .before .args .lines) (length-lines _ _ 0) (43 * c .before .loop .i) (c .before .loop .inv .0) (omega (arith, below)) (omega (arith, c .loop-test .left))
+    let lines = table-lines (c .before .before .before .before .args .rows .now) in
+    lines-over lines _ _ _ _ (c .before .loop .inv .0) (c .before .loop .inv .1) (c .loop-test .left)
 
 pub write-lines-spec : {M : Type 1} → statement M
 write-lines-spec =

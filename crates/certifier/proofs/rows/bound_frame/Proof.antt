@@ -1,0 +1,82 @@
+-- Each return answers one case: no window, too many scenarios, or the precise bound.
+use borrow.Author.Needs.{needs}
+use Prim.Native.Nat.{_<_}
+use native.Mathlib.Omega.{arith}
+use Rattle.frame_table.specs.Frames.{framesOf}
+use Rattle.response_time.specs.Grouped.{InTable}
+use Rattle.certifier.specs.laws.Judged.{Approximated, found-none, found-bound, bound-none, bound-undecided, bound-precise, claim-inside}
+use Rattle.certifier.proofs.rows.bound_frame.Statement.{statement}
+use Rattle.certifier.proofs.rows.bound_frame.Tie as tie
+
+frame-blocking-requires : tie.Need-frame-blocking-requires
+frame-blocking-requires c κs = search needs
+
+approximate-requires : tie.Need-approximate-requires
+approximate-requires c κs = search needs
+
+enum-told : tie.Need-enum-told
+enum-told c = search needs
+
+enum-told-2 : tie.Need-enum-told-2
+enum-told-2 c = search needs
+
+abbrev start : tie.After-approximate → tie.Start
+start c = c .before .before .before .before .before .before
+
+inside : (c : tie.Start) → InTable (c .args .rows .now) (c .args .k)
+inside c = record { at = c .args .i; inside = c .pre .1 .1 .0; is = c .pre .1 .1 .1 }
+
+small : (c : tie.Start) → c .args .i < 64
+small c = let place = claim-inside (c .args .rows .now) (c .pre .0) (c .pre .1 .1 .0) in omega (arith, place .0)
+
+-- what is found
+rough : (c : tie.After-enum-told) → Approximated (framesOf (start (c .before .before) .args .rows .now)) (start (c .before .before) .args .k) (c .enum-told .given .0 .0)
+rough c =
+    let s = start (c .before .before) in
+    found-bound (s .pre .0) (inside s) (c .before .before .approximate .ensures) (c .enum-told .given .1)
+
+cast-t11 : tie.Need-cast-t11
+cast-t11 c = record { fits = omega (arith, small (start (c .before .before))) }
+
+returns : tie.Need-returns
+returns c =
+    let s = start (c .before .before) in
+    bound-none (framesOf (s .args .rows .now)) (s .args .i) (s .pre .1 .1 .1) (found-none (s .pre .0) (inside s) (c .before .before .approximate .ensures) (c .enum-told2 .given .1))
+
+scenario-count-requires : tie.Need-scenario-count-requires
+scenario-count-requires c κs = search needs
+
+cast-t15 : tie.Need-cast-t15
+cast-t15 c = record { fits = omega (arith, small (start (c .before .before .before .before))) }
+
+returns-2 : tie.Need-returns-2
+returns-2 c =
+    let s = start (c .before .before .before .before) in
+    bound-undecided (framesOf (s .args .rows .now)) (s .args .i) (s .pre .1 .1 .1) (rough (c .before .before)) (c .before .scenario-count .ensures) (c .if1 .taken)
+
+precise-requires : tie.Need-precise-requires
+precise-requires c κs =
+    let found = c .before .before in
+    let s = start (found .before .before) in
+    (s .pre .0, (s .pre .1 .0, (inside s, (found .before .before .before .frame-blocking .ensures .0, rough found .windows))))
+
+returns-3 : tie.Need-returns-3
+returns-3 c =
+    let s = start (c .before .before .before .before .before) in
+    bound-precise (framesOf (s .args .rows .now)) (s .args .i) (s .pre .1 .1 .1) (rough (c .before .before .before)) (c .before .before .scenario-count .ensures) (c .before .if1 .left) (c .precise .ensures)
+
+pub bound-frame-spec : {M : Type 1} → statement M
+bound-frame-spec =
+    tie.close
+    (tie.spec
+    frame-blocking-requires
+    approximate-requires
+    enum-told
+    enum-told-2
+    cast-t11
+    returns
+    scenario-count-requires
+    cast-t15
+    returns-2
+    precise-requires
+    returns-3)

@@ -1,0 +1,96 @@
+-- Each return answers one of document 01's cases, by what the searches before it found.
+use borrow.Author.Needs.{needs}
+use mathlib.Core.Path.{_∙_}
+use Rattle.frame_table.specs.Frames.{framesOf}
+use Rattle.certifier.specs.laws.Judged.{Approximated, found-none, found-bound, judge-none, judge-approximate, judge-undecided, judge-precise, judge-small}
+use Rattle.certifier.proofs.rows.judge_frame.Statement.{statement}
+use Rattle.certifier.proofs.rows.judge_frame.Tie as tie
+
+frame-blocking-requires : tie.Need-frame-blocking-requires
+frame-blocking-requires c κs = search needs
+
+approximate-requires : tie.Need-approximate-requires
+approximate-requires c κs = search needs
+
+enum-known-found : tie.Need-enum-known-found
+enum-known-found c = search needs
+
+enum-told : tie.Need-enum-told
+enum-told c = search needs
+
+abbrev start : tie.After-approximate → tie.Start
+start c = c .before .before .before .before .before .before
+
+returns : tie.Need-returns
+returns c =
+    let s = start (c .before .before) in
+    judge-none (framesOf (s .args .rows .now)) (s .args .k) (s .args .claim)
+    (found-none (s .pre .0) (s .pre .1 .1) (c .before .before .approximate .ensures) (c .enum-told .given .1))
+
+-- what is found
+rough : (c : tie.After-known-told) → Approximated (framesOf (start (c .before .before .before) .args .rows .now)) (start (c .before .before .before) .args .k) (c .before .found .given .0 .0)
+rough c =
+    let given = start (c .before .before .before) .pre in
+    found-bound (given .0) (given .1 .1) (c .before .before .before .approximate .ensures) (c .before .found .given .1)
+
+judged-requires : tie.Need-judged-requires
+judged-requires c κs = search needs
+
+returns-2 : tie.Need-returns-2
+returns-2 c =
+    c .judged .ensures ∙ judge-approximate (rough (c .before .before)) (c .before .if1 .taken)
+
+scenario-count-requires : tie.Need-scenario-count-requires
+scenario-count-requires c κs = search needs
+
+judged-requires-2 : tie.Need-judged-requires-2
+judged-requires-2 c κs = search needs
+
+returns-3 : tie.Need-returns-3
+returns-3 c =
+    let counted = c .before .before in
+    c .judged2 .ensures ∙ judge-undecided (rough (counted .before .before)) (counted .before .if1 .left) (counted .scenario-count .ensures) (c .before .if2 .taken)
+
+precise-requires : tie.Need-precise-requires
+precise-requires c κs =
+    let found = c .before .before .before in
+    let s = start (found .before .before .before) in
+    (s .pre .0, (s .pre .1 .0, (s .pre .1 .1, (found .before .before .before .before .frame-blocking .ensures .0, rough found .windows))))
+
+judged-requires-3 : tie.Need-judged-requires-3
+judged-requires-3 c κs = search needs
+
+judged-requires-4 : tie.Need-judged-requires-4
+judged-requires-4 c κs = search needs
+
+returns-4 : tie.Need-returns-4
+returns-4 c =
+    let bounded = c .before .before in
+    let counted = bounded .before .before in
+    c .judged3 .ensures ∙ judge-precise (rough (counted .before .before)) (counted .before .if1 .left) (counted .scenario-count .ensures) (bounded .before .if2 .left) (bounded .precise .ensures) (c .before .if3 .taken)
+
+returns-5 : tie.Need-returns-5
+returns-5 c =
+    let bounded = c .before .before in
+    let counted = bounded .before .before in
+    c .judged4 .ensures ∙ judge-small (rough (counted .before .before)) (counted .before .if1 .left) (counted .scenario-count .ensures) (bounded .before .if2 .left) (bounded .precise .ensures) (c .before .if3 .left)
+
+pub judge-frame-spec : {M : Type 1} → statement M
+judge-frame-spec =
+    tie.close
+    (tie.spec
+    frame-blocking-requires
+    approximate-requires
+    enum-known-found
+    enum-told
+    returns
+    judged-requires
+    returns-2
+    scenario-count-requires
+    judged-requires-2
+    returns-3
+    precise-requires
+    judged-requires-3
+    judged-requires-4
+    returns-4
+    returns-5)

@@ -1,0 +1,48 @@
+-- The tool's call: one signed number for each answer (document 01, the end of "Where a call is turned back").
+use Prim.Native.Nat.{ℕ, _+_, _*_, _^_}
+use mathlib.Core.List.{List}
+use lib.IntN.{ℤ, pos, _+ℤ_, negℤ}
+use Rattle.bus_model.specs.Judgement.{verdict}
+use Rattle.frame_table.specs.declared.Checked.{Checked}
+use Rattle.frame_table.specs.declared.Checked.the-variants.{Passed, Failed}
+use Rattle.frame_table.specs.Text.{fieldsOf}
+use Rattle.frame_table.specs.Table.{readCheck}
+use Rattle.certifier.specs.declared.Refusal.{Refusal}
+use Rattle.certifier.specs.declared.Judged.{Judged}
+use Rattle.certifier.specs.declared.Judged.the-variants.{Verdict, NotJudged}
+use Rattle.certifier.specs.declared.Bounded.{Bounded}
+use Rattle.certifier.specs.declared.Bounded.the-variants.{Bound, NotBounded}
+use Rattle.certifier.specs.Refusal.{numberOf, ofTable}
+use Rattle.certifier.specs.Judge.{judgeRow, boundRow}
+
+-- ---- the table as bytes: the checks on files, then those on rows
+
+unfoldable pub judgeRead : Checked → List ℕ → ℕ → Judged
+judgeRead (Failed f) file r = NotJudged (ofTable f)
+judgeRead Passed file r = judgeRow (fieldsOf file) r
+
+unfoldable pub judgeFile : List ℕ → ℕ → Judged
+judgeFile file r = judgeRead (readCheck file) file r
+
+unfoldable pub boundRead : Checked → List ℕ → ℕ → Bounded
+boundRead (Failed f) file r = NotBounded (ofTable f)
+boundRead Passed file r = boundRow (fieldsOf file) r
+
+unfoldable pub boundFile : List ℕ → ℕ → Bounded
+boundFile file r = boundRead (readCheck file) file r
+
+-- ---- as a number
+
+-- minus (number × 10000 + place)
+unfoldable pub encodeRefusal : Refusal → ℤ
+encodeRefusal f = negℤ (pos (numberOf (f .cause) * 10000 + f .place))
+
+-- verdict × 10^14 + bound × 10^7 + margin + 10^6
+unfoldable pub encodeJudged : Judged → ℤ
+encodeJudged (Verdict j) = pos (verdict (j .outcome) * 10 ^ 14 + j .bound * 10 ^ 7 + 10 ^ 6) +ℤ j .margin
+encodeJudged (NotJudged f) = encodeRefusal f
+
+-- the bound
+unfoldable pub encodeBounded : Bounded → ℤ
+encodeBounded (Bound b) = pos b
+encodeBounded (NotBounded f) = encodeRefusal f

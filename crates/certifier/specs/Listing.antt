@@ -1,0 +1,29 @@
+-- The listing of a table: a line a row, in table order (document 01, "The listing").
+use Prim.Native.Nat.{ℕ, zero, suc, _+_, _/_}
+use mathlib.Core.List.{List, [], _∷_, _++_}
+use lib.ListN.{length}
+use Rattle.decimal.specs.Decimal.{writeColumn, writeSigned}
+use Rattle.bus_model.specs.declared.Judgement.{Judgement}
+use Rattle.bus_model.specs.Frame.{row}
+use Rattle.bus_model.specs.Judgement.{verdict, judge}
+use Rattle.frame_table.specs.Columns.{field}
+use Rattle.frame_table.specs.Frames.{framesOf}
+use Rattle.certifier.specs.Judge.{claimOf}
+
+-- identifier (10), verdict (3), bound (8), margin (9), and a line feed
+unfoldable pub listingLine : ℕ → Judgement → List ℕ
+listingLine identifier j =
+    writeColumn 10 identifier ++ (writeColumn 3 (verdict (j .outcome)) ++ (writeColumn 8 (j .bound) ++ (writeSigned 9 (j .margin) ++ (10 ∷ []))))
+
+-- the line of row i
+unfoldable pub lineOf : List ℕ → ℕ → List ℕ
+lineOf rows i = listingLine (field rows i 1) (judge (framesOf rows) (row (framesOf rows) i) (claimOf rows i))
+
+-- n lines from row i on
+abbrev pub linesFrom : List ℕ → ℕ → ℕ → List ℕ
+linesFrom rows zero i = []
+linesFrom rows (suc n) i = lineOf rows i ++ linesFrom rows n (i + 1)
+
+-- all lines
+unfoldable pub listingOf : List ℕ → List ℕ
+listingOf rows = linesFrom rows (length rows / 7) 0

@@ -1,0 +1,5 @@
+-- What is proved of these definitions.
+pub mod Judged
+pub mod Reading
+pub mod Encoding
+pub mod Listing

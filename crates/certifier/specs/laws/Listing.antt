@@ -1,0 +1,43 @@
+-- The lines of the listing: how long they are, and a line written column by column.
+use Prim.Native.Nat.{ℕ, _*_, _/_}
+use mathlib.Core.Path.{_≡_, refl, _∙_}
+use mathlib.Core.List.{List, append-assoc}
+use native.Mathlib.Omega.{arith}
+use lib.IntN.{ℤ}
+use lib.ListN.{length, set, length-append}
+use borrow.Rule.Slice.PartMut.{midOf, putMid}
+use Rattle.arith.specs.laws.Overwriting.{begun-none, begun-filled, begun-element, begun-all}
+use Rattle.arith.specs.laws.Lines.{Lines, length-lines}
+use Rattle.decimal.specs.Decimal.{writeColumn, writeSigned}
+use Rattle.decimal.specs.Laws.{length-write, length-signed}
+use Rattle.bus_model.specs.declared.Judgement.{Judgement}
+use Rattle.bus_model.specs.Judgement.{verdict}
+use Rattle.certifier.specs.Listing.{listingLine, lineOf, linesFrom, listingOf}
+
+length-line : (identifier : ℕ) (j : Judgement) → length (listingLine identifier j) ≡ 31
+unfolding listingLine
+length-line identifier j = simp (length-append, length-write, length-signed)
+
+-- The lines of a listing, of 31 characters each.
+pub listing-lines : (rows : List ℕ) → Lines 31 (lineOf rows) (linesFrom rows)
+unfolding lineOf
+listing-lines rows = record { wide = λ i. length-line _ _; none = λ i. refl; more = λ n i. refl }
+
+pub length-listing : (rows : List ℕ) → length (listingOf rows) ≡ 31 * (length rows / 7)
+unfolding listingOf
+length-listing rows = length-lines (listing-lines rows) (length rows / 7) 0
+
+-- The four columns and the line feed, one behind the other, are the line.
+pub line-written : (identifier v : ℕ) (m : ℤ) (j : Judgement) (line a b c d : List ℕ) → length line ≡ 31 → v ≡ verdict (j .outcome) → m ≡ j .margin
+    → a ≡ writeColumn (length (midOf 0 10 line)) identifier
+    → b ≡ writeColumn (length (midOf 10 3 (putMid 0 10 line a))) v
+    → c ≡ writeColumn (length (midOf 13 8 (putMid 10 3 (putMid 0 10 line a) b))) (j .bound)
+    → d ≡ writeSigned (length (midOf 21 9 (putMid 13 8 (putMid 10 3 (putMid 0 10 line a) b) c))) m
+    → set (putMid 21 9 (putMid 13 8 (putMid 10 3 (putMid 0 10 line a) b) c) d) 30 10 ≡ listingLine identifier j
+unfolding listingLine
+line-written identifier v m j line a b c d size verdict-is margin-is p q r s =
+    let one = begun-filled _ line _ 0 (begun-none line) (λ w. writeColumn w identifier) (λ w. length-write w identifier) a 10 (omega arith) p in
+    let two = begun-filled _ line _ 10 one (λ w. writeColumn w v) (λ w. length-write w v) b 3 (omega arith) q in
+    let three = begun-filled _ line _ 13 two (λ w. writeColumn w (j .bound)) (λ w. length-write w (j .bound)) c 8 (omega arith) r in
+    let four = begun-filled _ line _ 21 three (λ w. writeSigned w m) (λ w. length-signed w m) d 9 (omega arith) s in
+    begun-all _ line _ 31 (begun-element _ line _ 30 four 10 (omega arith)) size ∙ simp (append-assoc, verdict-is, margin-is)

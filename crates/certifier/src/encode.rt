@@ -1,0 +1,89 @@
+// The entries for C: a table as bytes and a row, and one signed number as the answer.
+use crate::Bounded;
+use crate::Judged;
+use crate::Refusal;
+use crate::rows::judge;
+use crate::rows::of_table;
+use crate::rows::precise_bound;
+use crate::rows::verdict;
+use bus_model::Judgement;
+use frame_table::Answer;
+ghost use mathlib.Core.Path.{_≡_};
+ghost use Prim.Native.Nat.{ℕ, _+_, _*_, _≤_};
+ghost use lib.IntN.{pos, _+ℤ_};
+ghost use Rattle.certifier.specs.declared.Judged.the-variants.{Verdict};
+ghost use Rattle.certifier.specs.Encode.{judgeFile, boundFile, encodeRefusal, encodeJudged, encodeBounded};
+ghost use Rattle.certifier.specs.Steps.{Encodable};
+
+// Judges the claim of a row of the table.
+#[no_mangle]
+pub extern "C" fn certifier_judge(table: &[u8], row: u64) -> i64
+    ensures { λ r. ⌜ r ≡ encodeJudged (judgeFile (now (table .entry)) row) ⌝ }
+{
+    let mut rows = [0u32; frame_table::MOST_NUMBERS];
+    let answer = frame_table::read(table, &mut rows);
+    match answer {
+        Answer::Refused(refusal) => encode_refusal(of_table(refusal)),
+        Answer::Done(n) => encode_judged(judge(&rows[..n], row)),
+    }
+}
+
+// The precise bound of a row of the table.
+#[no_mangle]
+pub extern "C" fn certifier_precise_bound(table: &[u8], row: u64) -> i64
+    ensures { λ r. ⌜ r ≡ encodeBounded (boundFile (now (table .entry)) row) ⌝ }
+{
+    let mut rows = [0u32; frame_table::MOST_NUMBERS];
+    let answer = frame_table::read(table, &mut rows);
+    match answer {
+        Answer::Refused(refusal) => encode_refusal(of_table(refusal)),
+        Answer::Done(n) => encode_bounded(precise_bound(&rows[..n], row)),
+    }
+}
+
+// Minus (number × 10000 + place).
+fn encode_refusal(refusal: Refusal) -> i64
+    ensures { λ r. ⌜ r ≡ encodeRefusal refusal ⌝ }
+{
+    let cause = refusal.cause;
+    let n = crate::number(cause) as u64 * 10_000 + refusal.place as u64;
+    -(n as i64)
+}
+
+fn encode_judged(judged: Judged) -> i64
+    requires { ⌜ Encodable judged ⌝ }
+    ensures { λ r. ⌜ r ≡ encodeJudged judged ⌝ }
+{
+    match judged {
+        Judged::Verdict(judgement) => encode_judgement(judgement),
+        Judged::NotJudged(refusal) => encode_refusal(refusal),
+    }
+}
+
+fn encode_bounded(bounded: Bounded) -> i64
+    ensures { λ r. ⌜ r ≡ encodeBounded bounded ⌝ }
+{
+    match bounded {
+        Bounded::Bound(bound) => bound as i64,
+        Bounded::NotBounded(refusal) => encode_refusal(refusal),
+    }
+}
+
+// Verdict × 10^14 + bound × 10^7 + margin + 10^6.
+fn encode_judgement(judgement: Judgement) -> i64
+    requires { ⌜ Encodable (Verdict judgement) ⌝ }
+    ensures { λ r. ⌜ r ≡ encodeJudged (Verdict judgement) ⌝ }
+{
+    let outcome = judgement.outcome;
+    let high = verdict(outcome) as u64 * 100_000_000_000_000 + judgement.bound as u64 * 10_000_000;
+    let low = shifted(judgement.margin);
+    (high + low) as i64
+}
+
+// The margin plus a million.
+fn shifted(margin: i64) -> u64
+    requires { ⌜ ((n : ℕ) × (pos 1000000 +ℤ margin ≡ pos n) × (n ≤ 2000000)) ⌝ }
+    ensures { λ r. ⌜ (pos 1000000 +ℤ margin ≡ pos r) × (r ≤ 2000000) ⌝ }
+{
+    (1_000_000 + margin) as u64
+}

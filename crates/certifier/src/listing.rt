@@ -1,0 +1,86 @@
+// The listing of a table: a line a row, in table order.
+use bus_model::Judgement;
+use frame_table::Answer;
+use frame_table::Cause;
+use frame_table::Refusal;
+ghost use mathlib.Core.Path.{_≡_};
+ghost use Prim.Native.Nat.{_*_, _/_, _<_, _≤_};
+ghost use mathlib.Core.List.{_++_};
+ghost use lib.ListN.{length, drop};
+ghost use Rattle.frame_table.specs.Text.{fieldsOf};
+ghost use Rattle.frame_table.specs.Table.{Accepted, readCheck, answerFor, areaAfter};
+ghost use Rattle.frame_table.specs.declared.Checked.the-variants.{Passed};
+ghost use Rattle.certifier.specs.Listing.{listingLine, lineOf, linesFrom, listingOf};
+
+// The characters of a line with its line feed.
+pub const LINE: usize = 31;
+
+const LINE_FEED: u8 = 10;
+
+// Lists the judgements of the table in a file. A refusal leaves the output as it is.
+pub fn list(file: &[u8], out: &mut [u8]) -> Answer
+    ensures { λ r. ⌜ r ≡ answerFor (readCheck (now (file .entry))) (listingOf (fieldsOf (now (file .entry)))) (now (out .entry)) ⌝ }
+    ensures { λ r. ⌜ now (out .exit) ≡ areaAfter r (listingOf (fieldsOf (now (file .entry)))) (now (out .entry)) ⌝ }
+{
+    let mut rows = [0u32; frame_table::MOST_NUMBERS];
+    let answer = frame_table::read(file, &mut rows);
+    match answer {
+        Answer::Refused(_) => answer,
+        Answer::Done(n) => list_rows(&rows[..n], out),
+    }
+}
+
+// Lists the judgements of the rows of an accepted table.
+fn list_rows(rows: &[u32], out: &mut [u8]) -> Answer
+    requires { ⌜ Accepted (now rows) ⌝ }
+    ensures { λ r. ⌜ r ≡ answerFor Passed (listingOf (now (rows .entry))) (now (out .entry)) ⌝ }
+    ensures { λ r. ⌜ now (out .exit) ≡ areaAfter r (listingOf (now (rows .entry))) (now (out .entry)) ⌝ }
+{
+    let lines = rows.len() / frame_table::ROW;
+    if out.len() < LINE * lines {
+        return Answer::Refused(Refusal {
+            cause: Cause::OutputArea,
+            place: 0,
+        });
+    }
+    write_lines(rows, lines, out);
+    Answer::Done(LINE * lines)
+}
+
+// Writes the lines of the rows.
+fn write_lines(rows: &[u32], lines: usize, out: &mut [u8])
+    requires { ⌜ Accepted (now rows) ⌝ }
+    requires { ⌜ (lines ≡ length (now rows) / 7) × (31 * lines ≤ length (now out)) ⌝ }
+    ensures { λ _. ⌜ now (out .exit) ≡ linesFrom (now (rows .entry)) lines 0 ++ drop (31 * lines) (now (out .entry)) ⌝ }
+{
+    let mut i = 0;
+    while i < lines {
+        let from = LINE * i;
+        let to = from + LINE;
+        write_row(rows, i, &mut out[from..to]);
+        i += 1;
+    }
+}
+
+// Writes the line of row i.
+fn write_row(rows: &[u32], i: usize, line: &mut [u8])
+    requires { ⌜ Accepted (now rows) ⌝ }
+    requires { ⌜ (i < length (now rows) / 7) × (length (now line) ≡ 31) ⌝ }
+    ensures { λ _. ⌜ now (line .exit) ≡ lineOf (now (rows .entry)) i ⌝ }
+{
+    let judgement = crate::rows::judge_row(rows, i);
+    write_line(rows[frame_table::ROW * i + 1], judgement, line);
+}
+
+// Writes identifier, verdict, bound and margin, and a line feed.
+fn write_line(identifier: u32, judgement: Judgement, line: &mut [u8])
+    requires { ⌜ length (now line) ≡ 31 ⌝ }
+    ensures { λ _. ⌜ now (line .exit) ≡ listingLine identifier judgement ⌝ }
+{
+    let outcome = judgement.outcome;
+    decimal::write(&mut line[0..10], identifier as u64);
+    decimal::write(&mut line[10..13], crate::rows::verdict(outcome) as u64);
+    decimal::write(&mut line[13..21], judgement.bound as u64);
+    decimal::write_signed(&mut line[21..30], judgement.margin);
+    line[LINE - 1] = LINE_FEED;
+}
