@@ -1,18 +1,17 @@
 -- Loops that go once through a list, rising: through a range, or through those numbers of it that pass a test, found one
 -- after the other by a least search. `join done (F rest)` is what the loop is to find, where `done` is what it has gathered
--- and `rest` is what is left: sums, products, greatest values, counts and tests are each an F and a join.
+-- and `rest` is what is left: sums, products, greatest values, counts and selections are each an F and a join.
 use Prim.Native.Nat.{ℕ, zero, suc, _+_, _-_, _*_, _≤_, _<_, min, max}
 use mathlib.Core.Path.{_≡_, refl, sym, _∙_}
 use mathlib.Core.List.{List, [], _∷_, _++_}
-use mathlib.Core.Bool.{Bool, true, false, cond, _||_}
+use mathlib.Core.Bool.{Bool, true, false, cond}
 use native.Mathlib.Nat.{sub-zero, mul-assoc, mul-zero, mul-suc}
 use native.Mathlib.Numerals.{add-one}
 use native.Mathlib.Decide.{decLe}
 use native.Mathlib.Omega.{arith}
-use lib.Dec.{T}
 use lib.ListN.{length, getD, drop, drop-of-length-le}
 use lib.Seq.{drop-cons, append-snoc}
-use Rattle.arith.specs.Lists.{sum, product, greatest, keep, exists, range}
+use Rattle.arith.specs.Lists.{sum, product, greatest, keep, range}
 use Rattle.arith.specs.Least.{least}
 use Rattle.arith.specs.laws.Least.{least-within}
 use Rattle.arith.specs.declared.Found.{Found}
@@ -58,24 +57,6 @@ module _ {X : Type 0} where
   pub keep-less : (p : X → Bool) (done : List X) (a : X) → p a ≡ false → (xs : List X) → done ++ keep p (a ∷ xs) ≡ done ++ keep p xs
   unfolding keep
   keep-less p done a f xs = rw f
-
-  -- a test that fails
-  pub exists-more : (q : X → Bool) (a : X) → ¬ T (q a) → (xs : List X) → exists q (a ∷ xs) ≡ exists q xs
-  unfolding exists
-  exists-more q a f xs = go (q a) f
-    where
-      go : (b : Bool) → ¬ T b → (b || exists q xs) ≡ exists q xs
-      go true g = absurd (g tt)
-      go false g = refl
-
-  -- a test that passes, where the loop may stop
-  pub exists-here : (q : X → Bool) (a : X) → T (q a) → (xs : List X) → exists q (a ∷ xs) ≡ true
-  unfolding exists
-  exists-here q a t xs = go (q a) t
-    where
-      go : (b : Bool) → T b → (b || exists q xs) ≡ true
-      go true u = refl
-      go false u = absurd u
 
 -- ---- through a range
 
@@ -156,17 +137,10 @@ pub record Walk {A B : Type 0} (F : List ℕ → B) (join : A → B → B) (p : 
   pub is : join done (F (a ∷ keep p (range (suc a) (e - suc a)))) ≡ goal
 
 module _ {A B : Type 0} (F : List ℕ → B) (join : A → B → B) (p : ℕ → Bool) (e : ℕ) (goal : B) where
-  -- It starts at the first of a list whose others pass and come after it:
+  -- It starts at the first of a list whose others pass and come after it.
   pub walk-start : {done : A} {a : ℕ} (xs : List ℕ) → a < e → xs ≡ a ∷ keep p (range (suc a) (e - suc a)) → join done (F xs) ≡ goal
       → Walk F join p e goal done a
   walk-start xs inside first g = record { inside = inside; is = rw first at g }
-
-  -- at the first number that passes. Where there is none, nothing is left.
-  pub walk-first : {done : A} {a : ℕ} → least p (e - 0) 0 ≡ At a → join done (F (keep p (range 0 e))) ≡ goal → Walk F join p e goal done a
-  walk-first {a = a} found g = let (low, high, t) = least-within p e found in walk-start (keep p (range 0 e)) high (rw sub-zero at (keep-next p e 0 a found)) g
-
-  pub walk-none : {done : A} → least p (e - 0) 0 ≡ Nothing → join done (F (keep p (range 0 e))) ≡ goal → join done (F []) ≡ goal
-  walk-none none g = let empty : keep p (range 0 e) ≡ [] = rw sub-zero at (keep-end p e 0 none) in rw empty at g
 
   -- It goes on to the next number that passes.
   pub walk-more : {done next : A} {a b : ℕ} → Walk F join p e goal done a → ((xs : List ℕ) → join done (F (a ∷ xs)) ≡ join next (F xs))

@@ -1,9 +1,9 @@
 -- The frames of an accepted table are within the limits that keep the sums small.
-use Prim.Native.Nat.{ℕ, _+_, _-_, _*_, _/_, _≤_, _<_}
-use mathlib.Core.Path.{_≡_, sym, ap, subst}
-use mathlib.Core.List.{List, map, List·Memᴰ as Mem}
+use Prim.Native.Nat.{ℕ, _/_, _≤_, _<_}
+use mathlib.Core.Path.{sym, subst}
+use mathlib.Core.List.{List, List·Memᴰ as Mem}
 use native.Mathlib.Omega.{arith}
-use lib.ListN.{length, getD, take, drop, length-take}
+use lib.ListN.{length, length-take}
 use Rattle.arith.specs.laws.Members.{place-of, of-keep}
 use Rattle.bus_model.specs.declared.Frame.{Frame}
 use Rattle.bus_model.specs.Frame.{noFrame, row}
@@ -13,8 +13,8 @@ use Rattle.frame_table.specs.Columns.{field}
 use Rattle.frame_table.specs.Frames.{frameAt, framesOf}
 use Rattle.frame_table.specs.Table.{Accepted}
 use Rattle.frame_table.specs.laws.Lengths.{length-bounds}
-use Rattle.frame_table.specs.laws.Accepted.{length-frames, frame-row, accepted-size, accepted-limits}
-use Rattle.response_time.specs.Grouped.{Fine, FinePart, framesIn, partOf, Grouped, InTable}
+use Rattle.frame_table.specs.laws.Accepted.{length-frames, frame-row, accepted-limits}
+use Rattle.response_time.specs.Grouped.{Fine, FinePart, partOf, Grouped, InTable}
 
 module _ (rows : List ℕ) (accepted : Accepted rows) where
   row-fine : (i : ℕ) → i < length rows / 7 → Fine (frameAt rows i)
@@ -43,10 +43,6 @@ module _ (rows : List ℕ) (accepted : Accepted rows) where
 
   pub in-table-fine : {k : Frame} → InTable rows k → Fine k
   in-table-fine t = subst Fine (sym (t .is)) (accepted-fine (t .at) (t .inside))
-
-  -- There are at most 64.
-  pub few-frames : length (framesOf rows) ≤ 64
-  few-frames = rw (length-frames rows) (omega (arith, accepted-size rows accepted .most))
 
   -- So are those of a group.
   pub group-fine : {k : Frame} {members counts ends : List ℕ} → Grouped rows k members counts ends → (j : ℕ) → 1 ≤ j → j ≤ 16 → FinePart rows (partOf members counts j)

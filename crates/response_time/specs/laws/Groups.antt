@@ -1,6 +1,6 @@
 -- The rows of each node's frames ahead of k, as they are found and then read; and the lengths below k.
 use Prim.Native.Nat.{ℕ, _+_, _-_, _*_, _/_, _≤_, _<_, max}
-use mathlib.Core.Path.{_≡_, refl, sym, ap, _∙_}
+use mathlib.Core.Path.{_≡_, refl, sym, ap, subst, _∙_}
 use mathlib.Core.Bool.{Bool, true, false, cond, _&&_}
 use mathlib.Core.List.{List, _∷_, _++_, append-nil}
 use native.Mathlib.Omega.{arith}
@@ -11,21 +11,22 @@ use lib.Seq.{take-suc-set, getD-set-same, getD-set-other}
 use borrow.Author.Count.{below-more}
 use borrow.Rule.Slice.PartMut.{midOf, postOf, putMid, mid-len, same-len-mid}
 use Rattle.arith.specs.Lists.{greatest, keep, range}
+use Rattle.arith.specs.Least.{least}
 use Rattle.arith.specs.laws.Members.{of-keep, fold-keep, map-keep, keep-keep, list-places, part-before, part-written, getD-within}
 use Rattle.arith.specs.laws.Sums.{greatest-le}
 use Rattle.arith.specs.laws.Walks.{CountUp, count-start, count-more, count-end, keep-more, keep-less}
-use Rattle.arith.specs.laws.Multiples.{lcmOf-pos}
 use Rattle.bus_model.specs.declared.Frame.{Frame}
 use Rattle.bus_model.specs.declared.Choice.{Choice}
 use Rattle.bus_model.specs.declared.Choice.the-variants.{Fixed, Any}
 use Rattle.bus_model.specs.Frame.{noFrame, row}
 use Rattle.bus_model.specs.Pattern.{ofNode, hyperperiod}
-use Rattle.bus_model.specs.Bounds.{isAhead, isBelow, ahead, below, alignments, choiceOf, nodeWork}
+use Rattle.bus_model.specs.Bounds.{isAhead, isBelow, ahead, below, blocking, alignments, choiceOf, nodeWork}
+use Rattle.bus_model.specs.theory.Visits.{isAlignment}
 use Rattle.frame_table.specs.Frames.{frameAt, framesOf}
 use Rattle.frame_table.specs.Table.{Accepted}
 use Rattle.frame_table.specs.laws.Rows.{Folded, folded-none, folded-more}
 use Rattle.frame_table.specs.laws.Accepted.{length-frames, accepted-pattern}
-use Rattle.response_time.specs.Grouped.{FinePart, framesIn, instantsIn, partOf, Grouped}
+use Rattle.response_time.specs.Grouped.{FinePart, framesIn, isInstant, instantsIn, partOf, Grouped}
 use Rattle.response_time.specs.laws.Fine.{member-fine, group-fine}
 
 -- ---- blocking
@@ -53,10 +54,12 @@ module _ (t : List ℕ) (k : Frame) where
       → Folded (longestBelow k) t r (i - 1)
   longest-more = folded-more (longestBelow k) t (longerOf k) (longest-cons k)
 
-  -- In an accepted table it is small.
-  pub longest-small : Accepted t → longestBelow k (framesOf t) ≤ 400
-  unfolding below
-  longest-small accepted = greatest-le (below (framesOf t) k) (λ g m. member-fine t accepted (of-keep (isBelow k) (framesOf t) m .0) .length-high)
+-- In an accepted table blocking is at most a frame's length.
+pub blocking-small : (rows : List ℕ) → Accepted rows → (k : Frame) → blocking (framesOf rows) k ≤ 400
+unfolding blocking below
+blocking-small rows accepted k =
+    let most = greatest-le {f = λ g. g .length} {n = 400} (below (framesOf rows) k) (λ g m. member-fine rows accepted (of-keep _ (framesOf rows) m .0) .length-high) in
+    omega arith
 
 -- ---- the rows of a node
 
@@ -180,49 +183,48 @@ module _ {rows : List ℕ} {k : Frame} {members counts ends : List ℕ} where
     end = λ j low high. let same : j - 1 + 1 ≡ j = omega arith in rw same at (f .each (j - 1) (omega arith) .end);
   }
 
--- ---- the group of a node
+-- ---- the group of node i + 1
 
-module _ {rows : List ℕ} {k : Frame} {members counts ends : List ℕ} (g : Grouped rows k members counts ends) where
-  module _ (j : ℕ) (low : 1 ≤ j) (high : j ≤ 16) where
-    -- It gives the node's alignments.
-    pub group-alignments : instantsIn (framesIn rows (partOf members counts j)) (getD ends (j - 1) 0) ≡ alignments (framesOf rows) k j
-    unfolding alignments
-    group-alignments = rw (g .part j low high, g .end j low high)
+-- its rows, as the code lends them
+abbrev pub lent : List ℕ → List ℕ → ℕ → List ℕ
+lent members counts i = take (64 * i + getD counts i 0 - 64 * i) (drop (64 * i) members)
 
-    -- Its hyperperiod is within its limits.
-    pub group-end : Accepted rows → (1 ≤ getD ends (j - 1) 0) × (getD ends (j - 1) 0 ≤ 1000000)
-    unfolding hyperperiod ofNode
-    group-end accepted =
-        rw (g .end j low high)
-        (lcmOf-pos (λ x. x .period) _ (λ x m. member-fine rows accepted (of-keep _ (framesOf rows) m .0) .period-low), accepted-pattern rows accepted j low high .0)
+module _ {rows : List ℕ} {k : Frame} {members counts ends : List ℕ} (g : Grouped rows k members counts ends) (i : ℕ) (l : i < 16) where
+  place : i + 1 - 1 ≡ i
+  place = omega arith
 
-  -- The same of node i + 1, whose part of the members the code lends so:
-  module _ (i : ℕ) (l : i < 16) where
-    abbrev lent : List ℕ
-    lent = take (64 * i + getD counts i 0 - 64 * i) (drop (64 * i) members)
+  lent-part : lent members counts i ≡ partOf members counts (i + 1)
+  lent-part = let size : 64 * i + getD counts i 0 - 64 * i ≡ getD counts i 0 = omega arith in rw (place, size)
 
-    size : 64 * i + getD counts i 0 - 64 * i ≡ getD counts i 0
-    size = omega arith
+  lent-frames : framesIn rows (lent members counts i) ≡ ofNode (ahead (framesOf rows) k) (i + 1)
+  lent-frames = ap (framesIn rows) lent-part ∙ g .part (i + 1) (omega arith) (omega arith)
 
-    place : i + 1 - 1 ≡ i
-    place = omega arith
+  lent-end : getD ends i 0 ≡ hyperperiod (ofNode (framesOf rows) (i + 1))
+  lent-end = rw place at (g .end (i + 1) (omega arith) (omega arith))
 
-    pub lent-few : getD counts i 0 ≤ 64
-    lent-few = rw place at (g .few (i + 1) (omega arith) (omega arith))
+  -- They are inside the members.
+  pub lent-inside : 64 * i + getD counts i 0 ≤ length members
+  lent-inside = let few : getD counts i 0 ≤ 64 = rw place at (g .few (i + 1) (omega arith) (omega arith)) in omega (arith, g .members-size)
 
-    pub lent-fine : Accepted rows → FinePart rows lent × (getD ends i 0 ≤ 1000000)
-    lent-fine accepted = (
-      rw size (rw place at (group-fine rows accepted g (i + 1) (omega arith) (omega arith))),
-      rw place at (group-end (i + 1) (omega arith) (omega arith) accepted .1),
-    )
+  -- They and the node's hyperperiod are within their limits.
+  pub lent-fine : Accepted rows → FinePart rows (lent members counts i) × (getD ends i 0 ≤ 1000000)
+  lent-fine accepted = (
+    subst (FinePart rows) (sym lent-part) (group-fine rows accepted g (i + 1) (omega arith) (omega arith)),
+    rw lent-end (accepted-pattern rows accepted (i + 1) (omega arith) (omega arith) .0),
+  )
 
-    pub lent-frames : framesIn rows lent ≡ ofNode (ahead (framesOf rows) k) (i + 1)
-    lent-frames = rw size (rw place at (g .part (i + 1) (omega arith) (omega arith)))
+  -- Their instants are the node's alignments,
+  pub lent-alignments : instantsIn (framesIn rows (lent members counts i)) (getD ends i 0) ≡ alignments (framesOf rows) k (i + 1)
+  unfolding alignments
+  lent-alignments = rw (lent-frames, lent-end)
 
-    pub lent-alignments : instantsIn (framesIn rows lent) (getD ends i 0) ≡ alignments (framesOf rows) k (i + 1)
-    lent-alignments = rw size (rw place at (group-alignments (i + 1) (omega arith) (omega arith)))
+  -- also for a search.
+  pub lent-search : {j : ℕ} → j ≡ i + 1 → (after : ℕ) → least (isInstant (framesIn rows (lent members counts i))) (getD ends i 0 - after) after
+      ≡ least (isAlignment (framesOf rows) k j) (hyperperiod (ofNode (framesOf rows) j) - after) after
+  lent-search node after = rw (node, lent-frames, lent-end)
 
-    -- It gives the node's work.
-    pub lent-work : (cs : List Choice) (n : ℕ) {r : ℕ} → length cs ≡ 16 → r ≡ nodeWork (framesIn rows lent) (instantsIn (framesIn rows lent) (getD ends i 0)) (getD cs i (Fixed 0)) n
-        → r ≡ nodeWork (ofNode (ahead (framesOf rows) k) (i + 1)) (alignments (framesOf rows) k (i + 1)) (choiceOf cs (i + 1)) n
-    lent-work cs n all e = rw place (rw (lent-alignments, lent-frames, getD-within cs i (Fixed 0) Any (omega arith)) at e)
+  -- They give the node's work.
+  pub lent-work : (cs : List Choice) (n : ℕ) {r : ℕ} → length cs ≡ 16
+      → r ≡ nodeWork (framesIn rows (lent members counts i)) (instantsIn (framesIn rows (lent members counts i)) (getD ends i 0)) (getD cs i (Fixed 0)) n
+      → r ≡ nodeWork (ofNode (ahead (framesOf rows) k) (i + 1)) (alignments (framesOf rows) k (i + 1)) (choiceOf cs (i + 1)) n
+  lent-work cs n all e = rw place (rw (lent-alignments, lent-frames, getD-within cs i (Fixed 0) Any (omega arith)) at e)

@@ -1,18 +1,17 @@
--- What the searches for the bounds need: a node's rows as the code cuts them out of a group, their instants as the node's
--- alignments, the greatest value over these as a loop finds it, and the choices of a search that goes one level on.
-use Prim.Native.Nat.{ℕ, _+_, _-_, _*_, _≤_, _<_, max}
+-- What the searches for the bounds need: the number of scenarios, the greatest value over a node's alignments as a loop finds it,
+-- and the choices of a search that goes one level on.
+use Prim.Native.Nat.{ℕ, _+_, _-_, _≤_, _<_, max}
 use mathlib.Core.Path.{_≡_, refl, sym, ap, subst, _∙_}
 use mathlib.Core.List.{List, [], List·Memᴰ as Mem, List·Memᴰ·head as here}
 use mathlib.Core.Bool.{Bool, false}
 use native.Mathlib.Omega.{arith}
 use native.Mathlib.Nat.{le-refl}
+use native.Mathlib.Numerals.{add-one}
 use native.Mathlib.Decide.{ℕ-discrete}
 use lib.Dec.{T, lit<}
-use lib.ListN.{length, getD, take, drop, set}
-use denote.Enum.Declared.{tagOf}
+use lib.ListN.{length, getD, set}
 use Rattle.arith.specs.declared.Found.{Found}
 use Rattle.arith.specs.declared.Found.the-variants.{At, Nothing}
-use Rattle.arith.proofs.Found as found
 use Rattle.arith.specs.Lists.{product, greatest, range}
 use Rattle.arith.specs.Least.{least, orZero}
 use Rattle.arith.specs.laws.Members.{mem-keep, mem-range, of-range}
@@ -25,7 +24,7 @@ use Rattle.bus_model.specs.declared.Choice.the-variants.{Fixed}
 use Rattle.bus_model.specs.Frame.{row}
 use Rattle.bus_model.specs.Pattern.{ofNode, hyperperiod}
 use Rattle.bus_model.specs.Valid.{ValidFrame, Valid}
-use Rattle.bus_model.specs.Bounds.{nodes, ahead, alignments, orEmpty, choiceOf, busyWindow, scenarioResponse, preciseBound, scenarioCount}
+use Rattle.bus_model.specs.Bounds.{nodes, alignments, orEmpty, choiceOf, busyWindow, scenarioResponse, preciseBound, scenarioCount}
 use Rattle.bus_model.specs.Judgement.{lacksWindow}
 use Rattle.bus_model.specs.theory.Frames.{node-listed}
 use Rattle.bus_model.specs.theory.Alignment.{or-empty}
@@ -38,64 +37,23 @@ use Rattle.bus_model.specs.theory.Refine.{refined, free, set-same, set-other, n
 use Rattle.bus_model.specs.theory.Approximate.{both, greatestFound, scenarioFound}
 use Rattle.frame_table.specs.Frames.{framesOf}
 use Rattle.frame_table.specs.Table.{Accepted}
-use Rattle.frame_table.specs.laws.Accepted.{accepted-pattern, accepted-valid}
-use Rattle.response_time.specs.Grouped.{FinePart, framesIn, isInstant, instantsIn, partOf, Grouped, InTable}
-use Rattle.response_time.specs.laws.Fine.{group-fine}
+use Rattle.frame_table.specs.laws.Accepted.{accepted-valid}
+use Rattle.response_time.specs.Grouped.{framesIn, instantsIn, Grouped, InTable}
+use Rattle.response_time.specs.laws.Groups.{lent, lent-alignments}
 
--- What the else arm of a `let Found::At(..)` knows is the tag alone.
-pub nothing : (r : Found) → tagOf found.the-type r ≡ 1 → r ≡ Nothing
-nothing (At n) e = absurd (omega arith)
-nothing Nothing e = refl
+-- ---- the number of scenarios
 
--- ---- the rows of a node, as the code cuts them out of a group
-
--- those at place i
-abbrev pub cutOut : List ℕ → List ℕ → ℕ → List ℕ
-cutOut members counts i = take (64 * i + getD counts i 0 - 64 * i) (drop (64 * i) members)
-
-module _ {rows : List ℕ} (accepted : Accepted rows) {k : Frame} {members counts ends : List ℕ} (grouped : Grouped rows k members counts ends) {i j : ℕ} (low : 1 ≤ j) (high : j ≤ 16) (place : i ≡ j - 1) where
-  -- They are those of node j, whose place this is.
-  cut-part : cutOut members counts i ≡ partOf members counts j
-  cut-part = let size : 64 * (j - 1) + getD counts (j - 1) 0 - 64 * (j - 1) ≡ getD counts (j - 1) 0 = omega arith in rw (place, size)
-
-  cut-frames : framesIn rows (cutOut members counts i) ≡ ofNode (ahead (framesOf rows) k) j
-  cut-frames = ap (framesIn rows) cut-part ∙ grouped .part j low high
-
-  pub cut-fine : FinePart rows (cutOut members counts i)
-  cut-fine = subst (FinePart rows) (sym cut-part) (group-fine rows accepted grouped j low high)
-
-  -- They are inside the group.
-  pub cut-inside : 64 * i + getD counts i 0 ≤ length members
-  cut-inside = rw place (omega (arith, grouped .few j low high, grouped .members-size))
-
-  -- The node's hyperperiod stands beside them.
-  pub cut-end : getD ends i 0 ≡ hyperperiod (ofNode (framesOf rows) j)
-  cut-end = rw place (grouped .end j low high)
-
-  pub cut-end-small : getD ends i 0 ≤ 1000000
-  cut-end-small = rw cut-end (accepted-pattern rows accepted j low high .0)
-
-  -- A search among their instants is one among the node's alignments.
-  pub cut-search : (after : ℕ) → least (isInstant (framesIn rows (cutOut members counts i))) (getD ends i 0 - after) after
-      ≡ least (isAlignment (framesOf rows) k j) (hyperperiod (ofNode (framesOf rows) j) - after) after
-  cut-search after = rw (cut-frames, cut-end)
-
-  -- The instants are the alignments.
-  pub group-instants : instantsIn (framesIn rows (cutOut members counts i)) (getD ends i 0) ≡ alignments (framesOf rows) k j
-  unfolding alignments
-  group-instants = rw (cut-frames, cut-end)
-
--- how many they are at place i, an empty one counting 1
+-- how many alignments the rows of node i + 1 give, an empty one counting 1
 abbrev pub countAt : List ℕ → List ℕ → List ℕ → List ℕ → ℕ → ℕ
-countAt rows members counts ends i = length (orEmpty (instantsIn (framesIn rows (cutOut members counts i)) (getD ends i 0)))
+countAt rows members counts ends i = length (orEmpty (instantsIn (framesIn rows (lent members counts i)) (getD ends i 0)))
 
--- The product over the places is the scenario count.
-pub counts-product : {rows : List ℕ} → Accepted rows → {k : Frame} {members counts ends : List ℕ} → Grouped rows k members counts ends
+-- Their product is the scenario count.
+pub counts-product : {rows : List ℕ} {k : Frame} {members counts ends : List ℕ} → Grouped rows k members counts ends
     → product (countAt rows members counts ends) (range 0 16) ≡ scenarioCount (framesOf rows) k
 unfolding scenarioCount
-counts-product {rows} accepted {k} grouped =
+counts-product {rows} {k} grouped =
     product-shift _ (λ j. length (orEmpty (alignments (framesOf rows) k j))) 0 16
-    (λ i low high. ap (λ (instants : List ℕ). length (orEmpty instants)) (group-instants accepted grouped (omega arith) (omega arith) (omega arith)))
+    (λ i low high. ap (λ (instants : List ℕ). length (orEmpty instants)) (rw add-one at (lent-alignments grouped i (omega arith))))
 
 -- ---- the approximate bound, as a loop finds it
 

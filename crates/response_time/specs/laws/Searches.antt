@@ -11,8 +11,6 @@ use lib.ListN.{length}
 use Rattle.arith.specs.Lists.{greatest}
 use Rattle.arith.specs.Least.{least, orZero}
 use Rattle.arith.specs.Releases.{releasesBefore}
-use Rattle.arith.specs.laws.Members.{of-keep}
-use Rattle.arith.specs.laws.Sums.{greatest-le}
 use Rattle.arith.specs.laws.Walks.{CountUp, count-start, count-more, count-end, greatest-more}
 use Rattle.arith.specs.laws.Releases.{counted}
 use Rattle.arith.specs.laws.Least.{least-le, least-here, least-none, least-skip}
@@ -23,7 +21,7 @@ use Rattle.bus_model.specs.declared.Choice.{Choice}
 use Rattle.bus_model.specs.declared.Choice.the-variants.{Fixed}
 use Rattle.bus_model.specs.Frame.{row}
 use Rattle.bus_model.specs.Valid.{Valid}
-use Rattle.bus_model.specs.Bounds.{windowLimit, ahead, better, below, blocking, distance, choiceOf, demand, work, windowLoad, busyWindow, delayLoad, queueingDelay, ownDistance, instanceResponse, responseTime}
+use Rattle.bus_model.specs.Bounds.{windowLimit, ahead, better, blocking, distance, choiceOf, demand, work, windowLoad, busyWindow, delayLoad, queueingDelay, ownDistance, instanceResponse, responseTime}
 use Rattle.bus_model.specs.theory.Frames.{better-ahead}
 use Rattle.bus_model.specs.theory.Work.{work-mono, work-own}
 use Rattle.bus_model.specs.theory.Response.{window-at, own-distance, delay-at, delay-within}
@@ -33,7 +31,7 @@ use Rattle.frame_table.specs.Table.{Accepted}
 use Rattle.frame_table.specs.laws.Accepted.{accepted-valid}
 use Rattle.response_time.specs.Grouped.{InTable}
 use Rattle.response_time.specs.Load.{loadOf, holds}
-use Rattle.response_time.specs.laws.Fine.{member-fine, in-table-fine}
+use Rattle.response_time.specs.laws.Fine.{in-table-fine}
 
 module _ {fs : List Frame} (valid : Valid fs) (k : Frame) (cs : List Choice) where
   -- ---- the load of a number
@@ -67,13 +65,6 @@ module _ {fs : List Frame} (valid : Valid fs) (k : Frame) (cs : List Choice) whe
 
 -- ---- the busy window
 
--- Blocking is at most a frame's length.
-pub blocking-small : (rows : List ℕ) → Accepted rows → (k : Frame) → blocking (framesOf rows) k ≤ 400
-unfolding blocking below
-blocking-small rows accepted k =
-    let most = greatest-le {f = λ g. g .length} {n = 400} (below (framesOf rows) k) (λ g m. member-fine rows accepted (of-keep _ (framesOf rows) m .0) .length-high) in
-    omega arith
-
 module _ (fs : List Frame) (k : Frame) (cs : List Choice) where
   -- What the search finds is the window.
   pub window-search : {blocked : ℕ} {found answer : Found} → blocked ≡ blocking fs k → found ≡ least (holds fs k cs false blocked) (1000001 - 1) 1
@@ -89,7 +80,7 @@ module _ (fs : List Frame) (k : Frame) (cs : List Choice) where
   -- ---- the queueing delay of instance q
 
   -- The search finds it from any number on that no delay is below.
-  pub delay-search : (q from : ℕ) {blocked : ℕ} → blocked ≡ blocking fs k → ((w : ℕ) → delayLoad fs k cs q w ≤ w → from ≤ w) → from ≤ 1000000
+  delay-search : (q from : ℕ) {blocked : ℕ} → blocked ≡ blocking fs k → ((w : ℕ) → delayLoad fs k cs q w ≤ w → from ≤ w) → from ≤ 1000000
       → least (holds fs k cs true (blocked + q * k .length)) (1000000 - from) from ≡ queueingDelay fs k cs q
   unfolding queueingDelay holds loadOf delayLoad windowLimit
   delay-search q from e later inside = rw e (sym (least-skip _ 1000000 0 from (omega arith) inside (λ w low less t. omega (arith, later w (leb→le _ w t)))))

@@ -14,7 +14,7 @@ use Rattle.bus_model.specs.theory.Refine.{refined-end}
 use Rattle.bus_model.specs.theory.Approximate.{found-counts}
 use Rattle.frame_table.specs.Frames.{framesOf}
 use Rattle.frame_table.specs.laws.Accepted.{accepted-valid, accepted-pattern}
-use Rattle.response_time.specs.laws.Levels.{Reached, Best, best-first, best-more, best-end, nextLevel, next-levels, reached-node, reached-next, reached-most, nothing}
+use Rattle.response_time.specs.laws.Levels.{Reached, Best, best-first, best-more, best-end, nextLevel, next-levels, reached-node, reached-next, reached-most}
 use Rattle.response_time.proofs.bounds.improve.Reads as improve
 use Rattle.response_time.proofs.bounds.improve.Kinds as improve-kinds
 use Rattle.response_time.proofs.bounds.+improve.Lts-improve as improve-lts
@@ -148,7 +148,7 @@ improve-returns-3 t c =
     let i = n .before in
     let l = i .before in
     let j = c .before .before .before .before .before .before .before .before in
-    best-end _ _ _ _ (l .before .loop .inv) (rw (l .with-choice .ensures) at (i .improve .ensures)) (sym (n .next-of2 .ensures) ∙ nothing (n .next-of2 .result) (c .before .match .keys2))
+    best-end _ _ _ _ (l .before .loop .inv) (rw (l .with-choice .ensures) at (i .improve .ensures)) (sym (n .next-of2 .ensures) ∙ c .enum-told .given .1)
     ∙ ap (max (a .best)) (next-levels (framesOf (a .rows .now)) (a .k) (a .choices) (j .node-at .ensures) (left t (j .before)))
 
 improve-loop-less : (t : ℕ) → improve-lts.Need-loop-less (claims t) (improve-at t) improve.Post improve-Inv-loop improve-μ-loop

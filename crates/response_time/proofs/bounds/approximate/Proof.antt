@@ -13,7 +13,7 @@ use Rattle.bus_model.specs.theory.Visits.{isAlignment, visit-first}
 use Rattle.bus_model.specs.theory.Approximate.{both, greatestFound, approximateFound, found-more, found-missing, both-zero}
 use Rattle.frame_table.specs.Frames.{framesOf}
 use Rattle.frame_table.specs.laws.Accepted.{accepted-valid, accepted-pattern}
-use Rattle.response_time.specs.laws.Levels.{own-node, ownFound, nothing, found-end}
+use Rattle.response_time.specs.laws.Levels.{own-node, ownFound, found-end}
 use Rattle.response_time.proofs.bounds.approximate.Statement.{statement}
 use Rattle.response_time.proofs.bounds.approximate.Tie as tie
 
@@ -66,7 +66,7 @@ returns c =
     let o = c .before .before in
     let w = o .before in
     let l = w .before .loop in
-    let missing = sym (rw (w .with-choice .ensures) at (o .scenario-response .ensures)) ∙ nothing (o .scenario-response .result) (c .before .match .keys2) in
+    let missing = sym (rw (w .with-choice .ensures) at (o .scenario-response .ensures)) ∙ c .enum-told .given .1 in
     sym (found-missing _ (l .best) (l .a) missing _) ∙ l .inv .is
 
 bigger-requires : tie.Need-bigger-requires Inv-loop μ-loop
@@ -99,7 +99,7 @@ returns-2 c =
     let l = w .before in
     found-end _ _
     ∙ walk-end _ _ _ _ _ (l .loop .inv) (found-more _ (l .loop .best) (l .loop .a) _ (sym (rw (w .with-choice .ensures) at (o .scenario-response .ensures)) ∙ b .before .before .one .given .1) (b .bigger .ensures))
-    (sym (n .next-of2 .ensures) ∙ nothing (n .next-of2 .result) (c .before .match2 .keys2))
+    (sym (n .next-of2 .ensures) ∙ c .enum-told2 .given .1)
 
 loop-less : tie.Need-loop-less Inv-loop μ-loop
 loop-less c = walk-less _ _ _ _ _ (c .before .before .before .before .before .before .before .before .before .before .loop .inv) (sym (c .before .before .before .next-of2 .ensures) ∙ c .before .found .given .1)

@@ -5,11 +5,10 @@ use native.Mathlib.Omega.{arith}
 use borrow.Author.Needs.{needs}
 use Rattle.arith.specs.laws.Walks.{walk-less}
 use Rattle.bus_model.specs.Pattern.{ofNode, hyperperiod}
-use Rattle.bus_model.specs.Bounds.{nodes}
 use Rattle.bus_model.specs.theory.Refine.{free}
 use Rattle.frame_table.specs.Frames.{framesOf}
 use Rattle.frame_table.specs.laws.Accepted.{accepted-valid, accepted-pattern}
-use Rattle.response_time.specs.laws.Levels.{Best, best-first, best-more, best-end, nextLevel, own-node, reached-first, precise-levels, nothing}
+use Rattle.response_time.specs.laws.Levels.{Best, best-first, best-more, best-end, nextLevel, own-node, reached-first, precise-levels}
 use Rattle.response_time.proofs.bounds.precise.Statement.{statement}
 use Rattle.response_time.proofs.bounds.precise.Tie as tie
 
@@ -69,7 +68,7 @@ returns c =
     let n = c .before .before in
     let i = n .before in
     let l = i .before in
-    precise-levels (s .pre .0) (s .pre .1 .1 .0) (best-end _ _ _ _ (l .before .loop .inv) (rw (l .with-choice .ensures) at (i .improve .ensures)) (sym (n .next-of2 .ensures) ∙ nothing (n .next-of2 .result) (c .before .match .keys2)))
+    precise-levels (s .pre .0) (s .pre .1 .1 .0) (best-end _ _ _ _ (l .before .loop .inv) (rw (l .with-choice .ensures) at (i .improve .ensures)) (sym (n .next-of2 .ensures) ∙ c .enum-told .given .1))
 
 loop-less : tie.Need-loop-less Inv-loop μ-loop
 loop-less c = walk-less _ _ _ _ _ (c .before .before .before .before .before .before .loop .inv .walk) (sym (c .before .before .before .next-of2 .ensures) ∙ c .before .found .given .1)

@@ -6,7 +6,8 @@ use borrow.Author.Needs.{needs}
 use lib.ListN.{length, getD}
 use Rattle.arith.specs.Lists.{range, product}
 use Rattle.arith.specs.laws.Walks.{CountUp, count-start, count-more, count-end, product-more}
-use Rattle.response_time.specs.laws.Levels.{cut-inside, cut-fine, cut-end-small, countAt, counts-product}
+use Rattle.response_time.specs.laws.Groups.{lent-inside, lent-fine}
+use Rattle.response_time.specs.laws.Levels.{countAt, counts-product}
 use Rattle.response_time.proofs.bounds.scenario_count.Statement.{statement}
 use Rattle.response_time.proofs.bounds.scenario_count.Tie as tie
 
@@ -24,10 +25,7 @@ abbrev μ-loop : tie.MeasureT-loop
 
 -- the rows of the node that the loop stands at are inside the group
 inside : (c : tie.In-loop Inv-loop μ-loop) → let a = c .before .before .before .before .before .before .args in let j = c .before .loop .j in 64 * j + getD (a .counts .now) j 0 ≤ length (a .members .now)
-inside c =
-    let s = c .before .before .before .before .before .before in
-    let l = c .before .loop in
-    cut-inside (s .pre .0) (s .pre .1) {i = l .j} {j = l .j + 1} (omega arith) (omega (arith, c .loop-test .taken)) (omega arith)
+inside c = lent-inside (c .before .before .before .before .before .before .pre .1) (c .before .loop .j) (c .loop-test .taken)
 
 loop-holds : tie.Need-loop-holds Inv-loop μ-loop
 loop-holds c = (omega arith, count-start _ cut _ _ refl)
@@ -62,11 +60,7 @@ shared-slice-read-count-alignments c = search needs
 count-alignments-requires : tie.Need-count-alignments-requires Inv-loop μ-loop
 count-alignments-requires c κs =
     let s = c .before .before .before .before .before .before .before .before .before in
-    let l = c .before .before .before .before .loop in
-    let less = c .before .before .before .loop-test .taken in (
-      cut-fine (s .pre .0) (s .pre .1) {i = l .j} {j = l .j + 1} (omega arith) (omega arith) (omega arith),
-      cut-end-small (s .pre .0) (s .pre .1) {i = l .j} {j = l .j + 1} (omega arith) (omega arith) (omega arith),
-    )
+    lent-fine (s .pre .1) (c .before .before .before .before .loop .j) (c .before .before .before .loop-test .taken) (s .pre .0)
 
 cut-product-requires : tie.Need-cut-product-requires Inv-loop μ-loop
 cut-product-requires c κs = search needs
@@ -91,7 +85,7 @@ unfolding product
 returns c =
     let s = c .before .before .before .before .before .before in
     let l = c .before .loop in
-    omega (arith, l .inv .0, count-end _ cut _ _ (l .inv .1) (omega (arith, c .loop-test .left)), counts-product (s .pre .0) (s .pre .1))
+    omega (arith, l .inv .0, count-end _ cut _ _ (l .inv .1) (omega (arith, c .loop-test .left)), counts-product (s .pre .1))
 
 pub scenario-count-spec : {M : Type 1} → statement M
 scenario-count-spec =

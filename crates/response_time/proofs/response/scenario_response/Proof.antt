@@ -4,7 +4,8 @@ use native.Mathlib.Omega.{arith}
 use borrow.Author.Needs.{needs}
 use Rattle.arith.specs.declared.Found.the-variants.{At}
 use Rattle.bus_model.specs.theory.Approximate.{found-at, found-none}
-use Rattle.response_time.specs.laws.Searches.{blocking-small, window-search}
+use Rattle.response_time.specs.laws.Groups.{blocking-small}
+use Rattle.response_time.specs.laws.Searches.{window-search}
 use Rattle.response_time.proofs.response.scenario_response.Statement.{statement}
 use Rattle.response_time.proofs.response.scenario_response.Tie as tie
 

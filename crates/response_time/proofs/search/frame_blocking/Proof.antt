@@ -7,7 +7,7 @@ use Rattle.bus_model.specs.Bounds.{blocking}
 use Rattle.frame_table.specs.Frames.{framesOf}
 use Rattle.frame_table.specs.laws.Rows.{Folded, folded-all}
 use Rattle.frame_table.specs.laws.Accepted.{frame-row}
-use Rattle.response_time.specs.laws.Groups.{longestBelow, longest-none, longest-more, longest-small}
+use Rattle.response_time.specs.laws.Groups.{longestBelow, longest-none, longest-more, blocking-small}
 use Rattle.response_time.proofs.search.frame_blocking.Statement.{statement}
 use Rattle.response_time.proofs.search.frame_blocking.Tie as tie
 
@@ -51,7 +51,10 @@ returns c = (omega (arith, all (c .before), c .if1 .taken), search needs)
 
 returns-2 : tie.Need-returns-2 Inv-loop μ-loop
 unfolding blocking
-returns-2 c = (ap (λ (n : ℕ). n - 1) (all (c .before)), omega (arith, all (c .before), longest-small _ (c .before .before .before .before .args .k) (c .before .before .before .before .pre)))
+returns-2 c =
+    let s = c .before .before .before .before in
+    let is = ap (λ (n : ℕ). n - 1) (all (c .before)) in
+    (is, omega (arith, is, blocking-small _ (s .pre) (s .args .k)))
 
 pub frame-blocking-spec : {M : Type 1} → statement M
 frame-blocking-spec =

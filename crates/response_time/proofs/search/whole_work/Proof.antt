@@ -14,7 +14,7 @@ use Rattle.bus_model.specs.Pattern.{ofNode}
 use Rattle.bus_model.specs.declared.Choice.{Choice}
 use Rattle.frame_table.specs.Frames.{framesOf}
 use Rattle.response_time.specs.Grouped.{Grouped}
-use Rattle.response_time.specs.laws.Groups.{lent-few, lent-fine, lent-work}
+use Rattle.response_time.specs.laws.Groups.{lent-inside, lent-fine, lent-work}
 use Rattle.response_time.proofs.search.whole_work.Statement.{statement}
 use Rattle.response_time.proofs.search.whole_work.Tie as tie
 
@@ -32,8 +32,8 @@ abbrev μ-loop : tie.MeasureT-loop
 grouped : (c : tie.In-loop Inv-loop μ-loop) → let a = c .before .before .before .before .before .before .args in Grouped (a .rows .now) (a .k) (a .members .now) (a .counts .now) (a .ends .now)
 grouped c = c .before .before .before .before .before .before .pre .1 .0
 
-few : (c : tie.In-loop Inv-loop μ-loop) → getD (c .before .before .before .before .before .before .args .counts .now) (c .before .loop .j) 0 ≤ 64
-few c = lent-few (grouped c) (c .before .loop .j) (c .loop-test .taken)
+inside : (c : tie.In-loop Inv-loop μ-loop) → let a = c .before .before .before .before .before .before .args in let j = c .before .loop .j in 64 * j + getD (a .counts .now) j 0 ≤ length (a .members .now)
+inside c = lent-inside (grouped c) (c .before .loop .j) (c .loop-test .taken)
 
 loop-holds : tie.Need-loop-holds Inv-loop μ-loop
 unfolding work
@@ -49,7 +49,7 @@ shared-slice-read-to : tie.Need-shared-slice-read-to Inv-loop μ-loop
 shared-slice-read-to c = search needs
 
 add-to : tie.Need-add-to Inv-loop μ-loop
-add-to c = omega (arith, few (c .before))
+add-to c = omega (arith, inside (c .before), grouped (c .before) .members-size)
 
 mul-choice : tie.Need-mul-choice Inv-loop μ-loop
 mul-choice c = search needs
@@ -64,7 +64,7 @@ part-node-work-start : tie.Need-part-node-work-start Inv-loop μ-loop
 part-node-work-start c = search needs
 
 part-node-work-end : tie.Need-part-node-work-end Inv-loop μ-loop
-part-node-work-end c = omega (arith, few (c .before .before), grouped (c .before .before) .members-size)
+part-node-work-end c = inside (c .before .before)
 
 mul-node-work : tie.Need-mul-node-work Inv-loop μ-loop
 mul-node-work c = search needs
