@@ -8,8 +8,7 @@ use lib.ListN.{length}
 use Rattle.bus_model.specs.declared.Frame.{Frame}
 use Rattle.bus_model.specs.Frame.{row}
 use Rattle.bus_model.specs.Bounds.{preciseBound}
-use Rattle.bus_model.specs.Judgement.{lacksWindow, tooManyScenarios, certifies}
-use Rattle.bus_model.specs.Judgement.{judge}
+use Rattle.bus_model.specs.Judgement.{lacksWindow, tooManyScenarios, certifies, judge}
 use Rattle.frame_table.specs.declared.Checked.{Checked}
 use Rattle.frame_table.specs.declared.Checked.the-variants.{Passed, Failed}
 use Rattle.frame_table.specs.Columns.{field}

@@ -15,7 +15,6 @@ ghost use lib.IntN.{pos, _-ℤ_};
 ghost use lib.ListN.{length};
 ghost use Rattle.bus_model.specs.Frame.{row};
 ghost use Rattle.bus_model.specs.Bus.{MeetsClaim};
-ghost use Rattle.bus_model.specs.Bounds.{blocking};
 ghost use Rattle.bus_model.specs.Judgement.{verdict, judge};
 ghost use Rattle.frame_table.specs.Frames.{framesOf};
 ghost use Rattle.frame_table.specs.Table.{Accepted};

@@ -13,7 +13,7 @@ ghost use Prim.Native.Nat.{ℕ, _<_, _≤_, _^_};
 ghost use mathlib.Core.List.{_++_};
 ghost use lib.ListN.{length, getD, drop};
 ghost use Rattle.frame_table.specs.Refusal.{numberOf};
-ghost use Rattle.frame_table.specs.Checks.{fileSizeCheck, rowsSizeCheck, tableCheck};
+ghost use Rattle.frame_table.specs.Checks.{fileSizeCheck, tableCheck};
 ghost use Rattle.frame_table.specs.Text.{fieldsOf, textOf};
 ghost use Rattle.frame_table.specs.Table.{readCheck, rowsCheck, answerFor, areaAfter};
 ghost use Rattle.frame_table.specs.Steps.{Storable};

@@ -1,15 +1,14 @@
 -- The frames ahead of k, found through row numbers that are grouped by node once for each k.
-use Prim.Native.Nat.{ℕ, suc, _+_, _-_, _*_, _≤_, _<_}
+use Prim.Native.Nat.{ℕ, _-_, _*_, _≤_, _<_}
 use mathlib.Core.Path.{_≡_}
 use mathlib.Core.List.{List, map, List·Memᴰ as Mem}
 use mathlib.Core.Bool.{Bool}
 use lib.ListN.{length, getD, take, drop}
-use Rattle.arith.specs.Lists.{sum, keep, exists, range}
+use Rattle.arith.specs.Lists.{keep, exists, range}
 use Rattle.bus_model.specs.declared.Frame.{Frame}
-use Rattle.bus_model.specs.declared.Choice.{Choice}
 use Rattle.bus_model.specs.Frame.{row}
 use Rattle.bus_model.specs.Pattern.{ofNode, hyperperiod}
-use Rattle.bus_model.specs.Bounds.{nodes, ahead, isReleasedAt, nodeWork, choiceOf}
+use Rattle.bus_model.specs.Bounds.{ahead, isReleasedAt}
 use Rattle.frame_table.specs.Frames.{framesOf}
 
 -- the limits of a frame that keep the sums small

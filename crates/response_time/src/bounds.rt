@@ -17,7 +17,7 @@ ghost use Rattle.arith.specs.Least.{least};
 ghost use Rattle.arith.specs.declared.Found.the-variants.{At};
 ghost use Rattle.bus_model.specs.declared.Choice.the-variants.{Fixed};
 ghost use Rattle.bus_model.specs.Pattern.{ofNode, hyperperiod};
-ghost use Rattle.bus_model.specs.Bounds.{nodes, ahead, blocking, choiceOf, busyWindow, preciseBound, scenarioCount};
+ghost use Rattle.bus_model.specs.Bounds.{nodes, blocking, choiceOf, busyWindow, preciseBound, scenarioCount};
 ghost use Rattle.bus_model.specs.Judgement.{lacksWindow};
 ghost use Rattle.bus_model.specs.theory.Refine.{nodeAt, levels, refined, Level};
 ghost use Rattle.bus_model.specs.theory.Visits.{isAlignment};

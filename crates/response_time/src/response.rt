@@ -11,7 +11,7 @@ ghost use Prim.Native.Nat.{_+_, _-_, _*_, _≤_, _<_, max};
 ghost use Rattle.arith.specs.Least.{orZero};
 ghost use Rattle.arith.specs.declared.Found.the-variants.{At};
 ghost use Rattle.bus_model.specs.declared.Choice.the-variants.{Fixed};
-ghost use Rattle.bus_model.specs.Bounds.{choiceOf, blocking, busyWindow, queueingDelay, instanceResponse, responseTime};
+ghost use Rattle.bus_model.specs.Bounds.{choiceOf, blocking, busyWindow, responseTime};
 ghost use Rattle.bus_model.specs.theory.Approximate.{scenarioFound};
 ghost use Rattle.frame_table.specs.Frames.{framesOf};
 ghost use Rattle.frame_table.specs.Table.{Accepted};

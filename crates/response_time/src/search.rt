@@ -16,7 +16,7 @@ ghost use Rattle.bus_model.specs.declared.Choice.the-variants.{Fixed};
 ghost use Rattle.bus_model.specs.Bounds.{ahead, blocking, choiceOf, nodeWork, work};
 ghost use Rattle.frame_table.specs.Frames.{framesOf};
 ghost use Rattle.frame_table.specs.Table.{Accepted};
-ghost use Rattle.response_time.specs.Grouped.{Fine, FinePart, framesIn, instantsIn, Grouped, InTable};
+ghost use Rattle.response_time.specs.Grouped.{FinePart, framesIn, instantsIn, Grouped, InTable};
 ghost use Rattle.response_time.specs.Load.{loadOf, holds};
 
 // The longest busy window that is looked for.

@@ -1,12 +1,11 @@
 -- The starred examples of document 01: one list of cases, one theorem.
 -- All hold by computation but one, whose search would take a million steps: there a law tells that a frame longer than its period has no window.
-use Prim.Native.Nat.{ℕ, zero, suc, _+_, _*_, _≤_, _<_}
+use Prim.Native.Nat.{ℕ, _+_, _*_}
 use mathlib.Core.Path.{_≡_, refl, ap}
 use mathlib.Core.List.{List, [], _∷_}
 use mathlib.Core.Bool.{Bool, true, false}
 use native.Mathlib.Omega.{arith}
 use lib.IntN.{ℤ, pos, negsuc}
-use Rattle.bus_model.specs.declared.Frame.{Frame}
 use Rattle.bus_model.specs.declared.Judgement.{Judgement}
 use Rattle.bus_model.specs.Frame.{row}
 use Rattle.bus_model.specs.Pattern.{ofNode, patternReleases}
@@ -14,7 +13,7 @@ use Rattle.bus_model.specs.Bounds.{approximateBound, preciseBound, scenarioCoun
 use Rattle.bus_model.specs.Judgement.{tooManyScenarios, judge, verdict}
 use Rattle.bus_model.specs.theory.Overload.{overloaded-judged}
 use Rattle.frame_table.specs.Frames.{framesOf}
-use Rattle.frame_table.specs.Refusal.{Returned, checkReturns}
+use Rattle.frame_table.specs.Refusal.{checkReturns}
 use Rattle.frame_table.specs.Table.{rowsCheck}
 use Rattle.frame_table.specs.laws.Accepted.{accepted-valid}
 use Rattle.starred_examples.specs.Compute.{everything}

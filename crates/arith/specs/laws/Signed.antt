@@ -4,7 +4,7 @@ use mathlib.Core.Path.{_≡_, refl, sym, ap, _∙_}
 use native.Mathlib.Omega.{arith}
 use native.Mathlib.Decide.{decLt}
 use borrow.Author.Tests.{lt-ltb, le-ltb}
-use lib.IntN.{ℤ, pos, negsuc, subℕ, _+ℤ_, _-ℤ_}
+use lib.IntN.{ℤ, pos, negsuc, subℕ, _+ℤ_, _-ℤ_, negℤ, +ℤ-idl}
 use lib.Signed.{mag}
 use mir.Syntax.{w64}
 use mir.Val.{SFits, toZ, ofZ}
@@ -49,3 +49,10 @@ toZ-pos n h = toZ-ofZ {w = w64} {z = pos n} (record { sfits = h })
 -- A signed number that was stored and is read back.
 pub kept : (z : ℤ) → mag z < 2 ^ 63 → toZ w64 (ofZ w64 z) ≡ z
 kept z h = toZ-ofZ {w = w64} {z = z} (record { sfits = h })
+
+-- A number of 63 bits, negated.
+pub neg-sfits : (n : ℕ) → n < 2 ^ 63 → SFits w64 (pos 0 -ℤ toZ w64 n)
+neg-sfits n h = rw (toZ-pos n h) (sub-sfits 0 n (omega arith) h)
+
+pub neg-kept : (n : ℕ) → n < 2 ^ 63 → toZ w64 (ofZ w64 (pos 0 -ℤ toZ w64 n)) ≡ negℤ (pos n)
+neg-kept n h = toZ-ofZ (neg-sfits n h) ∙ rw (toZ-pos n h) (+ℤ-idl (negℤ (pos n)))

@@ -138,8 +138,9 @@ refusal-below f m = below (numberOf (f .cause) * 10000 + f .place) (let r = numb
 pub refusal-differs : (f : Refusal) {j : Judgement} {z : ℤ} → JudgementParts j z → encodeRefusal f ≢ z
 refusal-differs f p e = refusal-below f (p .size) (e ∙ p .is)
 
--- ---- the places of refusals: a line, a node or a row
+-- ---- the places of refusals: a line, a node or a row, at most 64
 
+-- where the check fails, its place is small
 abbrev CheckPlaced : Checked → Type 0
 CheckPlaced Passed = Unit {0}
 CheckPlaced (Failed f) = f .place ≤ 64
@@ -155,6 +156,7 @@ firstOf-placed check (suc m) n each =
     first-placed (check n) (firstOf check m (n + 1)) (each n (omega arith) (omega arith))
     (λ e. firstOf-placed check m (n + 1) (λ i low high. each i (omega arith) (omega arith)))
 
+-- Lines count from 1.
 line-placed : (t : List ℕ) (i : ℕ) → i < 64 → CheckPlaced (lineCheck t i)
 unfolding lineCheck columnsCheck columnCheck
 line-placed t i l =
@@ -195,6 +197,7 @@ file-placed file =
     let few = file-size (length file) e .most in
     table-placed (fieldsOf file) (omega (arith, length-fields file (7 * (length file / 43)) 0)))
 
+-- where there is no judgement, and where there is no bound, the place is small
 abbrev JudgedPlaced : Judged → Type 0
 JudgedPlaced (Verdict j) = Unit {0}
 JudgedPlaced (NotJudged f) = f .place ≤ 64
@@ -205,10 +208,12 @@ BoundedPlaced (NotBounded f) = f .place ≤ 64
 
 -- ---- the parts of an answer's number
 
+-- the number z holds the judgement's parts or the refusal's
 abbrev pub JudgedParts : Judged → ℤ → Type 0
 JudgedParts (Verdict j) z = JudgementParts j z
 JudgedParts (NotJudged f) z = RefusalParts f z
 
+-- the number z is the bound, or holds the refusal's parts
 abbrev pub BoundedParts : Bounded → ℤ → Type 0
 BoundedParts (Bound b) z = z ≡ pos b
 BoundedParts (NotBounded f) z = RefusalParts f z
@@ -248,6 +253,7 @@ module _ (rows : List ℕ) (r : ℕ) where
           cond-cases BoundedPlaced (lacksWindow (framesOf rows) (row (framesOf rows) r)) (λ w. omega arith)
           (λ w. cond-cases BoundedPlaced (tooManyScenarios (framesOf rows) (row (framesOf rows) r)) (λ m. omega arith) (λ m. tt)))
 
+  -- The place of a refusal is small.
   pub row-place-small : (f : Refusal) → judgeRow rows r ≡ NotJudged f → f .place ≤ 64
   row-place-small f e = subst JudgedPlaced e row-judged
 
@@ -280,6 +286,7 @@ module _ (file : List ℕ) (r : ℕ) where
       go (Failed f) p = p
       go Passed p = row-bounded (fieldsOf file) r
 
+  -- The place of a refusal is small.
   pub place-small : (f : Refusal) → judgeFile file r ≡ NotJudged f → f .place ≤ 64
   place-small f e = subst JudgedPlaced e (file-judged .1)
 

@@ -40,7 +40,7 @@ use Rattle.certifier.specs.Steps.{Encodable}
 
 -- ---- what the code's searches tell
 
--- no window lacks, and b is the approximate bound
+-- every window exists, and b is the approximate bound
 pub record Approximated (fs : List Frame) (k : Frame) (b : ℕ) : Type 0 where
   pub windows : lacksWindow fs k ≡ false
   pub bound : approximateBound fs k ≡ b
@@ -49,7 +49,7 @@ module _ {rows : List ℕ} {k : Frame} (accepted : Accepted rows) (inside : InTa
   valid : ValidFrame k
   valid = rw (inside .is) (accepted-valid rows accepted .frame (inside .at) (inside .inside))
 
-  -- Nothing is found where a window lacks,
+  -- Nothing is found where a window is missing,
   pub found-none : found ≡ Nothing → lacksWindow (framesOf rows) k ≡ true
   found-none none = approximate-none (framesOf rows) valid .0 (sym is ∙ none)
 
@@ -110,7 +110,7 @@ module _ (fs : List Frame) (r : ℕ) {k : Frame} (is : k ≡ row fs r) where
 
 -- ---- a row
 
--- There is a row below the number of rows.
+-- A number below the number of rows is one of a row.
 pub row-inside : (rows : List ℕ) {r : ℕ} → r < length rows / 7 → r < length (framesOf rows)
 row-inside rows l = rw (length-frames rows) l
 

@@ -1,25 +1,25 @@
 -- What is known of an accepted table: its size, the limits of its numbers, its nodes' patterns,
 -- and that its frames are valid in the sense of the bus model.
-use Prim.Native.Nat.{ℕ, zero, suc, _+_, _-_, _*_, _/_, _%_, _≤_, _<_}
-use mathlib.Core.Path.{_≡_, refl, sym, ap, subst, _∙_}
-use mathlib.Core.Bool.{Bool, true, false, cond, not, _&&_, _||_}
-use mathlib.Core.List.{List, map}
-use mathlib.Core.Logic.{_⊎_, inl, inr}
+use Prim.Native.Nat.{ℕ, _+_, _-_, _/_, _≤_, _<_}
+use mathlib.Core.Path.{_≡_, sym, ap, subst, _∙_}
+use mathlib.Core.Bool.{true, cond}
+use mathlib.Core.List.{List}
+use mathlib.Core.Logic.{inl, inr}
 use native.Mathlib.Nat.{zero-add}
 use native.Mathlib.Omega.{arith}
 use native.Mathlib.Decide.{ℕ-discrete, decLt}
-use borrow.Author.Tests.{eq-eqb, ne-eqb, eqb-true, eqb-false, ltb-false}
-use lib.Dec.{T, ltb, eqb}
-use lib.ListN.{length, getD, length-map}
-use Rattle.arith.specs.Lists.{exists, range}
+use borrow.Author.Tests.{eq-eqb, ltb-false}
+use lib.Dec.{T, ltb}
+use lib.ListN.{length, length-map}
+use Rattle.arith.specs.Lists.{range}
 use Rattle.arith.specs.laws.Tests.{by-test}
 use Rattle.arith.specs.laws.Members.{length-range, getD-table, getD-beyond, exists-mem, mem-range}
 use Rattle.bus_model.specs.declared.Frame.{Frame}
 use Rattle.bus_model.specs.Frame.{noFrame, row}
 use Rattle.bus_model.specs.Pattern.{ofNode, hyperperiod, patternReleases}
 use Rattle.bus_model.specs.Valid.{ValidFrame, Valid}
-use Rattle.frame_table.specs.declared.Cause.the-variants.{Duplicate, Hyperperiod, Releases, RowsLength}
-use Rattle.frame_table.specs.declared.Checked.the-variants.{Passed, Failed}
+use Rattle.frame_table.specs.declared.Cause.the-variants.{Duplicate, Hyperperiod, Releases}
+use Rattle.frame_table.specs.declared.Checked.the-variants.{Passed}
 use Rattle.frame_table.specs.Columns.{field, isIdentifier}
 use Rattle.frame_table.specs.Frames.{priorityOf, frameAt, framesOf}
 use Rattle.frame_table.specs.Refusal.{failed}
@@ -27,7 +27,7 @@ use Rattle.frame_table.specs.Checks.{rowsSizeCheck, columnsCheck, isSame
 use Rattle.frame_table.specs.Table.{rowsCheck, Accepted}
 use Rattle.frame_table.specs.Steps.{Periods}
 use Rattle.frame_table.specs.laws.First.{first-passed, first-each}
-use Rattle.frame_table.specs.laws.Limits.{Limits, not-passed, line-limits, lines-each, lines-periods, identified-cases}
+use Rattle.frame_table.specs.laws.Limits.{Limits, not-passed, lines-each, lines-periods, identified-cases}
 use Rattle.frame_table.specs.laws.Lengths.{length-bounds}
 use Rattle.frame_table.specs.laws.Sizes.{RowsSize, rows-size}
 

@@ -1,14 +1,14 @@
 -- The table of largest lengths follows its rule, and what the rule says for any g.
 use Prim.Native.Nat.{ℕ, _+_, _*_, _≤_, _<_}
-use mathlib.Core.Path.{_≡_, refl, subst, sym}
+use mathlib.Core.Path.{_≡_}
 use mathlib.Core.Bool.{Bool, true, false, cond}
 use mathlib.Core.List.{[]}
 use native.Mathlib.Omega.{arith}
-use lib.Dec.{T, eqb, eqb→eq}
+use lib.Dec.{eqb, eqb→eq}
 use lib.ListN.{getD}
 use Rattle.arith.specs.laws.Below.{allBelow, below}
 use Rattle.arith.specs.laws.Members.{getD-beyond}
-use Rattle.frame_table.specs.Frames.{lengths, kindPlace, largestLength, lengthRule, stuffable}
+use Rattle.frame_table.specs.Frames.{lengths, largestLength, lengthRule, stuffable}
 
 -- whether the table has the rule's value at a kind's place and a payload
 follows : ℕ → ℕ → Bool

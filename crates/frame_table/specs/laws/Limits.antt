@@ -1,14 +1,14 @@
 -- What is known of a line that passed its checks: each number is within its limits.
 use Prim.Native.Nat.{ℕ, zero, suc, _+_, _*_, _/_, _%_, _^_, _-_, _≤_, _<_}
-use mathlib.Core.Path.{_≡_, refl, sym, ap, subst, _∙_}
-use mathlib.Core.Bool.{Bool, true, false, cond, _&&_, _||_}
+use mathlib.Core.Path.{_≡_, sym}
+use mathlib.Core.Bool.{true, _&&_}
 use mathlib.Core.List.{List}
 use mathlib.Core.Logic.{_⊎_, inl, inr}
 use native.Mathlib.Nat.{zero-add}
 use native.Mathlib.Omega.{arith}
 use borrow.Author.Tests.{leb-true, ltb-true, eqb-true}
-use lib.ListN.{length, getD}
-use lib.Dec.{ltb, leb, eqb}
+use lib.ListN.{length}
+use lib.Dec.{leb, eqb}
 use Rattle.arith.specs.laws.Tests.{by-test, and-both}
 use Rattle.frame_table.specs.declared.Cause.{Cause}
 use Rattle.frame_table.specs.declared.Cause.the-variants.{LineFeed, Notation, Limit}
@@ -16,7 +16,7 @@ use Rattle.frame_table.specs.declared.Checked.{Checked}
 use Rattle.frame_table.specs.declared.Checked.the-variants.{Passed, Failed}
 use Rattle.frame_table.specs.Columns.{field, between, isIdentifier, within}
 use Rattle.frame_table.specs.Refusal.{failed}
-use Rattle.frame_table.specs.Checks.{malformed, unterminated, columnCheck, columnsCheck, standsEarlier, lineCheck, linesCheck, tableCheck}
+use Rattle.frame_table.specs.Checks.{malformed, unterminated, columnCheck, columnsCheck, lineCheck, linesCheck, tableCheck}
 use Rattle.frame_table.specs.Steps.{Periods, Storable}
 use Rattle.frame_table.specs.laws.First.{first-passed, first-each}
 

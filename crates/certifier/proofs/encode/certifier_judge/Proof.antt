@@ -1,44 +1,32 @@
+-- The file is read into rows of its own; a refusal of the file is encoded, and a table that was read is judged and its judgement encoded.
 use Prim.Native.Nat.{ℕ}
 use mathlib.Core.Path.{refl, sym, ap, subst, _∙_}
 use mathlib.Core.List.{List}
+use borrow.Author.Needs.{needs}
 use Rattle.arith.specs.laws.Signed.{kept}
 use Rattle.certifier.specs.Judge.{judgeRow}
 use Rattle.certifier.specs.Encode.{judgeFile, judgeRead, encodeJudged, encodeRefusal}
 use Rattle.certifier.specs.Steps.{Encodable}
 use Rattle.certifier.specs.laws.Judged.{judged-encodable}
 use Rattle.certifier.specs.laws.Reading.{ReadRows, read-refused, read-rows}
-use borrow.Author.Needs.{needs}
 use Rattle.certifier.proofs.encode.certifier_judge.Statement.{statement}
 use Rattle.certifier.proofs.encode.certifier_judge.Tie as tie
-use Rattle.certifier.proofs.encode.certifier_judge.Reads as reads
-use Rattle.certifier.proofs.encode.certifier_judge.Lts as lts
-use Rattle.certifier.proofs.encode.encode_judged.Reads as encode-judged-reads
-use Rattle.certifier.proofs.encode.encode_refusal.Reads as encode-refusal-reads
-use Rattle.certifier.proofs.rows.judge.Reads as judge-reads
-use Rattle.certifier.proofs.rows.of_table.Reads as of-table-reads
-use Rattle.frame_table.proofs.read.Reads as read-reads
 
--- src/encode.rt:24:43
 slice-aggregate-read : tie.Need-slice-aggregate-read
 slice-aggregate-read c = search needs
 
--- src/encode.rt:24:9
 read-requires : tie.Need-read-requires
 read-requires c κs = search needs
 
--- src/encode.rt:26:25
 enum-known-answer : tie.Need-enum-known-answer
 enum-known-answer c = search needs
 
--- src/encode.rt:26:52
 of-table-requires : tie.Need-of-table-requires
 of-table-requires c κs = search needs
 
--- src/encode.rt:26:37
 encode-refusal-requires : tie.Need-encode-refusal-requires
 encode-refusal-requires c κs = search needs
 
--- src/encode.rt:27:22
 enum-known-answer-2 : tie.Need-enum-known-answer-2
 enum-known-answer-2 c = search needs
 
@@ -46,23 +34,18 @@ enum-known-answer-2 c = search needs
 table : (c : tie.After-known-told2) → ReadRows (c .before .before .before .before .before .before .before .args .table .now) (c .before .before .before .before .read .last .1 .0) (c .before .answer2 .given .0 .0)
 table c = let r = c .before .before .before .before .read in read-rows _ _ _ refl (r .ensures .0) _ _ (r .ensures .1) (c .before .answer2 .given .1)
 
--- src/encode.rt:27:48
 array-share-prefix-rows : tie.Need-array-share-prefix-rows
 array-share-prefix-rows c = table c .room
 
--- src/encode.rt:27:48
 slice-aggregate-judge : tie.Need-slice-aggregate-judge
 slice-aggregate-judge c = table (c .before) .size
 
--- src/encode.rt:27:42
 judge-requires : tie.Need-judge-requires
 judge-requires c κs = search needs
 
--- src/encode.rt:27:28
 encode-judged-requires : tie.Need-encode-judged-requires
 encode-judged-requires c κs = subst Encodable (sym (c .judge .ensures .0)) (judged-encodable _ _)
 
--- src/encode.rt:19:1
 returns : tie.Need-returns
 unfolding encodeJudged judgeFile judgeRead
 returns c =
@@ -70,7 +53,6 @@ returns c =
     kept _ (c .encode-refusal .ok) ∙ c .encode-refusal .ensures
     ∙ rw (read-refused (r .before .before .before .args .table .now) _ _ refl (r .read .ensures .0) _ (c .before .before .before .answer .given .1)) (ap encodeRefusal (c .before .of-table .ensures))
 
--- src/encode.rt:19:1
 returns-2 : tie.Need-returns-2
 unfolding judgeFile judgeRead
 returns-2 c =

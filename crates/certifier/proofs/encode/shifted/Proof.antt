@@ -1,22 +1,17 @@
-use Rattle.arith.specs.laws.Signed.{toZ-pos}
-use mir.Facts.{toZ-ofZ}
-use native.Mathlib.Omega.{arith}
+-- The margin and a million are a natural number of 63 bits, by the precondition.
 use mathlib.Core.Path.{refl}
-use Prim.Native.Nat.{ℕ}
+use native.Mathlib.Omega.{arith}
+use mir.Facts.{toZ-ofZ}
+use Rattle.arith.specs.laws.Signed.{toZ-pos}
 use Rattle.certifier.proofs.encode.shifted.Statement.{statement}
 use Rattle.certifier.proofs.encode.shifted.Tie as tie
-use Rattle.certifier.proofs.encode.shifted.Reads as reads
-use Rattle.certifier.proofs.encode.shifted.Lts as lts
 
--- src/encode.rt:88:6
 add-result : tie.Need-add-result
 add-result c = rw (toZ-ofZ (c .fits .margin), c .pre .1) (record { sfits = omega (arith, c .pre .2) })
 
--- src/encode.rt:88:5
 cast-result : tie.Need-cast-result
 cast-result c = rw (toZ-ofZ (c .fits .margin), c .pre .1, toZ-pos (c .pre .0) (omega (arith, c .pre .2))) (tt, record { fits = omega (arith, c .pre .2) })
 
--- src/encode.rt:84:1
 returns : tie.Need-returns
 returns c = rw (toZ-ofZ (c .fits .margin), c .pre .1, toZ-pos (c .pre .0) (omega (arith, c .pre .2))) (refl, c .pre .2)
 

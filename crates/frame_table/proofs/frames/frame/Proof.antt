@@ -6,96 +6,70 @@ use Rattle.frame_table.specs.laws.Accepted.{no-row, frame-row}
 use borrow.Author.Needs.{needs}
 use Rattle.frame_table.proofs.frames.frame.Statement.{statement}
 use Rattle.frame_table.proofs.frames.frame.Tie as tie
-use Rattle.frame_table.proofs.frames.frame.Reads as reads
-use Rattle.frame_table.proofs.frames.frame.Lts as lts
-use Rattle.frame_table.proofs.frames.largest_length.Reads as largest-length-reads
-use Rattle.frame_table.proofs.frames.priority.Reads as priority-reads
 
--- src/frames.rt:45:9
 returns : tie.Need-returns
 returns c = sym (no-row _ _ (c .if1 .taken))
 
--- src/frames.rt:53:14
 mul-at : tie.Need-mul-at
 mul-at c = search needs
 
--- src/frames.rt:54:27
 add-identifier : tie.Need-add-identifier
 add-identifier c = search needs
 
--- src/frames.rt:54:22
 mul-identifier : tie.Need-mul-identifier
 mul-identifier c = search needs
 
--- src/frames.rt:54:22
 shared-slice-read-identifier : tie.Need-shared-slice-read-identifier
 shared-slice-read-identifier c = search needs
 
--- src/frames.rt:55:21
 add-kind : tie.Need-add-kind
 add-kind c = search needs
 
--- src/frames.rt:55:16
 mul-kind : tie.Need-mul-kind
 mul-kind c = search needs
 
--- src/frames.rt:55:16
 shared-slice-read-kind : tie.Need-shared-slice-read-kind
 shared-slice-read-kind c = search needs
 
--- src/frames.rt:56:24
 add-payload : tie.Need-add-payload
 add-payload c = search needs
 
--- src/frames.rt:56:19
 mul-payload : tie.Need-mul-payload
 mul-payload c = search needs
 
--- src/frames.rt:56:19
 shared-slice-read-payload : tie.Need-shared-slice-read-payload
 shared-slice-read-payload c = search needs
 
--- src/frames.rt:58:15
 mul-t7 : tie.Need-mul-t7
 mul-t7 c = search needs
 
--- src/frames.rt:58:15
 shared-slice-read-t11 : tie.Need-shared-slice-read-t11
 shared-slice-read-t11 c = search needs
 
--- src/frames.rt:59:19
 priority-requires : tie.Need-priority-requires
 priority-requires c κs = search needs
 
--- src/frames.rt:60:17
 largest-length-requires : tie.Need-largest-length-requires
 largest-length-requires c κs = search needs
 
--- src/frames.rt:61:22
 add-t8 : tie.Need-add-t8
 add-t8 c = search needs
 
--- src/frames.rt:61:17
 mul-t17 : tie.Need-mul-t17
 mul-t17 c = search needs
 
--- src/frames.rt:61:17
 shared-slice-read-t19 : tie.Need-shared-slice-read-t19
 shared-slice-read-t19 c = search needs
 
--- src/frames.rt:62:22
 add-t20 : tie.Need-add-t20
 add-t20 c = search needs
 
--- src/frames.rt:62:17
 mul-t21 : tie.Need-mul-t21
 mul-t21 c = search needs
 
--- src/frames.rt:62:17
 shared-slice-read-t23 : tie.Need-shared-slice-read-t23
 shared-slice-read-t23 c = search needs
 
--- src/frames.rt:41:1
 returns-2 : tie.Need-returns-2
 unfolding frameAt
 returns-2 c =

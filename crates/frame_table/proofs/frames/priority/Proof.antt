@@ -4,19 +4,14 @@ use Rattle.frame_table.specs.Frames.{priorityOf}
 use borrow.Author.Needs.{needs}
 use Rattle.frame_table.proofs.frames.priority.Statement.{statement}
 use Rattle.frame_table.proofs.frames.priority.Tie as tie
-use Rattle.frame_table.proofs.frames.priority.Reads as reads
-use Rattle.frame_table.proofs.frames.priority.Lts as lts
 
--- src/frames.rt:21:9
 add-result : tie.Need-add-result
 add-result c = search needs
 
--- src/frames.rt:15:1
 returns : tie.Need-returns
 unfolding priorityOf
 returns c = rw (eq-eqb _ _ (c .if1 .taken))
 
--- src/frames.rt:15:1
 returns-2 : tie.Need-returns-2
 unfolding priorityOf
 returns-2 c = rw (ne-eqb _ _ (c .if1 .left))
