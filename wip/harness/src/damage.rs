@@ -1,0 +1,170 @@
+//! Damage to tables: each cause of a refusal, alone or with others.
+
+use crate::lent::{filled, Element};
+use analyser::random::Random;
+use analyser::table::{
+    Row, FIELDS, IDENTIFIER, KIND, LINE, MOST_LINES, NODE, OFFSET, PERIOD, WIDTHS,
+};
+
+/// For each column the limits and what stands beside them.
+const AT_LIMITS: [&[u32]; FIELDS] = [
+    &[0, 1, 16, 17, 32],
+    &[0, 2047, 2048, 536_870_911, 536_870_912, u32::MAX],
+    &[0, 10, 11, 12, 28, 29, 30, 267],
+    &[0, 8, 9, 16],
+    &[0, 1, 1_000_000, 1_000_001, 16_777_216],
+    &[0, 999_999, 1_000_000, 1_000_001],
+    &[0, 1, 1_000_000, 1_000_001, 16_777_216],
+];
+
+/// Periods that bring a node to the limits of its pattern.
+const PERIODS: &[u32] = &[
+    1, 2, 3, 125, 250, 255, 256, 999, 1000, 1001, 3906, 3907, 4000, 65_536, 65_537, 200_000,
+    500_000, 999_983, 999_999, 1_000_000,
+];
+
+/// Columns that break the notation.
+const BROKEN: &[&[u8]] = &[
+    b"", b"00", b"01", b"-1", b"+1", b"\t1", b"1 ", b"1x", b"x", b"/", b":", b"\xff", b"\0",
+    b"1 1", b"\n1", b"0x1", b"1.0", b" 0 ",
+];
+
+/// Identifiers that need more than 32 bits.
+const LONG_IDENTIFIERS: &[&[u8]] =
+    &[b"4294967295", b"4294967296", b"4294967301", b"8589934592", b"9999999999"];
+
+/// Changes fields to values at and beyond their limits, to those of other lines, or at random.
+pub fn damage_rows(random: &mut Random, rows: &mut [Row]) {
+    let line = some_line(random, rows.len());
+    let other = random.below(rows.len() as u64) as usize;
+    match random.below(10) {
+        0..=2 => {
+            let column = random.below(FIELDS as u64) as usize;
+            rows[line][column] = random.pick(AT_LIMITS[column]);
+        }
+        3 => rows[line][OFFSET] = rows[line][PERIOD].saturating_sub(random.below(2) as u32),
+        4 => {
+            rows[line][IDENTIFIER] = rows[other][IDENTIFIER];
+            rows[line][KIND] = rows[other][KIND];
+        }
+        5 => rows[line][NODE] = rows[other][NODE],
+        6 => rows[line][random.below(FIELDS as u64) as usize] = random.word() as u32,
+        _ => set_periods(random, rows, line),
+    }
+}
+
+/// Any line, half of the time the middle one, so that several faults meet.
+fn some_line(random: &mut Random, lines: usize) -> usize {
+    if random.percent(50) {
+        lines / 2
+    } else {
+        random.below(lines as u64) as usize
+    }
+}
+
+/// Gives the frames of a line's node periods near the limits of a pattern.
+fn set_periods(random: &mut Random, rows: &mut [Row], line: usize) {
+    let node = rows[line][NODE];
+    let next = (line + 1) % rows.len();
+    rows[next][NODE] = node;
+    let of_node = rows.iter_mut().filter(|row| row[NODE] == node);
+    let mut of_node: Vec<&mut Row> = of_node.collect();
+    let periods = periods(random, of_node.len());
+    for (row, period) in of_node.iter_mut().zip(periods) {
+        row[PERIOD] = period;
+        row[OFFSET] %= period;
+    }
+}
+
+/// Periods of so many frames: any near a limit, about 256 releases, or a hyperperiod near 1000000.
+fn periods(random: &mut Random, count: usize) -> Vec<u32> {
+    let mut periods: Vec<u32> = (0..count).map(|_| random.pick(PERIODS)).collect();
+    match random.below(3) {
+        0 => {
+            let short = random.pick(&[1, 2, 10, 300, 3900]);
+            let times = random.between(254, 258).saturating_sub(count as u64).max(1);
+            periods.fill(short * times as u32);
+            periods[0] = short;
+        }
+        1 => {
+            let sixth = random.between(166_650, 166_680) as u32;
+            periods.iter_mut().for_each(|period| *period = sixth * random.pick(&[2, 3]));
+        }
+        _ => (),
+    }
+    periods
+}
+
+/// The file of rows; what is too wide for a column loses its first digits.
+pub fn file_of(rows: &[Row]) -> Vec<u8> {
+    let mut rows = rows.to_vec();
+    for row in &mut rows {
+        for (value, width) in row.iter_mut().zip(WIDTHS) {
+            *value = (u64::from(*value) % 10_u64.pow(width as u32)) as u32;
+        }
+    }
+    analyser::table::file_of(&rows)
+}
+
+/// Breaks line feeds, columns, single bytes or the length.
+pub fn damage_file(random: &mut Random, file: &mut Vec<u8>) {
+    if file.len() < LINE || random.percent(15) {
+        return change_length(random, file, LINE, MOST_LINES);
+    }
+    let line = some_line(random, file.len() / LINE);
+    let column = random.below(FIELDS as u64) as usize;
+    match random.below(8) {
+        0 => file[line * LINE + LINE - 1] = random.pick(b" \r0x\0\x0b"),
+        1..=3 => overwrite(file, line, column, random.pick(BROKEN)),
+        4 => overwrite(file, line, column, &b"9999999999"[..WIDTHS[column]]),
+        5 => {
+            overwrite(file, line, IDENTIFIER, random.pick(LONG_IDENTIFIERS));
+            if random.percent(40) {
+                overwrite(file, line, KIND, random.pick(BROKEN));
+            }
+        }
+        6 => file[line * LINE + random.below(LINE as u64) as usize] = random.word() as u8,
+        _ => file[line * LINE + random.below(LINE as u64) as usize] = random.pick(b"  0123456789"),
+    }
+}
+
+/// Puts a text into a column, right-justified; of a longer one the end.
+fn overwrite(file: &mut [u8], line: usize, column: usize, text: &[u8]) {
+    let start = line * LINE + WIDTHS[..column].iter().sum::<usize>();
+    let field = &mut file[start..start + WIDTHS[column]];
+    let text = &text[text.len().saturating_sub(field.len())..];
+    let spaces = field.len() - text.len();
+    field[..spaces].fill(b' ');
+    field[spaces..].copy_from_slice(text);
+}
+
+/// Words that are no rows any more, in their number or otherwise.
+pub fn damage_words(random: &mut Random, words: &mut Vec<u32>) {
+    if words.is_empty() || random.percent(60) {
+        return change_length(random, words, FIELDS, MOST_LINES);
+    }
+    let at = random.below(words.len() as u64) as usize;
+    words[at] = random.word() as u32 >> random.below(32);
+}
+
+/// Cuts, lengthens or repeats what has so many elements a line.
+fn change_length<T: Element>(random: &mut Random, list: &mut Vec<T>, line: usize, most: usize) {
+    let len = list.len();
+    let wanted = match random.below(8) {
+        0 => 0,
+        1 => random.below(len as u64 + 1) as usize,
+        2 => len.saturating_sub(1),
+        3 => len + 1,
+        4 => len + random.between(1, 2 * line as u64) as usize,
+        5 => (most + 1) * line + random.below(3) as usize - 1,
+        6 if random.percent(10) => (65_536 + random.between(1, 64) as usize) * line,
+        6 => (most + random.between(1, 40) as usize) * line,
+        _ => most * line + random.below(3) as usize - 1,
+    };
+    if wanted > len && len > 0 && random.percent(70) {
+        *list = list.iter().copied().cycle().take(wanted).collect();
+    }
+    let missing = wanted.saturating_sub(list.len());
+    list.extend(filled::<T>(random, missing));
+    list.truncate(wanted);
+}

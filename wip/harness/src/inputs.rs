@@ -1,0 +1,128 @@
+//! Random inputs: each is settled by the seed and its number.
+
+use crate::call::{Call, OnFile, OnRows};
+use crate::damage::{damage_file, damage_rows, damage_words, file_of};
+use crate::tables::{self, claim_all, is_cheap};
+use analyser::random::Random;
+use analyser::table::{self, Row, FIELDS, LINE};
+
+/// Bytes of a line of the listing.
+const LISTED: usize = 31;
+
+/// The generator of one number's draws.
+pub fn generator(seed: u64, number: u64) -> Random {
+    let first = Random::new(seed).word();
+    Random::new(first.wrapping_add(number.wrapping_mul(0xd134_2543_de82_ef95)))
+}
+
+/// What is asked of a table.
+#[derive(Clone, Copy, PartialEq)]
+enum Task {
+    Judge(u64),
+    PreciseBound(u64),
+    List,
+    /// Reading, checking or writing.
+    Copy,
+}
+
+pub fn draw(random: &mut Random) -> Call {
+    let mut drawn = tables::draw(random);
+    let task = task(random, drawn.row, drawn.rows.len());
+    if task == Task::List {
+        claim_all(random, &mut drawn.rows);
+    }
+    let faults = if random.percent(40) { random.between(1, 3) } else { 0 };
+    let cheap = (faults == 0).then_some(drawn.row);
+    let in_rows = random.below(faults + 1);
+    (0..in_rows).for_each(|_| damage_rows(random, &mut drawn.rows));
+    if random.percent(50) {
+        let mut file = file_of(&drawn.rows);
+        (in_rows..faults).for_each(|_| damage_file(random, &mut file));
+        let accepted = table::parse(&file).unwrap_or_default();
+        on_file(random, file, affordable(task, &accepted, cheap))
+    } else {
+        let mut words = drawn.rows.concat();
+        (in_rows..faults).for_each(|_| damage_words(random, &mut words));
+        let accepted = table::check(&words).unwrap_or_default();
+        on_rows(random, words, affordable(task, &accepted, cheap))
+    }
+}
+
+fn on_file(random: &mut Random, file: Vec<u8>, task: Task) -> Call {
+    let lines = file.len() / LINE;
+    let operation = match task {
+        Task::Judge(row) => OnFile::Judge(row),
+        Task::PreciseBound(row) => OnFile::PreciseBound(row),
+        Task::List => OnFile::List(area(random, lines * LISTED)),
+        Task::Copy => OnFile::Read(area(random, lines * FIELDS)),
+    };
+    Call::File(file, operation)
+}
+
+fn on_rows(random: &mut Random, words: Vec<u32>, task: Task) -> Call {
+    let lines = words.len() / FIELDS;
+    let operation = match task {
+        Task::Judge(row) => OnRows::Judge(row),
+        Task::PreciseBound(row) => OnRows::PreciseBound(row),
+        Task::List => OnRows::Check,
+        Task::Copy => OnRows::Write(area(random, lines * LINE)),
+    };
+    Call::Rows(words, operation)
+}
+
+fn task(random: &mut Random, row: usize, lines: usize) -> Task {
+    let row = row_number(random, row as u64, lines as u64);
+    match random.below(8) {
+        0..=3 => Task::Judge(row),
+        4 => Task::PreciseBound(row),
+        5 => Task::List,
+        _ => Task::Copy,
+    }
+}
+
+/// The task, or a cheap one if it is too much work; one row may be known to be cheap.
+fn affordable(task: Task, rows: &[Row], cheap: Option<usize>) -> Task {
+    let asked = match task {
+        Task::Judge(row) | Task::PreciseBound(row) => rows_at(rows, row),
+        Task::List => 0..rows.len(),
+        Task::Copy => 0..0,
+    };
+    let mut asked = asked.filter(|row| Some(*row) != cheap);
+    if asked.all(|row| is_cheap(rows, row)) {
+        task
+    } else {
+        Task::Copy
+    }
+}
+
+/// The row of a number, or none.
+fn rows_at(rows: &[Row], row: u64) -> std::ops::Range<usize> {
+    match usize::try_from(row) {
+        Ok(row) if row < rows.len() => row..row + 1,
+        _ => 0..0,
+    }
+}
+
+/// Mostly the row itself; otherwise beside the last, or what fewer bits would take for a row.
+fn row_number(random: &mut Random, row: u64, lines: u64) -> u64 {
+    match random.below(20) {
+        0 => lines,
+        1 => lines - 1,
+        2 => random.word(),
+        3 => row + (1 << random.between(8, 63)),
+        4 => u64::MAX - random.below(2) * row,
+        _ => row,
+    }
+}
+
+/// Mostly at least what is needed; otherwise one short, none or anything below.
+fn area(random: &mut Random, need: usize) -> usize {
+    match random.below(10) {
+        0 => 0,
+        1 => need.saturating_sub(1),
+        2 => random.below(need as u64 + 1) as usize,
+        3..=5 => need,
+        6 => need + 1,
+        _ => need + random.between(1, 100) as usize,
+    }
+}

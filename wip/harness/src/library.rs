@@ -1,0 +1,58 @@
+//! The library's entries.
+
+use crate::lent::Lent;
+
+extern "C" {
+    fn certifier_judge(table: *const u8, len: usize, row: u64) -> i64;
+    fn certifier_precise_bound(table: *const u8, len: usize, row: u64) -> i64;
+    fn test_read(file: *const u8, len: usize, rows: *mut u32, rows_len: usize) -> i64;
+    fn test_check(rows: *const u32, rows_len: usize) -> i64;
+    fn test_write(rows: *const u32, rows_len: usize, file: *mut u8, file_len: usize) -> i64;
+    fn test_list(file: *const u8, len: usize, out: *mut u8, out_len: usize) -> i64;
+    fn test_judge(rows: *const u32, rows_len: usize, row: u64) -> i64;
+    fn test_precise_bound(rows: *const u32, rows_len: usize, row: u64) -> i64;
+}
+
+// SAFETY of every call below: the address and the length are those of live memory that nothing
+// else refers to, with guards on both sides, or the length is 0.
+
+pub fn judge(file: &mut Lent<u8>, row: u64) -> i64 {
+    unsafe { certifier_judge(table_address(file), file.len(), row) }
+}
+
+pub fn precise_bound(file: &mut Lent<u8>, row: u64) -> i64 {
+    unsafe { certifier_precise_bound(table_address(file), file.len(), row) }
+}
+
+pub fn read(file: &mut Lent<u8>, rows: &mut Lent<u32>) -> i64 {
+    unsafe { test_read(file.address(), file.len(), rows.address(), rows.len()) }
+}
+
+pub fn list(file: &mut Lent<u8>, out: &mut Lent<u8>) -> i64 {
+    unsafe { test_list(file.address(), file.len(), out.address(), out.len()) }
+}
+
+pub fn check(rows: &mut Lent<u32>) -> i64 {
+    unsafe { test_check(rows.address(), rows.len()) }
+}
+
+pub fn write(rows: &mut Lent<u32>, file: &mut Lent<u8>) -> i64 {
+    unsafe { test_write(rows.address(), rows.len(), file.address(), file.len()) }
+}
+
+pub fn judge_rows(rows: &mut Lent<u32>, row: u64) -> i64 {
+    unsafe { test_judge(rows.address(), rows.len(), row) }
+}
+
+pub fn precise_bound_rows(rows: &mut Lent<u32>, row: u64) -> i64 {
+    unsafe { test_precise_bound(rows.address(), rows.len(), row) }
+}
+
+/// The entries for C take null for no bytes.
+fn table_address(file: &mut Lent<u8>) -> *const u8 {
+    if file.len() == 0 {
+        std::ptr::null()
+    } else {
+        file.address()
+    }
+}

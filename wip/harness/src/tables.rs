@@ -1,0 +1,226 @@
+//! Accepted tables of many shapes, cheap enough to judge.
+
+use analyser::bounds::{length, rank, View};
+use analyser::judge_cases::{self, apart, counted_table, long_window_table, LONG_WINDOWS};
+use analyser::judgement::LIMITS;
+use analyser::random::{clustered, set_claim, Random};
+use analyser::table::{self, Row, CLAIM, IDENTIFIER, NODE, NODES, OFFSET, PAYLOAD, PERIOD};
+
+/// The greatest effort for a row of any shape.
+const MOST_EFFORT: u64 = 300_000;
+
+/// Load in parts of this.
+const WHOLE: u64 = 1_000_000;
+
+/// An accepted table, and a row of it that is not too much work.
+pub struct Drawn {
+    pub rows: Vec<Row>,
+    pub row: usize,
+}
+
+impl Drawn {
+    /// Whether another row is not too much work either.
+    pub fn is_cheap(&self, row: usize) -> bool {
+        row == self.row || is_cheap(&self.rows, row)
+    }
+}
+
+/// Draws a table and a row, and a claim for it, mostly at or beside its bounds.
+pub fn draw(random: &mut Random) -> Drawn {
+    let mut drawn = match random.below(100) {
+        0..=5 => near_the_limit(random),
+        6..=9 => many_scenarios(random),
+        10..=39 => bounds_apart(random),
+        _ => cheap_row(random),
+    };
+    set_claim(random, &mut drawn.rows, drawn.row, LIMITS);
+    if random.percent(8) {
+        drawn.rows[drawn.row][CLAIM] = random.pick(&[1, 1_000_000]);
+    }
+    drawn
+}
+
+/// A row of any shape that is not too much work.
+fn cheap_row(random: &mut Random) -> Drawn {
+    loop {
+        let rows = shape(random);
+        let row = random.below(rows.len() as u64) as usize;
+        if table::check(&rows.concat()).is_ok() && is_cheap(&rows, row) {
+            return Drawn { rows, row };
+        }
+    }
+}
+
+/// A row whose exact bound is below the rough one; the last in rank is the likeliest.
+fn bounds_apart(random: &mut Random) -> Drawn {
+    loop {
+        let rows = match random.below(10) {
+            0..=5 => clustered(random, 2, 6, (105, 150)),
+            6..=7 => judge_cases::close(random),
+            8 => judge_cases::full(random),
+            _ => shape(random),
+        };
+        let any = random.below(rows.len() as u64) as usize;
+        for row in [lowest(&rows), any] {
+            let accepted = table::check(&rows.concat()).is_ok();
+            if accepted && is_cheap(&rows, row) && apart(&View::new(&rows, row)) {
+                return Drawn { rows, row };
+            }
+        }
+    }
+}
+
+/// The row of the lowest priority.
+pub fn lowest(rows: &[Row]) -> usize {
+    let places = 0..rows.len();
+    places.max_by_key(|row| rank(&rows[*row])).expect("a row")
+}
+
+/// Rows that are accepted or nearly so.
+fn shape(random: &mut Random) -> Vec<Row> {
+    match random.below(100) {
+        0..=29 => judge_cases::close(random),
+        30..=37 => judge_cases::full(random),
+        38..=51 => judge_cases::filled(random),
+        52..=67 => judge_cases::wide(random),
+        68..=79 => judge_cases::long(random),
+        80..=87 => judge_cases::short(random),
+        88..=92 => nearly_full(random),
+        93..=96 => clustered(random, NODES.into(), 8, (110, 300)),
+        _ => lone_frame(random),
+    }
+}
+
+/// Sets the claims of all rows that are not too much work.
+pub fn claim_all(random: &mut Random, rows: &mut [Row]) {
+    for row in 0..rows.len() {
+        if is_cheap(rows, row) {
+            set_claim(random, rows, row, LIMITS);
+        }
+    }
+}
+
+/// Whether judging a row of accepted rows is not too much work.
+pub fn is_cheap(rows: &[Row], row: usize) -> bool {
+    effort(rows, row) <= MOST_EFFORT
+}
+
+/// About how many sums it takes to judge a row.
+fn effort(rows: &[Row], row: usize) -> u64 {
+    let view = View::new(rows, row);
+    let counts: Vec<u64> = view.alignment_counts().collect();
+    let own = counts[rows[row][NODE] as usize - 1];
+    let count = view.scenario_count();
+    let scenarios = if count > LIMITS.scenarios { 0 } else { count };
+    let search = steps(rows, row) * (own * counts.iter().sum::<u64>() + scenarios);
+    if search > MOST_EFFORT {
+        return search;
+    }
+    let window = view.rough_window(LIMITS.window).unwrap_or(0);
+    search * (1 + window / u64::from(rows[row][PERIOD]))
+}
+
+/// About how many steps a search takes: the more, the nearer the load is to 1.
+fn steps(rows: &[Row], row: usize) -> u64 {
+    let ahead = rows.iter().filter(|other| rank(other) <= rank(&rows[row]));
+    let load: u64 = ahead.map(load).sum();
+    10 * WHOLE / load.abs_diff(WHOLE).max(500)
+}
+
+fn load(row: &Row) -> u64 {
+    length(row) * WHOLE / u64::from(row[PERIOD])
+}
+
+/// Alone on the bus, with a period beside its length.
+fn lone_frame(random: &mut Random) -> Vec<Row> {
+    let mut row = [random.between(1, 16) as u32, 0, random.pick(&[11, 29]), 0, 0, 0, 500];
+    row[IDENTIFIER] = random.pick(&[0, 1, 2046, 2047]);
+    row[PAYLOAD] = random.below(9) as u32;
+    row[PERIOD] = (length(&row) + random.below(5) - 2) as u32;
+    row[OFFSET] = random.below(row[PERIOD].into()) as u32;
+    vec![row]
+}
+
+/// Three lone frames that leave little of the bus, and a node with rare frames.
+fn nearly_full(random: &mut Random) -> Vec<Row> {
+    let mut rows: Vec<Row> = Vec::new();
+    let mut left = WHOLE - random.between(200, 4000);
+    for share in [random.between(30, 60), random.between(80, 95), 100] {
+        let mut row = [rows.len() as u32 + 1, 0, 11, random.below(9) as u32, 0, 0, 500];
+        row[PERIOD] = (length(&row) * WHOLE * 100 / (left * share)) as u32 + 1;
+        left = left.saturating_sub(load(&row)).max(1000);
+        rows.push(row);
+    }
+    let period = random.between(200_000, 1_000_000) as u32;
+    for _ in 0..random.between(1, 3) {
+        let offset = random.pick(&[0, 0, period / 2]);
+        rows.push([4, 0, 11, random.below(9) as u32, period, offset, 500]);
+    }
+    disguised(random, rows, 0).rows
+}
+
+/// Windows at and beside the longest that is served.
+fn near_the_limit(random: &mut Random) -> Drawn {
+    let spec = random.pick(LONG_WINDOWS);
+    let mut rows = long_window_table(&spec);
+    let judged = rows.len() - 1 - usize::from(spec.3.is_some());
+    random.shuffle(&mut rows[..3]);
+    disguised(random, rows, judged)
+}
+
+/// Scenario counts at, below and above 65536, some of them powers of 2^32, with short windows.
+fn many_scenarios(random: &mut Random) -> Drawn {
+    let counts = match random.below(12) {
+        0 => vec![256, 256],
+        1 => vec![217, 151, 2],
+        2 => vec![226, 145, 2],
+        3 => vec![256, 256, 2],
+        4 => vec![128, 128, 4],
+        5 => vec![16; 4],
+        6 => vec![256; 4],
+        7 => vec![16; 8],
+        8 => vec![16; 16],
+        _ => factors(random),
+    };
+    let payload = random.below(9) as u32;
+    let mut rows = counted_table(&counts, payload, random.between(60, 400) as u32);
+    let row = rows.len() - 1;
+    // One more frame at instants that the last node has already.
+    if counts[counts.len() - 1] <= 128 && random.percent(50) {
+        let [node, _, kind, _, period, offset, claim] = rows[row - 1];
+        rows.push([node, 1, kind, payload, period, offset, claim]);
+    }
+    Drawn { rows, row }
+}
+
+/// Numbers of alignments whose product is near 65536.
+fn factors(random: &mut Random) -> Vec<u32> {
+    let mut left = LIMITS.scenarios * random.between(98, 102) / 100;
+    let mut factors = Vec::new();
+    while left > 256 {
+        let factor = random.between(12, 256);
+        factors.push(factor as u32);
+        left /= factor;
+    }
+    factors.push((left + random.below(2)).clamp(2, 256) as u32);
+    factors
+}
+
+/// Other nodes, other identifiers in the same order, other offsets of lone frames, lines mixed.
+fn disguised(random: &mut Random, mut rows: Vec<Row>, judged: usize) -> Drawn {
+    let mut nodes: Vec<u32> = (1..=NODES).collect();
+    random.shuffle(&mut nodes);
+    let mut identifier = 0;
+    for row in &mut rows {
+        identifier += random.between(1, 200) as u32;
+        row[IDENTIFIER] = identifier;
+        if row[NODE] <= 3 {
+            row[OFFSET] = random.below(row[PERIOD].into()) as u32;
+        }
+        row[NODE] = nodes[row[NODE] as usize - 1];
+    }
+    let wanted = rows[judged][IDENTIFIER];
+    random.shuffle(&mut rows);
+    let row = rows.iter().position(|row| row[IDENTIFIER] == wanted);
+    Drawn { rows, row: row.expect("the judged row") }
+}
