@@ -42,7 +42,7 @@ pub extern "C" fn certifier_precise_bound(table: &[u8], row: u64) -> i64
 }
 
 // Minus (number × 10000 + place).
-fn encode_refusal(refusal: Refusal) -> i64
+pub fn encode_refusal(refusal: Refusal) -> i64
     ensures { λ r. ⌜ r ≡ encodeRefusal refusal ⌝ }
 {
     let cause = refusal.cause;
@@ -50,7 +50,7 @@ fn encode_refusal(refusal: Refusal) -> i64
     -(n as i64)
 }
 
-fn encode_judged(judged: Judged) -> i64
+pub fn encode_judged(judged: Judged) -> i64
     requires { ⌜ Encodable judged ⌝ }
     ensures { λ r. ⌜ r ≡ encodeJudged judged ⌝ }
 {
@@ -60,7 +60,7 @@ fn encode_judged(judged: Judged) -> i64
     }
 }
 
-fn encode_bounded(bounded: Bounded) -> i64
+pub fn encode_bounded(bounded: Bounded) -> i64
     ensures { λ r. ⌜ r ≡ encodeBounded bounded ⌝ }
 {
     match bounded {

@@ -6,9 +6,13 @@ mod rows;
 
 pub use encode::certifier_judge;
 pub use encode::certifier_precise_bound;
+pub use encode::encode_bounded;
+pub use encode::encode_judged;
+pub use encode::encode_refusal;
 pub use listing::LINE;
 pub use listing::list;
 pub use rows::judge;
+pub use rows::of_table;
 pub use rows::precise_bound;
 pub use rows::verdict;
 ghost use mathlib.Core.Path.{_≡_};

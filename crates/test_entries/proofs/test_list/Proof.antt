@@ -1,0 +1,25 @@
+-- The listing of an accepted file is short enough for its length to be answered.
+use mathlib.Core.Path.{sym, subst, _∙_}
+use borrow.Author.Needs.{needs}
+use Rattle.arith.specs.laws.Signed.{kept}
+use Rattle.test_entries.specs.Encode.{Countable}
+use Rattle.test_entries.specs.Laws.{list-countable, named}
+use Rattle.test_entries.proofs.test_list.Statement.{statement}
+use Rattle.test_entries.proofs.test_list.Tie as tie
+
+list-requires : tie.Need-list-requires
+list-requires c κs = search needs
+
+encode-answer-requires : tie.Need-encode-answer-requires
+encode-answer-requires c κs = subst Countable (sym (c .before .before .list .ensures .0)) (list-countable _ _)
+
+same-length : tie.Need-same-length
+same-length c = search needs
+
+returns : tie.Need-returns
+returns c =
+    let both = c .before .before .before .list .ensures in
+    named _ _ (both .0) (kept _ (c .encode-answer .ok) ∙ c .encode-answer .ensures) (both .1)
+
+pub test-list-spec : {M : Type 1} → statement M
+test-list-spec = tie.close (tie.spec list-requires encode-answer-requires same-length returns)

@@ -1,0 +1,25 @@
+-- The numbers of an accepted file are few enough for their count to be answered.
+use mathlib.Core.Path.{sym, subst, _∙_}
+use borrow.Author.Needs.{needs}
+use Rattle.arith.specs.laws.Signed.{kept}
+use Rattle.test_entries.specs.Encode.{Countable}
+use Rattle.test_entries.specs.Laws.{read-countable, named}
+use Rattle.test_entries.proofs.test_read.Statement.{statement}
+use Rattle.test_entries.proofs.test_read.Tie as tie
+
+read-requires : tie.Need-read-requires
+read-requires c κs = search needs
+
+encode-answer-requires : tie.Need-encode-answer-requires
+encode-answer-requires c κs = subst Countable (sym (c .before .before .read .ensures .0)) (read-countable _ _)
+
+same-length : tie.Need-same-length
+same-length c = search needs
+
+returns : tie.Need-returns
+returns c =
+    let both = c .before .before .before .read .ensures in
+    named _ _ (both .0) (kept _ (c .encode-answer .ok) ∙ c .encode-answer .ensures) (both .1)
+
+pub test-read-spec : {M : Type 1} → statement M
+test-read-spec = tie.close (tie.spec read-requires encode-answer-requires same-length returns)

@@ -1,0 +1,41 @@
+-- What the operations with an output area answer, and one signed number for each answer.
+use Prim.Native.Nat.{ℕ, _≤_}
+use mathlib.Core.List.{List}
+use lib.IntN.{ℤ, pos}
+use Rattle.frame_table.specs.declared.Checked.{Checked}
+use Rattle.frame_table.specs.declared.Checked.the-variants.{Passed, Failed}
+use Rattle.frame_table.specs.declared.Answer.{Answer}
+use Rattle.frame_table.specs.declared.Answer.the-variants.{Done, Refused}
+use Rattle.frame_table.specs.Text.{fieldsOf, textOf}
+use Rattle.frame_table.specs.Table.{readCheck, rowsCheck, answerFor}
+use Rattle.certifier.specs.Refusal.{ofTable}
+use Rattle.certifier.specs.Encode.{encodeRefusal}
+use Rattle.certifier.specs.Listing.{listingOf}
+
+-- ---- as frame_table and certifier answer
+
+abbrev pub readAnswer : List ℕ → List ℕ → Answer
+readAnswer file rows = answerFor (readCheck file) (fieldsOf file) rows
+
+abbrev pub writeAnswer : List ℕ → List ℕ → Answer
+writeAnswer rows file = answerFor (rowsCheck rows) (textOf rows) file
+
+abbrev pub listAnswer : List ℕ → List ℕ → Answer
+listAnswer file out = answerFor (readCheck file) (listingOf (fieldsOf file)) out
+
+-- ---- as a number
+
+-- 0 for a check that passed
+unfoldable pub encodeChecked : Checked → ℤ
+encodeChecked Passed = pos 0
+encodeChecked (Failed f) = encodeRefusal (ofTable f)
+
+-- how many elements were written
+unfoldable pub encodeAnswer : Answer → ℤ
+encodeAnswer (Done n) = pos n
+encodeAnswer (Refused f) = encodeRefusal (ofTable f)
+
+-- these are no more than the longest file has, so that they fit
+abbrev pub Countable : Answer → Type 0
+Countable (Done n) = n ≤ 2752
+Countable (Refused f) = Unit {0}

@@ -1,0 +1,3 @@
+-- What the entries answer; below `Laws` what is proved of it.
+pub mod Encode
+pub mod Laws
