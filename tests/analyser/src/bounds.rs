@@ -11,7 +11,7 @@ pub fn length(row: &Row) -> u64 {
 }
 
 /// Kind 11 goes ahead of kind 29, then the smaller identifier.
-fn rank(row: &Row) -> (u32, u32) {
+pub fn rank(row: &Row) -> (u32, u32) {
     (row[KIND], row[IDENTIFIER])
 }
 
@@ -95,15 +95,19 @@ impl<'a> View<'a> {
         }
     }
 
+    /// The number of alignments of each node, empty ones counting 1.
+    pub fn alignment_counts(&self) -> impl Iterator<Item = u64> + '_ {
+        self.nodes.iter().map(|node| node.len() as u64)
+    }
+
     /// The scenario count; a product beyond 64 bits stays at their greatest number.
     pub fn scenario_count(&self) -> u64 {
-        let counts = self.nodes.iter().map(|node| node.len() as u64);
-        counts.fold(1, u64::saturating_mul)
+        self.alignment_counts().fold(1, u64::saturating_mul)
     }
 
     /// The rough bound, or none if an alignment of the own node has no window.
     pub fn rough(&self, limit: u64) -> Option<Worst> {
-        let greatest = |end| self.other_nodes().map(|n| self.greatest(n, end)).sum();
+        let greatest = |end| self.greatest_others(end);
         let mut worst = Worst::NONE;
         for own in &self.nodes[self.own] {
             worst = worst.or(self.worst(own, &greatest, limit)?);
@@ -111,15 +115,39 @@ impl<'a> View<'a> {
         Some(worst)
     }
 
+    /// The greatest window of the rough bound, or none as for that bound.
+    pub fn rough_window(&self, limit: u64) -> Option<u64> {
+        let greatest = |end| self.greatest_others(end);
+        let mut longest = 0;
+        for own in &self.nodes[self.own] {
+            let frame = Release::new(self.frame, own.instant);
+            longest = longest.max(self.window(own, &frame, &greatest, limit)?);
+        }
+        Some(longest)
+    }
+
     /// The exact bound by all scenarios, nodes rising, the last node fastest.
     pub fn exact(&self, limit: u64) -> Option<Worst> {
-        let mut worst = Worst::NONE;
+        self.worst_scenario(limit).map(|(worst, _)| worst)
+    }
+
+    /// The exact bound and the number of the first scenario that gives it.
+    pub fn worst_scenario(&self, limit: u64) -> Option<(Worst, u64)> {
+        let mut found = (Worst::NONE, 0);
         for number in 0..self.scenario_count() {
             let scenario = self.scenario(number);
             let others = |end| self.other_nodes().map(|n| scenario[n].work(end)).sum();
-            worst = worst.or(self.worst(scenario[self.own], &others, limit)?);
+            let worst = found.0.or(self.worst(scenario[self.own], &others, limit)?);
+            if worst != found.0 {
+                found = (worst, number);
+            }
         }
-        Some(worst)
+        Some(found)
+    }
+
+    /// The instants of a scenario, node 1 first.
+    pub fn instants(&self, number: u64) -> Vec<u64> {
+        self.scenario(number).iter().map(|alignment| alignment.instant).collect()
     }
 
     /// The exact bound, passing over scenarios that cannot exceed one already seen.
@@ -167,6 +195,11 @@ impl<'a> View<'a> {
 
     fn other_nodes(&self) -> impl Iterator<Item = usize> + '_ {
         (0..self.nodes.len()).filter(|node| *node != self.own)
+    }
+
+    /// The work of the other nodes in 0..end-1, each at its greatest.
+    fn greatest_others(&self, end: u64) -> u64 {
+        self.other_nodes().map(|node| self.greatest(node, end)).sum()
     }
 
     /// The greatest sum that any alignment of a node gives in 0..end-1.

@@ -13,8 +13,8 @@ const MOST_WORK: u64 = 40_000;
 /// Tables with a window near 1000000: three lone frames as payload and period;
 /// the judged node's period and its frames as payload and offset, the judged one
 /// last; the payload of a frame below.
-type LongWindow<'a> = ([(u32, u32); 3], u32, &'a [(u32, u32)], Option<u32>);
-const LONG_WINDOWS: &[LongWindow] = &[
+pub type LongWindow<'a> = ([(u32, u32); 3], u32, &'a [(u32, u32)], Option<u32>);
+pub const LONG_WINDOWS: &[LongWindow] = &[
     // Window 999999, served.
     ([(8, 231), (3, 273), (1, 625)], 1_000_000, &[(4, 0)], Some(8)),
     // Window 1000004, not served.
@@ -53,7 +53,8 @@ pub fn all() -> Vec<Case> {
     cases.list
 }
 
-fn long_window_table((lone, period, judged, below): &LongWindow) -> Vec<Row> {
+/// The rows of such a table, and which of them is judged.
+pub fn long_window_table((lone, period, judged, below): &LongWindow) -> (Vec<Row>, usize) {
     let mut rows = Vec::new();
     for (payload, period) in lone {
         rows.push([rows.len() as u32 + 1, 0, 11, *payload, *period, 0, 500]);
@@ -61,14 +62,15 @@ fn long_window_table((lone, period, judged, below): &LongWindow) -> Vec<Row> {
     for (payload, offset) in *judged {
         rows.push([4, 0, 11, *payload, *period, *offset, 500]);
     }
+    let last = rows.len() - 1;
     rows.extend(below.map(|payload| [5, 0, 11, payload, 1_000_000, 0, 500]));
     (0..).zip(&mut rows).for_each(|(line, row)| row[IDENTIFIER] = line);
-    rows
+    (rows, last)
 }
 
 /// Nodes with so many alignments each: a short frame, and a long one that comes
 /// a gap later and, from three alignments on, less often.
-fn counted_table(alignments: &[u32], payload: u32, gap: u32) -> Vec<Row> {
+pub fn counted_table(alignments: &[u32], payload: u32, gap: u32) -> Vec<Row> {
     let mut rows = Vec::new();
     for (node, count) in (1..).zip(alignments) {
         let period = 3910 - 3 * node;
@@ -151,8 +153,8 @@ impl Cases {
 
     fn long_windows(&mut self) {
         for spec in LONG_WINDOWS {
-            let rows = long_window_table(spec);
-            self.around(rows.len() - 1 - usize::from(spec.3.is_some()), &rows);
+            let (rows, judged) = long_window_table(spec);
+            self.around(judged, &rows);
         }
         self.around(6, &NO_ROUGH_WINDOW);
         let served = [&NO_ROUGH_WINDOW[..5], &NO_ROUGH_WINDOW[6..]].concat();
@@ -243,7 +245,7 @@ fn any(_: &View) -> bool {
 }
 
 /// The exact bound is below the rough one.
-fn apart(view: &View) -> bool {
+pub fn apart(view: &View) -> bool {
     let rough = view.rough(LIMITS.window).map(|worst| worst.response);
     let decided = rough.is_some() && view.scenario_count() <= LIMITS.scenarios;
     decided && rough != view.exact_pruned(LIMITS.window)
@@ -255,28 +257,28 @@ fn later_q(view: &View) -> bool {
     decided && view.exact(LIMITS.window).is_some_and(|worst| worst.q > 1)
 }
 
-fn close(random: &mut Random) -> Vec<Row> {
+pub fn close(random: &mut Random) -> Vec<Row> {
     let nodes = random.between(2, 4);
     clustered(random, nodes, 5, (110, 600))
 }
 
-fn full(random: &mut Random) -> Vec<Row> {
+pub fn full(random: &mut Random) -> Vec<Row> {
     clustered(random, 2, 5, (86, 100))
 }
 
-fn filled(random: &mut Random) -> Vec<Row> {
+pub fn filled(random: &mut Random) -> Vec<Row> {
     dense(random, 8)
 }
 
-fn wide(random: &mut Random) -> Vec<Row> {
+pub fn wide(random: &mut Random) -> Vec<Row> {
     let nodes = random.between(10, 16);
     clustered(random, nodes, 6, (105, 400))
 }
 
-fn long(random: &mut Random) -> Vec<Row> {
+pub fn long(random: &mut Random) -> Vec<Row> {
     stretched(random, 3, 120, 800)
 }
 
-fn short(random: &mut Random) -> Vec<Row> {
+pub fn short(random: &mut Random) -> Vec<Row> {
     stretched(random, 3, 6, 1)
 }

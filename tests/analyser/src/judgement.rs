@@ -36,8 +36,22 @@ impl Judgement {
     }
 }
 
+/// How the exact bound is searched.
+#[derive(Clone, Copy)]
+pub enum Search {
+    /// Every scenario.
+    Plain,
+    /// Without scenarios that cannot exceed one already seen.
+    Pruned,
+}
+
 /// Judges a row of accepted rows.
 pub fn judge_row(rows: &[Row], row: usize, limits: Limits) -> Judgement {
+    judge_row_by(Search::Pruned, rows, row, limits)
+}
+
+/// Judges a row of accepted rows by one search or the other.
+pub fn judge_row_by(search: Search, rows: &[Row], row: usize, limits: Limits) -> Judgement {
     let claim = u64::from(rows[row][CLAIM]);
     let view = View::new(rows, row);
     let Some(rough) = view.rough(limits.window) else {
@@ -49,14 +63,17 @@ pub fn judge_row(rows: &[Row], row: usize, limits: Limits) -> Judgement {
     if view.scenario_count() > limits.scenarios {
         return Judgement::new(Verdict::Undecided, rough.response, claim);
     }
-    let exact = exact_bound(&view, limits);
+    let exact = exact_bound(search, &view, limits);
     let verdict = if exact <= claim { Verdict::CertifiedExact } else { Verdict::TooSmall };
     Judgement::new(verdict, exact, claim)
 }
 
 /// No scenario has a longer window than the rough bound, which has one here.
-fn exact_bound(view: &View, limits: Limits) -> u64 {
-    let exact = view.exact_pruned(limits.window);
+fn exact_bound(search: Search, view: &View, limits: Limits) -> u64 {
+    let exact = match search {
+        Search::Plain => view.exact(limits.window).map(|worst| worst.response),
+        Search::Pruned => view.exact_pruned(limits.window),
+    };
     exact.expect("a window for the rough bound serves every scenario")
 }
 
@@ -83,7 +100,7 @@ pub fn precise_bound(words: &[u32], row: i128) -> Result<u64, Refusal> {
     if view.scenario_count() > LIMITS.scenarios {
         return refuse(12, row as u32);
     }
-    Ok(exact_bound(&view, LIMITS))
+    Ok(exact_bound(Search::Pruned, &view, LIMITS))
 }
 
 /// Rows count from 0; what is no row gives 9.

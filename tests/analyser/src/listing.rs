@@ -1,20 +1,22 @@
 //! The listing and the signed numbers given to C.
 
-use crate::judgement::{judge_row, Judgement, LIMITS};
-use crate::table::{self, Refusal, IDENTIFIER};
+use crate::judgement::{judge_row_by, Judgement, Search, LIMITS};
+use crate::table::{self, Refusal, Row, IDENTIFIER};
 
 /// A line for each row in table order, or the one line of a refused table.
 pub fn list(file: &[u8]) -> String {
-    match table::parse(file) {
-        Err(refusal) => format!("{}\n", refusal_columns(refusal)),
-        Ok(rows) => {
-            let judged = rows.iter().enumerate().map(|(row, words)| {
-                let columns = judgement_columns(judge_row(&rows, row, LIMITS));
-                format!("{:>10}{columns}\n", words[IDENTIFIER])
-            });
-            judged.collect()
-        }
-    }
+    let rows = table::parse(file);
+    let list = rows.map(|rows| list_rows_by(Search::Pruned, &rows));
+    list.unwrap_or_else(|refusal| format!("{}\n", refusal_columns(refusal)))
+}
+
+/// A line for each of accepted rows, by one search or the other.
+pub fn list_rows_by(search: Search, rows: &[Row]) -> String {
+    let line = |(row, words): (usize, &Row)| {
+        let columns = judgement_columns(judge_row_by(search, rows, row, LIMITS));
+        format!("{:>10}{columns}\n", words[IDENTIFIER])
+    };
+    rows.iter().enumerate().map(line).collect()
 }
 
 /// Verdict, bound and margin.
@@ -41,6 +43,7 @@ pub fn bound_number(result: Result<u64, Refusal>) -> i64 {
     result.map_or_else(refusal_number, |bound| bound as i64)
 }
 
-fn refusal_number(refusal: Refusal) -> i64 {
+/// The number given to C where a call is turned back.
+pub fn refusal_number(refusal: Refusal) -> i64 {
     -(i64::from(refusal.number) * 10_000 + i64::from(refusal.place))
 }

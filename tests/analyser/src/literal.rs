@@ -10,7 +10,7 @@ fn length(row: &Row) -> u64 {
     bits + 13 + (bits - 1) / 4
 }
 
-fn goes_ahead(row: &Row, of: &Row) -> bool {
+pub fn goes_ahead(row: &Row, of: &Row) -> bool {
     if row[2] == of[2] {
         row[1] < of[1]
     } else {

@@ -1,18 +1,6 @@
-//! An analyser of CAN frame tables beside the certifier, by document 01.
+//! The analyser's commands.
 
-mod bounds;
-mod cases;
-#[cfg(test)]
-mod examples;
-mod judge_cases;
-mod judgement;
-mod listing;
-mod literal;
-mod random;
-mod self_check;
-mod table;
-mod table_cases;
-
+use analyser::{cases, judge_cases, judgement, listing, self_check, table, table_cases};
 use std::io::{self, Read, Write};
 use std::process::ExitCode;
 

@@ -5,6 +5,7 @@ use crate::judgement::Limits;
 use crate::table::{self, Row, CLAIM, IDENTIFIER, KIND, NODE, OFFSET, PERIOD};
 
 /// A splitmix generator.
+#[derive(Clone)]
 pub struct Random(u64);
 
 impl Random {
@@ -12,7 +13,8 @@ impl Random {
         Random(seed)
     }
 
-    fn next(&mut self) -> u64 {
+    /// Any word of 64 bits.
+    pub fn word(&mut self) -> u64 {
         self.0 = self.0.wrapping_add(0x9e37_79b9_7f4a_7c15);
         let mut word = self.0;
         word = (word ^ (word >> 30)).wrapping_mul(0xbf58_476d_1ce4_e5b9);
@@ -21,7 +23,7 @@ impl Random {
     }
 
     pub fn below(&mut self, count: u64) -> u64 {
-        self.next() % count
+        self.word() % count
     }
 
     /// Both ends included.

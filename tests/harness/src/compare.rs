@@ -1,70 +1,18 @@
 //! One call of the library, held against the analyser.
 
+use crate::call::{Call, OnFile, OnRows};
 use crate::lent::{filled, Element, Lent};
 use crate::library;
-use analyser::judgement::Search;
-use analyser::judgement::{judge, judge_file, precise_bound};
+use analyser::judgement::{judge, judge_file, precise_bound, Search};
 use analyser::listing::{bound_number, judge_number, list_rows_by, refusal_number};
 use analyser::random::Random;
 use analyser::table::{self, Refusal, FIELDS, LINE};
 
-/// What a verdict is multiplied with in an answer.
-pub const VERDICT: i64 = 100_000_000_000_000;
-
-/// An operation on a file, with the row asked for or the size of the area lent.
-#[derive(Clone, Copy, Debug)]
-pub enum OnFile {
-    Judge(u64),
-    PreciseBound(u64),
-    Read(usize),
-    List(usize),
-}
-
-/// An operation on rows in memory, likewise.
-#[derive(Clone, Copy, Debug)]
-pub enum OnRows {
-    Judge(u64),
-    PreciseBound(u64),
-    Check,
-    Write(usize),
-}
-
-pub enum Call {
-    File(Vec<u8>, OnFile),
-    Rows(Vec<u32>, OnRows),
-}
-
-impl Call {
-    /// The answer, or how the library and the analyser differ.
-    pub fn compare(&self, random: &mut Random) -> Result<i64, String> {
-        match self {
-            Call::File(file, operation) => compare_file(random, file, *operation),
-            Call::Rows(words, operation) => compare_rows(random, words, *operation),
-        }
-    }
-
-    /// The input as bytes; words have their least byte first.
-    pub fn bytes(&self) -> Vec<u8> {
-        match self {
-            Call::File(file, _) => file.clone(),
-            Call::Rows(words, _) => words.iter().flat_map(|word| word.to_le_bytes()).collect(),
-        }
-    }
-
-    /// Whether the answer holds a verdict.
-    pub fn judges(&self) -> bool {
-        matches!(self, Call::File(_, OnFile::Judge(_)) | Call::Rows(_, OnRows::Judge(_)))
-    }
-}
-
-impl std::fmt::Display for Call {
-    fn fmt(&self, out: &mut std::fmt::Formatter) -> std::fmt::Result {
-        match self {
-            Call::File(file, operation) => {
-                write!(out, "{operation:?} on a file of {} bytes", file.len())
-            }
-            Call::Rows(words, operation) => write!(out, "{operation:?} on {} words", words.len()),
-        }
+/// The answer, or how the library and the analyser differ.
+pub fn compare(call: &Call, random: &mut Random) -> Result<i64, String> {
+    match call {
+        Call::File(file, operation) => compare_file(random, file, *operation),
+        Call::Rows(words, operation) => compare_rows(random, words, *operation),
     }
 }
 

@@ -1,16 +1,16 @@
 //! Simulated buses: certified frames meet their claims, and the lowest frame's bound is reached.
 
-use crate::call::VERDICT;
+use crate::answer::Judged;
 use crate::inputs::generator;
 use crate::lent::Lent;
+use crate::library;
+use crate::starts::{starts, starts_to_meet, worst_scenario, worst_starts};
 use crate::tables::{self, claim_all, lowest, Drawn};
-use crate::{library, Budget};
-use analyser::bounds::{length, rank, View};
-use analyser::judgement::LIMITS;
+use analyser::bounds::length;
 use analyser::literal_bus;
 use analyser::random::Random;
 use analyser::simulator::{release, schedule, Starts, Transmission};
-use analyser::table::{self, Row, CLAIM, NODE, NODES, OFFSET, PERIOD};
+use analyser::table::{self, Row, CLAIM, PERIOD};
 
 /// Schedules of each table.
 const SCHEDULES: u64 = 4;
@@ -18,12 +18,14 @@ const SCHEDULES: u64 = 4;
 const RELEASES: u64 = 3000;
 /// Ticks of a schedule that is also followed tick by tick.
 const TICKS: u64 = 4000;
-/// The most scenarios searched for the one that reaches the bound.
-const MOST_SCENARIOS: u64 = 500;
+/// With so many tables everything that is counted must occur.
+const ENOUGH: u64 = 100;
 
 #[derive(Default)]
 struct Tally {
     tables: u64,
+    /// Frames certified by the rough bound, and by the exact one.
+    certified: [u64; 2],
     schedules: u64,
     instances: u64,
     late: u64,
@@ -34,11 +36,11 @@ struct Tally {
     unequal: u64,
 }
 
-/// Simulates table after table; true if all is as it must be.
-pub fn simulate(seed: u64, budget: Budget) -> bool {
+/// Simulates buses of so many tables; true if all is as it must be.
+pub fn simulate(seed: u64, count: u64) -> bool {
     println!("seed {seed}");
     let mut tally = Tally::default();
-    while !budget.is_spent(tally.tables) {
+    while tally.tables < count {
         let mut random = generator(seed, tally.tables);
         let mut drawn = tables::draw(&mut random);
         claim_all(&mut random, &mut drawn.rows);
@@ -51,12 +53,16 @@ pub fn simulate(seed: u64, budget: Budget) -> bool {
         tally.tables += 1;
     }
     tally.print();
-    tally.failures() == 0
+    tally.failures() == 0 && (tally.is_complete() || count < ENOUGH)
 }
 
 impl Tally {
     fn simulate_table(&mut self, random: &mut Random, drawn: &Drawn) {
-        let certified = certified_rows(random, drawn);
+        let by_verdict = certified_rows(random, drawn);
+        for (count, rows) in self.certified.iter_mut().zip(&by_verdict) {
+            *count += rows.len() as u64;
+        }
+        let certified = by_verdict.concat();
         for _ in 0..SCHEDULES {
             let worst = worst_starts(random, drawn, &certified);
             let starts = worst.unwrap_or_else(|| starts(random, &drawn.rows));
@@ -112,22 +118,36 @@ impl Tally {
         self.late + self.missed + self.unequal
     }
 
+    /// Whether everything that is counted has occurred.
+    fn is_complete(&self) -> bool {
+        let [rough, exact] = self.certified;
+        ![rough, exact, self.instances, self.just_in_time, self.bounds, self.ticked].contains(&0)
+    }
+
     fn print(&self) {
-        println!("{} schedules also tick by tick, {} differ", self.ticked, self.unequal);
+        let Tally { tables, schedules, instances, late, .. } = self;
+        let [rough, exact] = self.certified;
+        println!("{rough} frames certified by the rough bound, {exact} by the exact one");
+        println!("{} instances of them end at their claim", self.just_in_time);
         let met = self.bounds - self.missed;
         println!("{} bounds of lowest-priority frames, {met} met to the tick", self.bounds);
-        println!("{} instances of certified frames end at their claim", self.just_in_time);
-        let Tally { tables, schedules, instances, late, .. } = self;
+        println!("{} schedules also tick by tick, {} differ", self.ticked, self.unequal);
         println!("{tables} tables, {schedules} schedules, {instances} instances, {late} late");
     }
 }
 
-/// The rows that the library certifies, of those that are not too much work.
-fn certified_rows(random: &mut Random, drawn: &Drawn) -> Vec<usize> {
+/// The rows that the library certifies with verdict 1, and with 2, of those not too much work.
+fn certified_rows(random: &mut Random, drawn: &Drawn) -> [Vec<usize>; 2] {
     let mut words = Lent::new(random, &drawn.rows.concat());
-    let cheap = (0..drawn.rows.len()).filter(|row| drawn.is_cheap(*row));
-    let mut verdict = |row: &usize| library::judge_rows(&mut words, *row as u64) / VERDICT;
-    cheap.filter(|row| matches!(verdict(row), 1 | 2)).collect()
+    let mut by_verdict = [Vec::new(), Vec::new()];
+    for row in (0..drawn.rows.len()).filter(|row| drawn.is_cheap(*row)) {
+        match Judged::new(library::judge_rows(&mut words, row as u64)).verdict {
+            1 => by_verdict[0].push(row),
+            2 => by_verdict[1].push(row),
+            _ => (),
+        }
+    }
+    by_verdict
 }
 
 /// The ends of each row's instances, from number 0 on.
@@ -135,69 +155,6 @@ fn ends(rows: &[Row], list: &[Transmission]) -> Vec<Vec<u64>> {
     let mut ends = vec![Vec::new(); rows.len()];
     list.iter().for_each(|sent| ends[sent.row].push(sent.end()));
     ends
-}
-
-/// Starts at random, close together, or such that releases of all nodes nearly meet.
-fn starts(random: &mut Random, rows: &[Row]) -> Starts {
-    match random.below(5) {
-        0 => {
-            std::array::from_fn(|node| random.below(table::node_hyperperiod(rows, node as u32 + 1)))
-        }
-        1 => std::array::from_fn(|_| random.below(500)),
-        _ => meeting_starts(random, rows),
-    }
-}
-
-/// Starts for which the worst scenario of a certified row meets, a tick after a long frame below is
-/// queued; none by chance, or if there are too many scenarios.
-fn worst_starts(random: &mut Random, drawn: &Drawn, certified: &[usize]) -> Option<Starts> {
-    if certified.is_empty() || random.percent(60) {
-        return None;
-    }
-    let row = random.pick(certified);
-    let rows = &drawn.rows;
-    let view = View::new(rows, row);
-    if view.scenario_count() > MOST_SCENARIOS || !drawn.is_cheap(row) {
-        return None;
-    }
-    let (_, scenario) = view.worst_scenario(LIMITS.window)?;
-    let mut instants = view.instants(scenario);
-    if let Some(blocking) = blocking_frame(rows, &rows[row]) {
-        instants[blocking[NODE] as usize - 1] = u64::from(blocking[OFFSET]) + 1;
-    }
-    Some(starts_to_meet(&instants))
-}
-
-/// The longest frame below, unless its node has frames ahead.
-fn blocking_frame<'a>(rows: &'a [Row], frame: &Row) -> Option<&'a Row> {
-    let (below, ahead): (Vec<&Row>, Vec<&Row>) =
-        rows.iter().partition(|row| rank(row) > rank(frame));
-    let longest = below.into_iter().max_by_key(|row| length(row))?;
-    let alone = ahead.iter().all(|row| row[NODE] != longest[NODE]);
-    alone.then_some(longest)
-}
-
-/// Starts for which the instants of all nodes meet.
-fn starts_to_meet(instants: &[u64]) -> Starts {
-    let meeting = instants.iter().max().expect("a node");
-    std::array::from_fn(|node| meeting - instants[node])
-}
-
-fn meeting_starts(random: &mut Random, rows: &[Row]) -> Starts {
-    let nodes = 1..=NODES;
-    let instants: Vec<u64> = nodes.map(|node| some_release(random, rows, node)).collect();
-    starts_to_meet(&instants).map(|start| start + random.pick(&[0, 0, 1, 1, 1, 2]))
-}
-
-/// A release within the hyperperiod of a node, counted from its start.
-fn some_release(random: &mut Random, rows: &[Row], node: u32) -> u64 {
-    let of_node: Vec<&Row> = rows.iter().filter(|row| row[NODE] == node).collect();
-    if of_node.is_empty() {
-        return 0;
-    }
-    let row = random.pick(&of_node);
-    let periods = table::node_hyperperiod(rows, node) / u64::from(row[PERIOD]);
-    u64::from(row[OFFSET]) + random.below(periods) * u64::from(row[PERIOD])
 }
 
 /// A tick with enough releases between it and the last start, and not too many.
@@ -219,20 +176,15 @@ fn draw_length(random: &mut Random, manner: u64, row: &Row) -> u64 {
 }
 
 /// Whether the lowest-priority frame takes its precise bound to the tick, when the releases of the
-/// worst scenario meet and all lengths are largest; none if it has no window or too many scenarios.
+/// worst scenario meet and all lengths are largest; none if there is no such scenario.
 fn reaches_bound(random: &mut Random, drawn: &Drawn) -> Option<bool> {
     let rows = &drawn.rows;
     let row = lowest(rows);
-    let view = View::new(rows, row);
-    if view.scenario_count() > MOST_SCENARIOS || !drawn.is_cheap(row) {
-        return None;
-    }
-    view.rough(LIMITS.window)?;
-    let (worst, scenario) = view.worst_scenario(LIMITS.window)?;
+    let (worst, instants) = worst_scenario(drawn, row)?;
     let mut words = Lent::new(random, &rows.concat());
     let bound = library::precise_bound_rows(&mut words, row as u64);
     let bound = u64::try_from(bound).unwrap_or(0);
-    Some(response(rows, row, &view.instants(scenario), worst.q, bound) == Some(bound))
+    Some(response(rows, row, &instants, worst.q, bound) == Some(bound))
 }
 
 /// The response of the q-th instance from the tick where the instants meet, if it starts in time.

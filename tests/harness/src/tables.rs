@@ -4,7 +4,7 @@ use analyser::bounds::{length, rank, View};
 use analyser::judge_cases::{self, apart, counted_table, long_window_table, LONG_WINDOWS};
 use analyser::judgement::LIMITS;
 use analyser::random::{clustered, set_claim, Random};
-use analyser::table::{self, Row, CLAIM, IDENTIFIER, NODE, NODES, OFFSET, PAYLOAD, PERIOD};
+use analyser::table::{self, Row, CLAIM, IDENTIFIER, NODE, NODES, OFFSET, PERIOD};
 
 /// The greatest effort for a row of any shape.
 const MOST_EFFORT: u64 = 300_000;
@@ -133,9 +133,9 @@ fn load(row: &Row) -> u64 {
 
 /// Alone on the bus, with a period beside its length.
 fn lone_frame(random: &mut Random) -> Vec<Row> {
-    let mut row = [random.between(1, 16) as u32, 0, random.pick(&[11, 29]), 0, 0, 0, 500];
-    row[IDENTIFIER] = random.pick(&[0, 1, 2046, 2047]);
-    row[PAYLOAD] = random.below(9) as u32;
+    let (kind, last) = random.pick(&[(11, 2047), (29, 536_870_911)]);
+    let mut row = [random.between(1, 16) as u32, 0, kind, random.below(9) as u32, 0, 0, 500];
+    row[IDENTIFIER] = random.pick(&[0, 1, last - 1, last]);
     row[PERIOD] = (length(&row) + random.below(5) - 2) as u32;
     row[OFFSET] = random.below(row[PERIOD].into()) as u32;
     vec![row]
@@ -161,9 +161,7 @@ fn nearly_full(random: &mut Random) -> Vec<Row> {
 
 /// Windows at and beside the longest that is served.
 fn near_the_limit(random: &mut Random) -> Drawn {
-    let spec = random.pick(LONG_WINDOWS);
-    let mut rows = long_window_table(&spec);
-    let judged = rows.len() - 1 - usize::from(spec.3.is_some());
+    let (mut rows, judged) = long_window_table(&random.pick(LONG_WINDOWS));
     random.shuffle(&mut rows[..3]);
     disguised(random, rows, judged)
 }

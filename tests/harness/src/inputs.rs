@@ -1,13 +1,10 @@
 //! Random inputs: each is settled by the seed and its number.
 
-use crate::call::{Call, OnFile, OnRows};
+use crate::call::{Call, OnFile, OnRows, LISTED};
 use crate::damage::{damage_file, damage_rows, damage_words, file_of};
 use crate::tables::{self, claim_all, is_cheap};
 use analyser::random::Random;
 use analyser::table::{self, Row, FIELDS, LINE};
-
-/// Bytes of a line of the listing.
-const LISTED: usize = 31;
 
 /// The generator of one number's draws.
 pub fn generator(seed: u64, number: u64) -> Random {
@@ -31,7 +28,7 @@ pub fn draw(random: &mut Random) -> Call {
     if task == Task::List {
         claim_all(random, &mut drawn.rows);
     }
-    let faults = if random.percent(40) { random.between(1, 3) } else { 0 };
+    let faults = if random.percent(45) { random.between(1, 3) } else { 0 };
     let cheap = (faults == 0).then_some(drawn.row);
     let in_rows = random.below(faults + 1);
     (0..in_rows).for_each(|_| damage_rows(random, &mut drawn.rows));
@@ -72,10 +69,10 @@ fn on_rows(random: &mut Random, words: Vec<u32>, task: Task) -> Call {
 
 fn task(random: &mut Random, row: usize, lines: usize) -> Task {
     let row = row_number(random, row as u64, lines as u64);
-    match random.below(8) {
-        0..=3 => Task::Judge(row),
-        4 => Task::PreciseBound(row),
-        5 => Task::List,
+    match random.below(12) {
+        0..=4 => Task::Judge(row),
+        5..=6 => Task::PreciseBound(row),
+        7..=8 => Task::List,
         _ => Task::Copy,
     }
 }

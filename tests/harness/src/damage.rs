@@ -6,22 +6,29 @@ use analyser::table::{
     Row, FIELDS, IDENTIFIER, KIND, LINE, MOST_LINES, NODE, OFFSET, PERIOD, WIDTHS,
 };
 
-/// For each column the limits and what stands beside them.
+/// For each column the limits, what stands beside them, and what fewer bits would take for them.
 const AT_LIMITS: [&[u32]; FIELDS] = [
-    &[0, 1, 16, 17, 32],
+    &[0, 1, 16, 17, 257],
     &[0, 2047, 2048, 536_870_911, 536_870_912, u32::MAX],
     &[0, 10, 11, 12, 28, 29, 30, 267],
-    &[0, 8, 9, 16],
-    &[0, 1, 1_000_000, 1_000_001, 16_777_216],
+    &[0, 8, 9, 256],
+    &[0, 1, 1_000_000, 1_000_001, 16_777_217],
     &[0, 999_999, 1_000_000, 1_000_001],
-    &[0, 1, 1_000_000, 1_000_001, 16_777_216],
+    &[0, 1, 1_000_000, 1_000_001, 16_777_217],
 ];
+
+/// Kinds with identifiers at and beside their limits.
+const FRAMES: &[(u32, u32)] =
+    &[(11, 0), (11, 2047), (11, 2048), (29, 0), (29, 536_870_911), (29, 536_870_912)];
 
 /// Periods that bring a node to the limits of its pattern.
 const PERIODS: &[u32] = &[
     1, 2, 3, 125, 250, 255, 256, 999, 1000, 1001, 3906, 3907, 4000, 65_536, 65_537, 200_000,
     500_000, 999_983, 999_999, 1_000_000,
 ];
+
+/// Periods of two frames; the hyperperiod of the first pair is 1000001.
+const PAIRS: &[[u32; 2]] = &[[101, 9901], [1000, 1001], [999, 1000], [1, 255], [1, 256]];
 
 /// Columns that break the notation.
 const BROKEN: &[&[u8]] = &[
@@ -37,18 +44,17 @@ const LONG_IDENTIFIERS: &[&[u8]] =
 pub fn damage_rows(random: &mut Random, rows: &mut [Row]) {
     let line = some_line(random, rows.len());
     let other = random.below(rows.len() as u64) as usize;
-    match random.below(10) {
-        0..=2 => {
-            let column = random.below(FIELDS as u64) as usize;
-            rows[line][column] = random.pick(AT_LIMITS[column]);
-        }
-        3 => rows[line][OFFSET] = rows[line][PERIOD].saturating_sub(random.below(2) as u32),
-        4 => {
+    let column = random.below(FIELDS as u64) as usize;
+    match random.below(18) {
+        0..=4 => rows[line][column] = random.pick(AT_LIMITS[column]),
+        5 => (rows[line][KIND], rows[line][IDENTIFIER]) = random.pick(FRAMES),
+        6 => rows[line][OFFSET] = rows[line][PERIOD].saturating_sub(random.below(2) as u32),
+        7..=9 => {
             rows[line][IDENTIFIER] = rows[other][IDENTIFIER];
             rows[line][KIND] = rows[other][KIND];
         }
-        5 => rows[line][NODE] = rows[other][NODE],
-        6 => rows[line][random.below(FIELDS as u64) as usize] = random.word() as u32,
+        10 => rows[line][NODE] = rows[other][NODE],
+        11 => rows[line][column] = random.word() as u32,
         _ => set_periods(random, rows, line),
     }
 }
@@ -76,23 +82,23 @@ fn set_periods(random: &mut Random, rows: &mut [Row], line: usize) {
     }
 }
 
-/// Periods of so many frames: any near a limit, about 256 releases, or a hyperperiod near 1000000.
+/// Periods of so many frames: about 256 queueings, a hyperperiod near 1000000, or any near a limit.
 fn periods(random: &mut Random, count: usize) -> Vec<u32> {
-    let mut periods: Vec<u32> = (0..count).map(|_| random.pick(PERIODS)).collect();
-    match random.below(3) {
-        0 => {
+    match random.below(6) {
+        0..=2 => {
             let short = random.pick(&[1, 2, 10, 300, 3900]);
-            let times = random.between(254, 258).saturating_sub(count as u64).max(1);
-            periods.fill(short * times as u32);
+            let times = random.between(256, 259).saturating_sub(count as u64).max(1);
+            let mut periods = vec![short * times as u32; count];
             periods[0] = short;
+            periods
         }
-        1 => {
+        3 => {
             let sixth = random.between(166_650, 166_680) as u32;
-            periods.iter_mut().for_each(|period| *period = sixth * random.pick(&[2, 3]));
+            (0..count).map(|_| sixth * random.pick(&[2, 3])).collect()
         }
-        _ => (),
+        4 => random.pick(PAIRS).into_iter().cycle().take(count).collect(),
+        _ => (0..count).map(|_| random.pick(PERIODS)).collect(),
     }
-    periods
 }
 
 /// The file of rows; what is too wide for a column loses its first digits.
@@ -108,7 +114,7 @@ pub fn file_of(rows: &[Row]) -> Vec<u8> {
 
 /// Breaks line feeds, columns, single bytes or the length.
 pub fn damage_file(random: &mut Random, file: &mut Vec<u8>) {
-    if file.len() < LINE || random.percent(15) {
+    if file.len() < LINE || random.percent(20) {
         return change_length(random, file, LINE, MOST_LINES);
     }
     let line = some_line(random, file.len() / LINE);

@@ -60,7 +60,7 @@ impl<T: Element> Lent<T> {
 
     pub fn guards_hold(&self) -> bool {
         let end = self.guard + self.len();
-        let guards = |all: &[T]| [&all[..self.guard], &all[end..]].concat();
-        guards(&self.memory) == guards(&self.before)
+        let before = self.memory[..self.guard] == self.before[..self.guard];
+        before && self.memory[end..] == self.before[end..]
     }
 }

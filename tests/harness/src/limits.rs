@@ -1,0 +1,216 @@
+//! How often calls stand at a limit of document 01 and are served, or beyond it and are turned back.
+
+use crate::answer::{refusal, Judged};
+use crate::call::Call;
+use analyser::bounds::View;
+use analyser::judgement::LIMITS;
+use analyser::table::{
+    self, Refusal, Row, CLAIM, IDENTIFIER, KIND, MOST_LINES, NODE, NODES, OFFSET, PAYLOAD, PERIOD,
+};
+
+/// What is so little beyond a limit is beside it; the next number cannot always be met.
+const BESIDE: u64 = 300;
+
+type Test = fn(&Seen) -> bool;
+
+/// Each limit: what is the last within it, and what is beyond and beside it.
+const ALL: &[(&str, Test, Test)] = &[
+    ("node 1", |s| s.serves(|row| row[NODE] == 1), |s| s.refuses(|row| row[NODE] == 0)),
+    ("node 16", |s| s.serves(|row| row[NODE] == 16), |s| s.refuses(|row| row[NODE] == 17)),
+    (
+        "identifier 2047",
+        |s| s.serves(|row| row[KIND] == 11 && row[IDENTIFIER] == 2047),
+        |s| s.refuses(|row| row[KIND] == 11 && row[IDENTIFIER] == 2048),
+    ),
+    (
+        "identifier 536870911",
+        |s| s.serves(|row| row[KIND] == 29 && row[IDENTIFIER] == 536_870_911),
+        |s| s.refuses(|row| row[KIND] == 29 && row[IDENTIFIER] == 536_870_912),
+    ),
+    (
+        "kind 11",
+        |s| s.serves(|row| row[KIND] == 11),
+        |s| s.refuses(|row| row[KIND].abs_diff(11) == 1),
+    ),
+    (
+        "kind 29",
+        |s| s.serves(|row| row[KIND] == 29),
+        |s| s.refuses(|row| row[KIND].abs_diff(29) == 1),
+    ),
+    ("payload 8", |s| s.serves(|row| row[PAYLOAD] == 8), |s| s.refuses(|row| row[PAYLOAD] == 9)),
+    ("period 1", |s| s.serves(|row| row[PERIOD] == 1), |s| s.refuses(|row| row[PERIOD] == 0)),
+    (
+        "period 1000000",
+        |s| s.serves(|row| row[PERIOD] == 1_000_000),
+        |s| s.refuses(|row| row[PERIOD] == 1_000_001),
+    ),
+    (
+        "offset period-1",
+        |s| s.serves(|row| row[OFFSET] == row[PERIOD] - 1),
+        |s| s.refuses(|row| row[OFFSET] == row[PERIOD]),
+    ),
+    ("claim 1", |s| s.serves(|row| row[CLAIM] == 1), |s| s.refuses(|row| row[CLAIM] == 0)),
+    (
+        "claim 1000000",
+        |s| s.serves(|row| row[CLAIM] == 1_000_000),
+        |s| s.refuses(|row| row[CLAIM] == 1_000_001),
+    ),
+    (
+        "lines 64",
+        |s| s.is_served() && s.call.lines() == MOST_LINES,
+        |s| (s.is_refused(2) || s.is_refused(10)) && s.call.lines() == MOST_LINES + 1,
+    ),
+    (
+        "hyperperiod 1000000",
+        |s| s.serves_node(|node| node.hyperperiod == 1_000_000),
+        |s| s.refuses_node(6, |node| is_beside(node.hyperperiod, 1_000_000)),
+    ),
+    (
+        "queueings 256",
+        |s| s.serves_node(|node| node.queueings == 256),
+        |s| s.refuses_node(7, |node| node.queueings == 257),
+    ),
+    (
+        "area of the result",
+        |s| s.is_served() && s.call.room().is_some_and(|(size, need)| size == need),
+        |s| s.is_refused(8) && s.call.room().is_some_and(|(size, need)| size + 1 == need),
+    ),
+    (
+        "row lines-1",
+        |s| s.is_served() && s.call.row() == Some(s.call.lines() as u64 - 1),
+        |s| s.is_refused(9) && s.call.row() == Some(s.call.lines() as u64),
+    ),
+    ("window 1000000", |s| s.window == Some(LIMITS.window), |s| s.window > Some(LIMITS.window)),
+    (
+        "scenarios 65536",
+        |s| s.scenarios == Some(LIMITS.scenarios),
+        |s| s.scenarios.is_some_and(|count| is_beside(count, LIMITS.scenarios)),
+    ),
+    ("claim of rough bound", |s| s.is_judged(1, 0), |s| s.is_judged(12, -1)),
+    ("claim of exact bound", |s| s.is_judged(2, 0), |s| s.is_judged(3, -1)),
+];
+
+fn is_beside(number: u64, limit: u64) -> bool {
+    number > limit && number <= limit + BESIDE
+}
+
+/// A call, and what it came to.
+struct Seen<'a> {
+    call: &'a Call,
+    rows: Vec<Row>,
+    refusal: Option<Refusal>,
+    judged: Option<Judged>,
+    /// The rough bound's window, unless it is far beyond its limit.
+    window: Option<u64>,
+    /// The scenario count, where the answer hangs on it.
+    scenarios: Option<u64>,
+}
+
+impl<'a> Seen<'a> {
+    fn new(call: &'a Call, answer: i64) -> Seen<'a> {
+        let refusal = refusal(answer);
+        let judges = call.operation().judges() && refusal.is_none();
+        let judged = judges.then(|| Judged::new(answer));
+        let rows = call.rows();
+        let seen = Seen { call, rows, refusal, judged, window: None, scenarios: None };
+        match call.row() {
+            Some(row) if seen.is_served() || seen.is_refused(11) || seen.is_refused(12) => {
+                seen.with_row(row as usize)
+            }
+            _ => seen,
+        }
+    }
+
+    /// Looks at the row asked for.
+    fn with_row(self, row: usize) -> Seen<'a> {
+        let view = View::new(&self.rows, row);
+        let window = view.rough_window(LIMITS.window + BESIDE);
+        let verdict = self.judged.as_ref().map(|judged| judged.verdict);
+        let hangs_on_count = !self.is_refused(11) && !matches!(verdict, Some(1 | 11));
+        let scenarios = hangs_on_count.then(|| view.scenario_count());
+        Seen { window, scenarios, ..self }
+    }
+
+    fn is_served(&self) -> bool {
+        self.refusal.is_none()
+    }
+
+    fn is_refused(&self, number: u32) -> bool {
+        self.refusal.is_some_and(|refusal| refusal.number == number)
+    }
+
+    fn is_judged(&self, verdict: i64, margin: i64) -> bool {
+        let judged = self.judged.as_ref();
+        judged.is_some_and(|judged| judged.verdict == verdict && judged.margin == margin)
+    }
+
+    /// An accepted table has such a row.
+    fn serves(&self, test: fn(&Row) -> bool) -> bool {
+        self.is_served() && self.rows.iter().any(test)
+    }
+
+    /// The line turned back for a value is such a row.
+    fn refuses(&self, test: fn(&Row) -> bool) -> bool {
+        let Some(Refusal { number: 4, place }) = self.refusal else {
+            return false;
+        };
+        self.rows.get(place as usize - 1).is_some_and(test)
+    }
+
+    /// An accepted table has such a node.
+    fn serves_node(&self, test: fn(Pattern) -> bool) -> bool {
+        self.is_served() && (1..=NODES).any(|node| test(Pattern::new(&self.rows, node)))
+    }
+
+    /// The node turned back is such a node.
+    fn refuses_node(&self, number: u32, test: fn(Pattern) -> bool) -> bool {
+        let refusal = self.refusal.filter(|refusal| refusal.number == number);
+        refusal.is_some_and(|refusal| test(Pattern::new(&self.rows, refusal.place)))
+    }
+}
+
+struct Pattern {
+    hyperperiod: u64,
+    queueings: u64,
+}
+
+impl Pattern {
+    fn new(rows: &[Row], node: u32) -> Pattern {
+        let hyperperiod = table::node_hyperperiod(rows, node);
+        let of_node = rows.iter().filter(|row| row[NODE] == node);
+        let queueings = of_node.map(|row| hyperperiod / u64::from(row[PERIOD])).sum();
+        Pattern { hyperperiod, queueings }
+    }
+}
+
+/// Counts of calls at each limit, and beyond it.
+pub struct Limits {
+    counts: Vec<[u64; 2]>,
+}
+
+impl Limits {
+    pub fn new() -> Limits {
+        Limits { counts: vec![[0; 2]; ALL.len()] }
+    }
+
+    pub fn add(&mut self, call: &Call, answer: i64) {
+        let seen = Seen::new(call, answer);
+        for (counts, (_, at, beyond)) in self.counts.iter_mut().zip(ALL) {
+            counts[0] += u64::from(at(&seen));
+            counts[1] += u64::from(beyond(&seen));
+        }
+    }
+
+    pub fn print(&self) {
+        println!("{:<22}{:>9}{:>9}", "limit", "at", "beyond");
+        for ([at, beyond], (name, ..)) in self.counts.iter().zip(ALL) {
+            println!("{name:<22}{at:>9}{beyond:>9}");
+        }
+    }
+
+    /// What did not occur.
+    pub fn faults(&self) -> Vec<String> {
+        let missed = self.counts.iter().zip(ALL).filter(|(counts, _)| counts.contains(&0));
+        missed.map(|(_, (name, ..))| format!("limit {name} was not met from both sides")).collect()
+    }
+}

@@ -1,0 +1,82 @@
+//! Starts of the nodes of a simulated bus.
+
+use crate::tables::Drawn;
+use analyser::bounds::{length, rank, View, Worst};
+use analyser::judgement::LIMITS;
+use analyser::random::Random;
+use analyser::simulator::Starts;
+use analyser::table::{self, Row, NODE, NODES, OFFSET, PERIOD};
+
+/// The most scenarios searched for the worst one.
+const MOST_SCENARIOS: u64 = 500;
+
+/// Starts at random, close together, or such that releases of all nodes nearly meet.
+pub fn starts(random: &mut Random, rows: &[Row]) -> Starts {
+    match random.below(5) {
+        0 => {
+            std::array::from_fn(|node| random.below(table::node_hyperperiod(rows, node as u32 + 1)))
+        }
+        1 => std::array::from_fn(|_| random.below(500)),
+        _ => meeting_starts(random, rows),
+    }
+}
+
+/// Starts for which the worst scenario of a certified row meets, a tick after a long frame below is
+/// queued; none by chance, or if there are too many scenarios.
+pub fn worst_starts(random: &mut Random, drawn: &Drawn, certified: &[usize]) -> Option<Starts> {
+    if certified.is_empty() || random.percent(60) {
+        return None;
+    }
+    let row = random.pick(certified);
+    let (_, mut instants) = worst_scenario(drawn, row)?;
+    let rows = &drawn.rows;
+    if let Some(blocking) = blocking_frame(rows, &rows[row]) {
+        instants[blocking[NODE] as usize - 1] = u64::from(blocking[OFFSET]) + 1;
+    }
+    Some(starts_to_meet(&instants))
+}
+
+/// The exact bound of a row and the instants of the first scenario that gives it; none if there are
+/// too many scenarios, or no window.
+pub fn worst_scenario(drawn: &Drawn, row: usize) -> Option<(Worst, Vec<u64>)> {
+    let view = View::new(&drawn.rows, row);
+    if view.scenario_count() > MOST_SCENARIOS || !drawn.is_cheap(row) {
+        return None;
+    }
+    view.rough(LIMITS.window)?;
+    let (worst, scenario) = view.worst_scenario(LIMITS.window)?;
+    Some((worst, view.instants(scenario)))
+}
+
+/// The longest frame below, unless its node has frames ahead.
+fn blocking_frame<'a>(rows: &'a [Row], frame: &Row) -> Option<&'a Row> {
+    let (below, ahead): (Vec<&Row>, Vec<&Row>) =
+        rows.iter().partition(|row| rank(row) > rank(frame));
+    let longest = below.into_iter().max_by_key(|row| length(row))?;
+    let alone = ahead.iter().all(|row| row[NODE] != longest[NODE]);
+    alone.then_some(longest)
+}
+
+/// Starts for which the instants of all nodes meet.
+pub fn starts_to_meet(instants: &[u64]) -> Starts {
+    let meeting = instants.iter().max().expect("a node");
+    std::array::from_fn(|node| meeting - instants[node])
+}
+
+/// Starts for which releases of all nodes meet or nearly so.
+fn meeting_starts(random: &mut Random, rows: &[Row]) -> Starts {
+    let nodes = 1..=NODES;
+    let instants: Vec<u64> = nodes.map(|node| some_release(random, rows, node)).collect();
+    starts_to_meet(&instants).map(|start| start + random.pick(&[0, 0, 1, 1, 1, 2]))
+}
+
+/// A release within the hyperperiod of a node, counted from its start.
+fn some_release(random: &mut Random, rows: &[Row], node: u32) -> u64 {
+    let of_node: Vec<&Row> = rows.iter().filter(|row| row[NODE] == node).collect();
+    if of_node.is_empty() {
+        return 0;
+    }
+    let row = random.pick(&of_node);
+    let periods = table::node_hyperperiod(rows, node) / u64::from(row[PERIOD]);
+    u64::from(row[OFFSET]) + random.below(periods) * u64::from(row[PERIOD])
+}

@@ -1,0 +1,100 @@
+//! What the calls came to, by operation.
+
+use crate::answer::{refusal, Judged};
+use crate::call::{Call, Operation};
+use std::collections::BTreeMap;
+use std::fmt;
+
+/// What a call came to.
+#[derive(Clone, Copy, PartialEq, Eq, PartialOrd, Ord)]
+enum Outcome {
+    Verdict(i64),
+    Refused(u32),
+    /// A bound, a number of elements, or a check that passed.
+    Done,
+}
+
+impl Outcome {
+    fn of(operation: Operation, answer: i64) -> Outcome {
+        match refusal(answer) {
+            Some(refusal) => Outcome::Refused(refusal.number),
+            None if operation.judges() => Outcome::Verdict(Judged::new(answer).verdict),
+            None => Outcome::Done,
+        }
+    }
+}
+
+impl fmt::Display for Outcome {
+    fn fmt(&self, out: &mut fmt::Formatter) -> fmt::Result {
+        match self {
+            Outcome::Verdict(number) => write!(out, "verdict {number:>2}"),
+            Outcome::Refused(number) => write!(out, "refused {number:>2}"),
+            Outcome::Done => write!(out, "done"),
+        }
+    }
+}
+
+/// All that an operation can come to, by document 01.
+fn possible(operation: Operation) -> Vec<Outcome> {
+    use Operation::*;
+    let refusals: &[u32] = match operation {
+        JudgeFile => &[1, 2, 3, 4, 5, 6, 7, 9],
+        BoundFile => &[1, 2, 3, 4, 5, 6, 7, 9, 11, 12],
+        Read | List => &[1, 2, 3, 4, 5, 6, 7, 8],
+        JudgeRows => &[4, 5, 6, 7, 9, 10],
+        BoundRows => &[4, 5, 6, 7, 9, 10, 11, 12],
+        Check => &[4, 5, 6, 7, 10],
+        Write => &[4, 5, 6, 7, 8, 10],
+    };
+    let refused = refusals.iter().map(|number| Outcome::Refused(*number));
+    let other = match operation {
+        JudgeFile | JudgeRows => [1, 2, 3, 11, 12].map(Outcome::Verdict).to_vec(),
+        _ => vec![Outcome::Done],
+    };
+    refused.chain(other).collect()
+}
+
+/// How often each operation came to each outcome.
+pub struct Tally {
+    counts: BTreeMap<(Outcome, Operation), u64>,
+}
+
+impl Tally {
+    pub fn new() -> Tally {
+        let cells = |operation| possible(operation).into_iter().map(move |o| ((o, operation), 0));
+        Tally { counts: Operation::ALL.into_iter().flat_map(cells).collect() }
+    }
+
+    pub fn add(&mut self, call: &Call, answer: i64) {
+        let operation = call.operation();
+        *self.counts.entry((Outcome::of(operation, answer), operation)).or_default() += 1;
+    }
+
+    /// A line for each outcome, a column for each operation that can have it.
+    pub fn print(&self) {
+        let names = Operation::ALL.map(|operation| format!("{operation:>11}"));
+        println!("{:<10}{}", "", names.concat());
+        let mut outcomes: Vec<Outcome> = self.counts.keys().map(|(outcome, _)| *outcome).collect();
+        outcomes.dedup();
+        for outcome in outcomes {
+            let count = |operation| self.counts.get(&(outcome, operation));
+            let column = |operation| count(operation).map_or("".into(), u64::to_string);
+            let columns = Operation::ALL.map(|operation| format!("{:>11}", column(operation)));
+            println!("{:<10}{}", outcome.to_string(), columns.concat().trim_end());
+        }
+    }
+
+    /// What was possible and not seen, and what was seen and not possible.
+    pub fn faults(&self) -> Vec<String> {
+        let fault = |(&(outcome, operation), &count): (&(Outcome, Operation), &u64)| {
+            if count == 0 {
+                Some(format!("{operation}: {outcome} did not occur"))
+            } else if !possible(operation).contains(&outcome) {
+                Some(format!("{operation}: {outcome} is not one of its outcomes"))
+            } else {
+                None
+            }
+        };
+        self.counts.iter().filter_map(fault).collect()
+    }
+}
