@@ -50,6 +50,7 @@ pub fn encode_refusal(refusal: Refusal) -> i64
     -(n as i64)
 }
 
+// The judgement in one number, or the refusal.
 pub fn encode_judged(judged: Judged) -> i64
     requires { ⌜ Encodable judged ⌝ }
     ensures { λ r. ⌜ r ≡ encodeJudged judged ⌝ }
@@ -60,6 +61,7 @@ pub fn encode_judged(judged: Judged) -> i64
     }
 }
 
+// The bound, or the refusal.
 pub fn encode_bounded(bounded: Bounded) -> i64
     ensures { λ r. ⌜ r ≡ encodeBounded bounded ⌝ }
 {

@@ -1,5 +1,6 @@
 // The operations on frame tables: the precise bound of a row, its judgement, the listing of all rows, and
-// the entries for C. Each takes any input, and checks its table itself.
+// the entries for C. Each takes any input, and checks its table itself. The encode functions give the numbers that
+// the entries answer.
 mod encode;
 mod listing;
 mod rows;

@@ -1,6 +1,6 @@
-// Entries for a test program in another language: the operations that certifier has no entry for C for. Each answers
-// one signed number: how many elements were written or 0 for a check that passed, a judgement or a bound as certifier
-// encodes it, or minus (number × 10000 + place) for a refusal.
+// Entries for a test program in another language, for the operations that have no entry for C. Each answers one signed
+// number: how many elements were written, 0 for a check that passed, a judgement or a bound as certifier encodes it, or
+// minus (number × 10000 + place) for a refusal.
 use frame_table::Answer;
 use frame_table::Checked;
 ghost use mathlib.Core.Path.{_≡_};

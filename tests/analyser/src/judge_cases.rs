@@ -33,7 +33,7 @@ pub const LONG_WINDOWS: &[LongWindow] = &[
 const FULL: [(u32, u32); 3] = [(5, 153), (0, 425), (4, 516)];
 
 /// Every scenario of the last row has a window up to 1000000, the rough bound has none.
-const NO_ROUGH_WINDOW: [Row; 7] = [
+pub const NO_ROUGH_WINDOW: [Row; 7] = [
     [1, 1, 11, 5, 269, 0, 500],
     [3, 2, 11, 8, 615, 0, 500],
     [2, 3, 11, 0, 808, 0, 500],

@@ -6,6 +6,7 @@ use crate::inputs::{draw, generator};
 use crate::limits::Limits;
 use crate::tally::Tally;
 use std::io;
+use std::panic::catch_unwind;
 
 /// A run of so many inputs must come to every outcome, and to both sides of every limit.
 const ENOUGH: u64 = 10_000;
@@ -26,11 +27,11 @@ pub fn random(seed: u64, count: u64, save: Option<&str>) -> io::Result<bool> {
                 limits.add(&call, answer);
             }
             Err(difference) => {
-                if differences == 0 {
-                    save_input(seed, number, save)?;
-                }
                 if differences < MOST_PRINTED {
                     println!("{difference}");
+                }
+                if differences == 0 {
+                    save_input(seed, number, save)?;
                 }
                 differences += 1;
             }
@@ -38,10 +39,16 @@ pub fn random(seed: u64, count: u64, save: Option<&str>) -> io::Result<bool> {
     }
     tally.print();
     limits.print();
+    let complete = count < ENOUGH || is_complete(&tally, &limits);
+    println!("{count} inputs, {differences} differences");
+    Ok(differences == 0 && complete)
+}
+
+/// Prints what must have occurred and did not; true if there is nothing.
+fn is_complete(tally: &Tally, limits: &Limits) -> bool {
     let faults = [tally.faults(), limits.faults()].concat();
     faults.iter().for_each(|fault| println!("{fault}"));
-    println!("{count} inputs, {differences} differences");
-    Ok(differences == 0 && (faults.is_empty() || count < ENOUGH))
+    faults.is_empty()
 }
 
 /// Draws and compares one input again; true if nothing differs.
@@ -57,11 +64,17 @@ pub fn replay(seed: u64, number: u64, save: Option<&str>) -> io::Result<bool> {
 
 /// The call and its answer, or what differs at which input.
 fn compare_one(seed: u64, number: u64) -> Result<(Call, i64), String> {
-    let mut random = generator(seed, number);
-    let call = draw(&mut random);
-    match compare(&call, &mut random) {
-        Ok(answer) => Ok((call, answer)),
-        Err(error) => Err(format!("seed {seed}, input {number}: {call}: {error}")),
+    let drawn = catch_unwind(|| {
+        let mut random = generator(seed, number);
+        let call = draw(&mut random);
+        let compared = compare(&call, &mut random);
+        (call, compared)
+    });
+    let input = format!("seed {seed}, input {number}");
+    match drawn {
+        Ok((call, Ok(answer))) => Ok((call, answer)),
+        Ok((call, Err(difference))) => Err(format!("{input}: {call}: {difference}")),
+        Err(_) => Err(format!("{input}: the analyser fails")),
     }
 }
 

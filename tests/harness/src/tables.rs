@@ -1,7 +1,9 @@
 //! Accepted tables of many shapes, cheap enough to judge.
 
 use analyser::bounds::{length, rank, View};
-use analyser::judge_cases::{self, apart, counted_table, long_window_table, LONG_WINDOWS};
+use analyser::judge_cases::{
+    self, apart, counted_table, long_window_table, LONG_WINDOWS, NO_ROUGH_WINDOW,
+};
 use analyser::judgement::LIMITS;
 use analyser::random::{clustered, set_claim, Random};
 use analyser::table::{self, Row, CLAIM, IDENTIFIER, NODE, NODES, OFFSET, PERIOD};
@@ -159,9 +161,13 @@ fn nearly_full(random: &mut Random) -> Vec<Row> {
     disguised(random, rows, 0).rows
 }
 
-/// Windows at and beside the longest that is served.
+/// Windows at and beside the longest that is served, or none for the rough bound alone.
 fn near_the_limit(random: &mut Random) -> Drawn {
-    let (mut rows, judged) = long_window_table(&random.pick(LONG_WINDOWS));
+    let (mut rows, judged) = if random.percent(15) {
+        (NO_ROUGH_WINDOW.to_vec(), NO_ROUGH_WINDOW.len() - 1)
+    } else {
+        long_window_table(&random.pick(LONG_WINDOWS))
+    };
     random.shuffle(&mut rows[..3]);
     disguised(random, rows, judged)
 }
@@ -204,17 +210,16 @@ fn factors(random: &mut Random) -> Vec<u32> {
     factors
 }
 
-/// Other nodes, other identifiers in the same order, other offsets of lone frames, lines mixed.
+/// Other nodes, patterns shifted, other identifiers in the same order, lines mixed: bounds stay.
 fn disguised(random: &mut Random, mut rows: Vec<Row>, judged: usize) -> Drawn {
     let mut nodes: Vec<u32> = (1..=NODES).collect();
     random.shuffle(&mut nodes);
+    let shift = random.below(1_000_000) as u32;
     let mut identifier = 0;
     for row in &mut rows {
         identifier += random.between(1, 200) as u32;
         row[IDENTIFIER] = identifier;
-        if row[NODE] <= 3 {
-            row[OFFSET] = random.below(row[PERIOD].into()) as u32;
-        }
+        row[OFFSET] = (row[OFFSET] + shift / row[NODE]) % row[PERIOD];
         row[NODE] = nodes[row[NODE] as usize - 1];
     }
     let wanted = rows[judged][IDENTIFIER];
