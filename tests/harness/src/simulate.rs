@@ -94,6 +94,9 @@ impl Tally {
             for instance in (0..).take_while(|n| latest(*n) <= until) {
                 let end = ends[*row].get(instance as usize);
                 let spare = end.and_then(|end| latest(instance).checked_sub(*end));
+                if spare.is_none() && self.late == 0 {
+                    println!("row {row}, instance {instance} is late with starts {starts:?}");
+                }
                 self.instances += 1;
                 self.late += u64::from(spare.is_none());
                 self.just_in_time += u64::from(spare == Some(0));
