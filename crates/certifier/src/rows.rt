@@ -64,8 +64,9 @@ pub fn judge_row(rows: &[u32], i: usize) -> Judgement
     let mut members = [0u8; response_time::MEMBERS];
     let mut counts = [0usize; response_time::NODES];
     let mut ends = [0u32; response_time::NODES];
+    let mut hints = [0u32; response_time::HINTS];
     response_time::group(rows, k, &mut members, &mut counts, &mut ends);
-    judge_frame(rows, &members, &counts, &ends, k, claim)
+    judge_frame(rows, &members, &counts, &ends, k, claim, &mut hints)
 }
 
 // The judgement of frame k, whose frames ahead are grouped.
@@ -76,6 +77,7 @@ fn judge_frame(
     ends: &[u32],
     k: Frame,
     claim: u32,
+    hints: &mut [u32],
 ) -> Judgement
     requires { ⌜ Accepted (now rows) ⌝ }
     requires { ⌜ Grouped (now rows) k (now members) (now counts) (now ends) ⌝ }
@@ -83,7 +85,7 @@ fn judge_frame(
     ensures { λ r. ⌜ r ≡ judge (framesOf (now (rows .entry))) k claim ⌝ }
 {
     let blocked = response_time::frame_blocking(rows, k);
-    let found = response_time::approximate(rows, members, counts, ends, k, blocked);
+    let found = response_time::approximate(rows, members, counts, ends, k, blocked, hints);
     let Found::At(rough) = found else {
         return Judgement {
             outcome: Outcome::NoWindow,
@@ -98,7 +100,7 @@ fn judge_frame(
     if response_time::SCENARIO_LIMIT < scenarios {
         return judged(Outcome::Undecided(rough), rough, claim);
     }
-    let exact = response_time::precise(rows, members, counts, ends, k, blocked);
+    let exact = response_time::precise(rows, members, counts, ends, k, blocked, hints);
     if exact <= claim {
         judged(Outcome::CertifiedPrecise(exact), exact, claim)
     } else {
@@ -159,8 +161,9 @@ fn bound_row(rows: &[u32], i: usize) -> Bounded
     let mut members = [0u8; response_time::MEMBERS];
     let mut counts = [0usize; response_time::NODES];
     let mut ends = [0u32; response_time::NODES];
+    let mut hints = [0u32; response_time::HINTS];
     response_time::group(rows, k, &mut members, &mut counts, &mut ends);
-    bound_frame(rows, &members, &counts, &ends, k, i)
+    bound_frame(rows, &members, &counts, &ends, k, i, &mut hints)
 }
 
 // The precise bound of frame k in row i, whose frames ahead are grouped.
@@ -171,6 +174,7 @@ fn bound_frame(
     ends: &[u32],
     k: Frame,
     i: usize,
+    hints: &mut [u32],
 ) -> Bounded
     requires { ⌜ Accepted (now rows) ⌝ }
     requires { ⌜ Grouped (now rows) k (now members) (now counts) (now ends) ⌝ }
@@ -178,7 +182,7 @@ fn bound_frame(
     ensures { λ r. ⌜ r ≡ boundFrame (framesOf (now (rows .entry))) i ⌝ }
 {
     let blocked = response_time::frame_blocking(rows, k);
-    let found = response_time::approximate(rows, members, counts, ends, k, blocked);
+    let found = response_time::approximate(rows, members, counts, ends, k, blocked, hints);
     let Found::At(_) = found else {
         return Bounded::NotBounded(Refusal {
             cause: Cause::NoWindow,
@@ -192,5 +196,5 @@ fn bound_frame(
             place: i as u32,
         });
     }
-    Bounded::Bound(response_time::precise(rows, members, counts, ends, k, blocked))
+    Bounded::Bound(response_time::precise(rows, members, counts, ends, k, blocked, hints))
 }

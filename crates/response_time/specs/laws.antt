@@ -2,5 +2,7 @@
 pub mod Fine
 pub mod Parts
 pub mod Groups
+pub mod Best
 pub mod Searches
 pub mod Levels
+pub mod Within

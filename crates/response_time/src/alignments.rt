@@ -3,6 +3,7 @@ use crate::work::index;
 use crate::work::releases_before;
 use crate::work::work_in;
 use arith::Found;
+use bus_model::Choice;
 use bus_model::Frame;
 ghost use mathlib.Core.Path.{_≡_};
 ghost use Prim.Native.Nat.{_+_, _-_, _*_, _≤_, _<_, min, max};
@@ -11,18 +12,12 @@ ghost use Rattle.arith.specs.Lists.{greatest};
 ghost use Rattle.arith.specs.Least.{least};
 ghost use Rattle.arith.specs.Releases.{releasesBefore};
 ghost use Rattle.bus_model.specs.Bounds.{phase, workAt, orEmpty};
-ghost use Rattle.response_time.specs.Grouped.{Fine, FinePart, framesIn, isInstant, instantsIn};
+ghost use Rattle.response_time.specs.Grouped.{Fine, FinePart, framesIn, isInstant, instantsIn, Greatest};
 
 fn lesser(a: u32, b: u32) -> u32
     ensures { λ r. ⌜ r ≡ min a b ⌝ }
 {
     if a < b { a } else { b }
-}
-
-fn greater(a: u64, b: u64) -> u64
-    ensures { λ r. ⌜ r ≡ max a b ⌝ }
-{
-    if a < b { b } else { a }
 }
 
 // The first release of the frame at or after a tick, as its alignments have it.
@@ -54,6 +49,29 @@ pub fn next_alignment(rows: &[u32], part: &[u8], after: u32, end: u32) -> Found
     }
 }
 
+// The first alignment that gives the greatest work in the first n ticks, if that is not 0.
+pub fn best_alignment(rows: &[u32], part: &[u8], end: u32, n: u32) -> Choice
+    requires { ⌜ FinePart (now rows) (now part) ⌝ }
+    requires { ⌜ (end ≤ 1000000) × (n ≤ 1000001) ⌝ }
+    ensures { λ r. ⌜ Greatest (framesIn (now (rows .entry)) (now (part .entry))) (instantsIn (framesIn (now (rows .entry)) (now (part .entry))) end) n r ⌝ }
+{
+    let mut choice = Choice::Any;
+    let mut best: u64 = 0;
+    let mut after: u32 = 0;
+    loop {
+        let found = next_alignment(rows, part, after, end);
+        let Found::At(a) = found else {
+            return choice;
+        };
+        let work = work_in(rows, part, a, n);
+        if best < work {
+            best = work;
+            choice = Choice::Fixed(a);
+        }
+        after = a + 1;
+    }
+}
+
 // The greatest work in the first n ticks that an alignment gives.
 pub fn greatest_work(rows: &[u32], part: &[u8], end: u32, n: u32) -> u64
     requires { ⌜ FinePart (now rows) (now part) ⌝ }
@@ -61,15 +79,10 @@ pub fn greatest_work(rows: &[u32], part: &[u8], end: u32, n: u32) -> u64
     ensures { λ r. ⌜ r ≡ greatest (λ a. workAt (framesIn (now (rows .entry)) (now (part .entry))) a n) (instantsIn (framesIn (now (rows .entry)) (now (part .entry))) end) ⌝ }
     ensures small { λ r. ⌜ r ≤ 64 * 400400400 ⌝ }
 {
-    let mut best: u64 = 0;
-    let mut after: u32 = 0;
-    loop {
-        let found = next_alignment(rows, part, after, end);
-        let Found::At(a) = found else {
-            return best;
-        };
-        best = greater(best, work_in(rows, part, a, n));
-        after = a + 1;
+    let choice = best_alignment(rows, part, end, n);
+    match choice {
+        Choice::Fixed(a) => work_in(rows, part, a, n),
+        Choice::Any => 0,
     }
 }
 

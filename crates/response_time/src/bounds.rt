@@ -3,21 +3,21 @@ use crate::alignments::count_alignments;
 use crate::alignments::next_alignment;
 use crate::groups::GROUP;
 use crate::groups::NODES;
-use crate::response::bigger;
+use crate::response::busy_window;
+use crate::response::is_within;
 use crate::response::or_zero;
-use crate::response::scenario_response;
+use crate::response::raised;
 use arith::Found;
 use bus_model::Choice;
 use bus_model::Frame;
 ghost use mathlib.Core.Path.{_≡_};
 ghost use mathlib.Core.Bool.{false};
-ghost use Prim.Native.Nat.{ℕ, _+_, _-_, _*_, _≤_, _<_, min, max};
+ghost use Prim.Native.Nat.{_+_, _-_, _*_, _≤_, _<_, min, max};
 ghost use lib.ListN.{set};
 ghost use Rattle.arith.specs.Least.{least};
-ghost use Rattle.arith.specs.declared.Found.the-variants.{At};
 ghost use Rattle.bus_model.specs.declared.Choice.the-variants.{Fixed};
 ghost use Rattle.bus_model.specs.Pattern.{ofNode, hyperperiod};
-ghost use Rattle.bus_model.specs.Bounds.{nodes, blocking, choiceOf, busyWindow, preciseBound, scenarioCount};
+ghost use Rattle.bus_model.specs.Bounds.{nodes, blocking, choiceOf, preciseBound, scenarioCount};
 ghost use Rattle.bus_model.specs.Judgement.{lacksWindow};
 ghost use Rattle.bus_model.specs.theory.Refine.{nodeAt, levels, refined, Level};
 ghost use Rattle.bus_model.specs.theory.Visits.{isAlignment};
@@ -25,6 +25,7 @@ ghost use Rattle.bus_model.specs.theory.Approximate.{approximateFound};
 ghost use Rattle.frame_table.specs.Frames.{framesOf};
 ghost use Rattle.frame_table.specs.Table.{Accepted};
 ghost use Rattle.response_time.specs.Grouped.{Grouped, InTable};
+ghost use Rattle.response_time.specs.Load.{WindowWithin};
 
 // No more scenarios are looked at.
 pub const SCENARIO_LIMIT: u32 = 65_536;
@@ -84,6 +85,7 @@ pub fn approximate(
     ends: &[u32],
     k: Frame,
     blocked: u32,
+    hints: &mut [u32],
 ) -> Found
     requires { ⌜ Accepted (now rows) ⌝ }
     requires { ⌜ Grouped (now rows) k (now members) (now counts) (now ends) ⌝ }
@@ -92,18 +94,31 @@ pub fn approximate(
     ensures { λ r. ⌜ r ≡ approximateFound (framesOf (now (rows .entry))) k ⌝ }
 {
     let j = k.node as usize;
-    let mut best: u32 = 0;
+    let limit = busy_window(rows, members, counts, ends, k, [Choice::Any; 16], blocked);
+    let mut most: u32 = 0;
     let mut a = or_zero(next_of(rows, members, counts, ends, k, j, 0));
     loop {
         let choices = with_choice([Choice::Any; 16], j, a);
-        let one = scenario_response(rows, members, counts, ends, k, choices, a, blocked);
-        let Found::At(r) = one else {
+        let more = raised(
+            rows,
+            members,
+            counts,
+            ends,
+            k,
+            choices,
+            a,
+            blocked,
+            limit,
+            most,
+            hints,
+        );
+        let Found::At(r) = more else {
             return Found::Nothing;
         };
-        best = bigger(best, r);
+        most = r;
         let found = next_of(rows, members, counts, ends, k, j, a + 1);
         let Found::At(b) = found else {
-            return Found::At(best);
+            return Found::At(most);
         };
         a = b;
     }
@@ -121,22 +136,48 @@ fn improve(
     choices: [Choice; 16],
     own: u32,
     blocked: u32,
+    limit: u32,
     level: usize,
     best: u32,
+    hints: &mut [u32],
 ) -> u32
     requires { ⌜ Accepted (now rows) ⌝ }
     requires { ⌜ Grouped (now rows) k (now members) (now counts) (now ends) ⌝ }
     requires { ⌜ InTable (now rows) k ⌝ }
     requires { ⌜ (choiceOf choices (k .node) ≡ Fixed own) × (blocked ≡ blocking (framesOf (now rows)) k) ⌝ }
-    requires { ⌜ (1 ≤ level) × (level ≤ 16) × Level k level choices × ((l : ℕ) × (busyWindow (framesOf (now rows)) k choices ≡ At l)) ⌝ }
+    requires { ⌜ (1 ≤ level) × (level ≤ 16) × Level k level choices ⌝ }
+    requires { ⌜ (limit ≤ 1000000) × WindowWithin (framesOf (now rows)) k choices limit ⌝ }
     ensures { λ r. ⌜ r ≡ max best (refined (framesOf (now (rows .entry))) k (levels k level nodes) choices) ⌝ }
 {
-    let upper = or_zero(scenario_response(rows, members, counts, ends, k, choices, own, blocked));
-    if upper <= best {
-        return best;
-    }
     if level == NODES {
-        return upper;
+        return or_zero(raised(
+            rows,
+            members,
+            counts,
+            ends,
+            k,
+            choices,
+            own,
+            blocked,
+            Found::At(limit),
+            best,
+            hints,
+        ));
+    }
+    if is_within(
+        rows,
+        members,
+        counts,
+        ends,
+        k,
+        choices,
+        own,
+        blocked,
+        limit,
+        best,
+        hints,
+    ) {
+        return best;
     }
     let j = node_at(k, level);
     let mut most = best;
@@ -152,8 +193,10 @@ fn improve(
             finer,
             own,
             blocked,
+            limit,
             level + 1,
             most,
+            hints,
         );
         let found = next_of(rows, members, counts, ends, k, j, a + 1);
         let Found::At(b) = found else {
@@ -171,6 +214,7 @@ pub fn precise(
     ends: &[u32],
     k: Frame,
     blocked: u32,
+    hints: &mut [u32],
 ) -> u32
     requires { ⌜ Accepted (now rows) ⌝ }
     requires { ⌜ Grouped (now rows) k (now members) (now counts) (now ends) ⌝ }
@@ -183,7 +227,21 @@ pub fn precise(
     let mut a = or_zero(next_of(rows, members, counts, ends, k, j, 0));
     loop {
         let choices = with_choice([Choice::Any; 16], j, a);
-        most = improve(rows, members, counts, ends, k, choices, a, blocked, 1, most);
+        let limit = or_zero(busy_window(rows, members, counts, ends, k, choices, blocked));
+        most = improve(
+            rows,
+            members,
+            counts,
+            ends,
+            k,
+            choices,
+            a,
+            blocked,
+            limit,
+            1,
+            most,
+            hints,
+        );
         let found = next_of(rows, members, counts, ends, k, j, a + 1);
         let Found::At(b) = found else {
             return most;

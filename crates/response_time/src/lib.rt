@@ -2,6 +2,7 @@
 mod alignments;
 mod bounds;
 mod groups;
+mod hints;
 mod response;
 mod search;
 mod work;
@@ -13,4 +14,5 @@ pub use bounds::scenario_count;
 pub use groups::MEMBERS;
 pub use groups::NODES;
 pub use groups::group;
+pub use hints::HINTS;
 pub use search::frame_blocking;

@@ -22,6 +22,9 @@ pub fn releases_before(d: u32, p: u32, n: u32) -> u32
     if n <= d {
         return 0;
     }
+    if n - d <= p {
+        return 1;
+    }
     (n - d + (p - 1)) / p
 }
 

@@ -97,3 +97,17 @@ module _ (p : ℕ → Bool) (e : ℕ) where
   least-skip n m le inside fails =
       let same : n + (m - n) ≡ m = omega arith in
       rw same at (skip-by (m - n) n (omega arith) (λ i low high. fails i low (omega arith)))
+
+-- ---- two searches of n .. e - 1, where what passes the one test passes the other
+
+module _ (p q : ℕ → Bool) (e : ℕ) (wider : (i : ℕ) → T (q i) → T (p i)) where
+  -- Nothing below what the wider one finds passes the other: that may start there.
+  pub least-from : (n m : ℕ) → least p (e - n) n ≡ At m → least q (e - n) n ≡ least q (e - m) m
+  least-from n m found =
+      let (low, high, t) = least-within p e found in
+      least-skip q e n m low (omega arith) (λ i from below u. omega (arith, least-le p (e - n) n m i found from (wider i u)))
+
+  -- Where the wider one finds none, neither does the other.
+  pub least-neither : (n : ℕ) → least p (e - n) n ≡ Nothing → least q (e - n) n ≡ Nothing
+  least-neither n none =
+      least-none q (e - n) n (λ i low high u. let (l, found, le) = least-finds p (e - n) n i low high (wider i u) in let z : _≡_ {A = ℕ} 0 1 = cc in omega arith)

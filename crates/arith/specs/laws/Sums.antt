@@ -20,6 +20,12 @@ module _ {A : Type 0} where
   sum-le [] le = omega arith
   sum-le (x ∷ xs) le = omega (arith, le x (here refl), sum-le xs (λ y m. le y (there m)))
 
+  -- Where each term is another's, so is the sum.
+  pub sum-same : {f g : A → ℕ} (xs : List A) → ((x : A) → Mem x xs → f x ≡ g x) → sum f xs ≡ sum g xs
+  unfolding sum
+  sum-same [] same = refl
+  sum-same (x ∷ xs) same = ap₂ _+_ (same x (here refl)) (sum-same xs (λ y m. same y (there m)))
+
   -- Where each two terms together are at most a third, so are the sums.
   pub add-le-sum : (f g : A → ℕ) {h : A → ℕ} (xs : List A) → ((x : A) → Mem x xs → f x + g x ≤ h x) → sum f xs + sum g xs ≤ sum h xs
   unfolding sum

@@ -3,7 +3,7 @@
 -- and `rest` is what is left: sums, products, greatest values, counts and selections are each an F and a join.
 use Prim.Native.Nat.{ℕ, zero, suc, _+_, _-_, _*_, _≤_, _<_, min, max}
 use mathlib.Core.Path.{_≡_, refl, sym, _∙_}
-use mathlib.Core.List.{List, [], _∷_, _++_}
+use mathlib.Core.List.{List, [], _∷_, _++_, List·Memᴰ as Mem}
 use mathlib.Core.Bool.{Bool, true, false, cond}
 use native.Mathlib.Nat.{sub-zero, mul-assoc, mul-zero, mul-suc}
 use native.Mathlib.Numerals.{add-one}
@@ -13,6 +13,7 @@ use lib.ListN.{length, getD, drop, drop-of-length-le}
 use lib.Seq.{drop-cons, append-snoc}
 use Rattle.arith.specs.Lists.{sum, product, greatest, keep, range}
 use Rattle.arith.specs.Least.{least}
+use Rattle.arith.specs.laws.Members.{mem-keep, mem-range}
 use Rattle.arith.specs.laws.Least.{least-within}
 use Rattle.arith.specs.declared.Found.{Found}
 use Rattle.arith.specs.declared.Found.the-variants.{At, Nothing}
@@ -113,6 +114,10 @@ module _ (p : ℕ → Bool) where
       let (low, high, t) = least-within p e found in
       let end : n + (e - n) ≡ e = omega arith in
       rw end at (kept-at (e - n) n b found)
+
+  -- What it finds is one of all of them.
+  pub keep-found : (e n : ℕ) {b : ℕ} {found : Found} → found ≡ least p (e - n) n → found ≡ At b → Mem b (keep p (range 0 e))
+  keep-found e n {b} is at = let (low, high, t) = least-within p e (sym is ∙ at) in mem-keep p (mem-range 0 e b (omega arith) (omega arith)) t
 
   -- There are none where it finds none.
   pub keep-end : (e n : ℕ) → least p (e - n) n ≡ Nothing → keep p (range n (e - n)) ≡ []

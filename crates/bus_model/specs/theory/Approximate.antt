@@ -35,6 +35,13 @@ unfoldable pub greatestFound : {A : Type 0} → (A → Found) → List A → Fou
 greatestFound f [] = At 0
 greatestFound f (x ∷ xs) = both (f x) (greatestFound f xs)
 
+both-assoc : (p q r : Found) → both p (both q r) ≡ both (both p q) r
+unfolding both
+both-assoc (At a) (At b) (At c) = ap At (omega arith)
+both-assoc (At a) (At b) Nothing = refl
+both-assoc (At a) Nothing r = refl
+both-assoc Nothing q r = refl
+
 module _ {A : Type 0} (f : A → Found) where
   -- It is nothing where one is, and otherwise the greatest value.
   greatest-found : (xs : List A) → greatestFound f xs ≡ cond (exists (λ x. isNone (f x)) xs) Nothing (At (greatest (λ x. orZero (f x)) xs))
@@ -47,20 +54,16 @@ module _ {A : Type 0} (f : A → Found) where
       go (At a) false n = refl
       go Nothing b n = refl
 
-  -- One element more, which is found.
-  pub found-more : (done : ℕ) (a : A) (n : ℕ) {next : ℕ} → f a ≡ At n → next ≡ max done n → (xs : List A)
-      → both (At done) (greatestFound f (a ∷ xs)) ≡ both (At next) (greatestFound f xs)
-  unfolding greatestFound both
-  found-more done a n {next} here e xs = rw here (go (greatestFound f xs))
-    where
-      go : (r : Found) → both (At done) (both (At n) r) ≡ both (At next) r
-      go (At m) = ap At (omega arith)
-      go Nothing = refl
+  -- One element more.
+  pub found-more : (done : ℕ) (a : A) {next : Found} → next ≡ both (At done) (f a) → (xs : List A)
+      → both (At done) (greatestFound f (a ∷ xs)) ≡ both next (greatestFound f xs)
+  unfolding greatestFound
+  found-more done a e xs = both-assoc (At done) (f a) (greatestFound f xs) ∙ ap (λ (r : Found). both r (greatestFound f xs)) (sym e)
 
-  -- One that is missing, where a search may stop.
-  pub found-missing : (done : ℕ) (a : A) → f a ≡ Nothing → (xs : List A) → both (At done) (greatestFound f (a ∷ xs)) ≡ Nothing
-  unfolding greatestFound both
-  found-missing done a missing xs = rw missing
+-- What is missing stays so: a search may stop there.
+pub both-missing : (r : Found) → both Nothing r ≡ Nothing
+unfolding both
+both-missing r = refl
 
 -- A search starts with 0.
 pub both-zero : (r : Found) → both (At 0) r ≡ r

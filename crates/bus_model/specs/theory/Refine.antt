@@ -339,7 +339,7 @@ module _ {k : Frame} (valid : ValidFrame k) where
 -- ---- leaving out a branch
 
 -- What a fixed choice allows is that choice.
-allowed-fixed : (als : List ℕ) {a : ℕ} (c : Choice) → Allows als (Fixed a) c → c ≡ Fixed a
+pub allowed-fixed : (als : List ℕ) {a : ℕ} (c : Choice) → Allows als (Fixed a) c → c ≡ Fixed a
 unfolding Allows
 allowed-fixed als (Fixed b) e = ap Fixed (sym e)
 allowed-fixed als Any none = absurd none

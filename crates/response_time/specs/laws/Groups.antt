@@ -26,7 +26,7 @@ use Rattle.frame_table.specs.Frames.{frameAt, framesOf}
 use Rattle.frame_table.specs.Table.{Accepted}
 use Rattle.frame_table.specs.laws.Rows.{Folded, folded-none, folded-more}
 use Rattle.frame_table.specs.laws.Accepted.{length-frames, accepted-pattern}
-use Rattle.response_time.specs.Grouped.{FinePart, framesIn, isInstant, instantsIn, partOf, Grouped}
+use Rattle.response_time.specs.Grouped.{FinePart, framesIn, isInstant, instantsIn, BestChoice, partOf, Grouped}
 use Rattle.response_time.specs.laws.Fine.{member-fine, group-fine}
 
 -- ---- blocking
@@ -223,8 +223,18 @@ module _ {rows : List ℕ} {k : Frame} {members counts ends : List ℕ} (g : Gro
       ≡ least (isAlignment (framesOf rows) k j) (hyperperiod (ofNode (framesOf rows) j) - after) after
   lent-search node after = rw (node, lent-frames, lent-end)
 
+  -- The choice that is read is the node's.
+  lent-choice : (cs : List Choice) → length cs ≡ 16 → getD cs i (Fixed 0) ≡ choiceOf cs (i + 1)
+  lent-choice cs all = rw place (getD-within cs i (Fixed 0) Any (omega arith))
+
   -- They give the node's work.
   pub lent-work : (cs : List Choice) (n : ℕ) {r : ℕ} → length cs ≡ 16
       → r ≡ nodeWork (framesIn rows (lent members counts i)) (instantsIn (framesIn rows (lent members counts i)) (getD ends i 0)) (getD cs i (Fixed 0)) n
       → r ≡ nodeWork (ofNode (ahead (framesOf rows) k) (i + 1)) (alignments (framesOf rows) k (i + 1)) (choiceOf cs (i + 1)) n
-  lent-work cs n all e = rw place (rw (lent-alignments, lent-frames, getD-within cs i (Fixed 0) Any (omega arith)) at e)
+  lent-work cs n all e = rw (lent-alignments, lent-frames, lent-choice cs all) at e
+
+  -- What is the best choice for them is so for the node.
+  pub lent-best : (cs best : List Choice) (n : ℕ) → length cs ≡ 16 → length best ≡ 16
+      → BestChoice (framesIn rows (lent members counts i)) (instantsIn (framesIn rows (lent members counts i)) (getD ends i 0)) n (getD cs i (Fixed 0)) (getD best i (Fixed 0))
+      → BestChoice (ofNode (ahead (framesOf rows) k) (i + 1)) (alignments (framesOf rows) k (i + 1)) n (choiceOf cs (i + 1)) (choiceOf best (i + 1))
+  lent-best cs best n all whole b = rw (lent-alignments, lent-frames, lent-choice cs all, lent-choice best whole) at b

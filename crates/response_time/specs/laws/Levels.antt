@@ -14,10 +14,9 @@ use Rattle.arith.specs.declared.Found.{Found}
 use Rattle.arith.specs.declared.Found.the-variants.{At, Nothing}
 use Rattle.arith.specs.Lists.{product, greatest, range}
 use Rattle.arith.specs.Least.{least, orZero}
-use Rattle.arith.specs.laws.Members.{mem-keep, mem-range, of-range}
+use Rattle.arith.specs.laws.Members.{of-range}
 use Rattle.arith.specs.laws.Sums.{product-shift}
-use Rattle.arith.specs.laws.Least.{least-within}
-use Rattle.arith.specs.laws.Walks.{Walk, greatest-more, walk-more, walk-end}
+use Rattle.arith.specs.laws.Walks.{keep-found, Walk, greatest-more, walk-more, walk-end}
 use Rattle.bus_model.specs.declared.Frame.{Frame}
 use Rattle.bus_model.specs.declared.Choice.{Choice}
 use Rattle.bus_model.specs.declared.Choice.the-variants.{Fixed}
@@ -34,11 +33,12 @@ use Rattle.bus_model.specs.theory.Scenarios.{allows-self}
 use Rattle.bus_model.specs.theory.Judged.{has-windows}
 use Rattle.bus_model.specs.theory.Visits.{isAlignment, visit-first}
 use Rattle.bus_model.specs.theory.Refine.{refined, free, set-same, set-other, nodeAt, levels, node-first, node-apart, level-node, own-scenarios, precise-refined, refined-step, Level, level-start, level-more, pruned}
-use Rattle.bus_model.specs.theory.Approximate.{both, greatestFound, scenarioFound}
+use Rattle.bus_model.specs.theory.Approximate.{both, greatestFound, scenarioFound, found-at, found-counts}
 use Rattle.frame_table.specs.Frames.{framesOf}
 use Rattle.frame_table.specs.Table.{Accepted}
 use Rattle.frame_table.specs.laws.Accepted.{accepted-valid}
 use Rattle.response_time.specs.Grouped.{framesIn, instantsIn, Grouped, InTable}
+use Rattle.response_time.specs.Load.{WindowWithin}
 use Rattle.response_time.specs.laws.Groups.{lent, lent-alignments}
 
 -- ---- the number of scenarios
@@ -69,11 +69,16 @@ found-end f done = ap At (omega arith)
 -- ---- the greatest value over a node's alignments, as a loop finds it
 
 -- What a search among the alignments finds is one.
-found-listed : (fs : List Frame) (k : Frame) (j n : ℕ) {b : ℕ} → least (isAlignment fs k j) (hyperperiod (ofNode fs j) - n) n ≡ At b → Mem b (orEmpty (alignments fs k j))
+pub found-listed : (fs : List Frame) (k : Frame) (j n : ℕ) {b : ℕ} → least (isAlignment fs k j) (hyperperiod (ofNode fs j) - n) n ≡ At b → Mem b (orEmpty (alignments fs k j))
 unfolding alignments
-found-listed fs k j n {b} is =
-    let (low, high, t) = least-within (isAlignment fs k j) (hyperperiod (ofNode fs j)) is in
-    or-empty (mem-keep (isAlignment fs k j) (mem-range 0 (hyperperiod (ofNode fs j)) b (omega arith) (omega arith)) t)
+found-listed fs k j n is = or-empty (keep-found (isAlignment fs k j) (hyperperiod (ofNode fs j)) n refl is)
+
+-- So is the first, or the empty one.
+pub first-listed : {fs : List Frame} → Valid fs → (k : Frame) (j : ℕ) (first : Found) → first ≡ least (isAlignment fs k j) (hyperperiod (ofNode fs j) - 0) 0
+    → Mem (orZero first) (orEmpty (alignments fs k j))
+first-listed {fs} valid k j first is =
+    let w = visit-first {A = ℕ} (λ xs. xs) (λ done xs. xs) (orEmpty (alignments fs k j)) valid k j {done = 0} first is refl in
+    subst (Mem (orZero first)) (w .is) (here refl)
 
 -- The loop stands at a: `most` is the greatest of `from` and the values f of the alignments before a.
 pub record Best (fs : List Frame) (k : Frame) (j : ℕ) (f : ℕ → ℕ) (from most a : ℕ) : Type 0 where
@@ -92,9 +97,7 @@ module _ (fs : List Frame) (k : Frame) (j : ℕ) (f : ℕ → ℕ) where
 
   -- It starts at the first.
   pub best-first : Valid fs → {from a : ℕ} (first : Found) → first ≡ least passes (end - 0) 0 → a ≡ orZero first → Best fs k j f from from a
-  best-first valid {from} first is at =
-      let w = visit-first {A = ℕ} (λ xs. xs) (λ done xs. xs) (orEmpty (alignments fs k j)) valid k j {done = 0} first is refl in
-      rw at (record { walk = visit-first (greatest f) max (goal from) valid k j first is refl; listed = subst (Mem (orZero first)) (w .is) (here refl) })
+  best-first valid {from} first is at = rw at (record { walk = visit-first (greatest f) max (goal from) valid k j first is refl; listed = first-listed valid k j first is })
 
   module _ {from most next a : ℕ} (best : Best fs k j f from most a) (more : next ≡ max most (f a)) where
     -- It goes on to the next.
@@ -105,6 +108,19 @@ module _ (fs : List Frame) (k : Frame) (j : ℕ) (f : ℕ → ℕ) where
     pub best-end : least passes (end - (a + 1)) (a + 1) ≡ Nothing → next ≡ max from (greatest f (orEmpty (alignments fs k j)))
     unfolding greatest
     best-end none = let ended = walk-end (greatest f) max passes end (goal from) (best .walk) (greatest-more f most a more) none in omega arith
+
+-- ---- one scenario
+
+module _ {fs : List Frame} {k : Frame} {cs : List Choice} {limit : ℕ} where
+  -- The limit as a search that may find none has it.
+  pub at-within : (limit ≤ 1000000) × WindowWithin fs k cs limit → (l : ℕ) → At limit ≡ At l → (l ≤ 1000000) × WindowWithin fs k cs l
+  unfolding orZero
+  at-within has l e = subst (λ (m : ℕ). (m ≤ 1000000) × WindowWithin fs k cs m) (ap orZero e) has
+
+  -- Its response counts, where it has a window.
+  pub raised-counts : WindowWithin fs k cs limit → (most : ℕ) → orZero (both (At most) (scenarioFound fs k cs)) ≡ max most (scenarioResponse fs k cs)
+  unfolding both orZero
+  raised-counts w most = let found = found-at fs k cs (w .window) (w .is) in rw (found, sym (found-counts fs k cs) ∙ ap orZero found)
 
 -- ---- one level on
 
@@ -117,9 +133,9 @@ pub next-levels : (fs : List Frame) (k : Frame) (cs : List Choice) {i j : ℕ} �
     → greatest (nextLevel fs k cs i j) (orEmpty (alignments fs k j)) ≡ refined fs k (levels k i nodes) cs
 next-levels fs k cs {i} at less = rw at (sym (refined-step fs k cs i nodes less))
 
--- A search has come to level i with the choices cs: k's own node has alignment own, and there is a window.
-abbrev pub Reached : List Frame → Frame → ℕ → ℕ → List Choice → Type 0
-Reached fs k i own cs = (choiceOf cs (k .node) ≡ Fixed own) × Level k i cs × ((l : ℕ) × (busyWindow fs k cs ≡ At l))
+-- A search has come to level i with the choices cs: k's own node has alignment own, and there is a window within the limit.
+abbrev pub Reached : List Frame → Frame → ℕ → ℕ → ℕ → List Choice → Type 0
+Reached fs k i own limit cs = (choiceOf cs (k .node) ≡ Fixed own) × Level k i cs × WindowWithin fs k cs limit
 
 module _ {fs : List Frame} (valid : Valid fs) {n : ℕ} (inside : n < length fs) where
   abbrev f : Frame
@@ -137,23 +153,35 @@ module _ {fs : List Frame} (valid : Valid fs) {n : ℕ} (inside : n < length fs)
         | no other ↦ rw (set-other cs (level-node f self i less) a l other) (allows-self (alignments fs f j) (choiceOf cs j))
       ]
 
-  row-first : lacksWindow fs f ≡ false → {a : ℕ} → Mem a (orEmpty (alignments fs f (f .node))) → {cs : List Choice} → cs ≡ set free (f .node - 1) (Fixed a) → Reached fs f 1 a cs
-  row-first has {a} m e =
+  -- A window stays within the limit where the scenario is refined.
+  within-refined : {cs cs′ : List Choice} → RefinedBy fs f cs cs′ → {limit : ℕ} → WindowWithin fs f cs limit → WindowWithin fs f cs′ limit
+  within-refined {cs} {cs′} refines w =
+      let (l, is, le) = window-refine valid inside cs cs′ refines (w .window) (w .is) in
+      record { window = l; is = is; within = omega (arith, w .within) }
+
+  row-free : {a : ℕ} → Mem a (orEmpty (alignments fs f (f .node))) → {l : ℕ} → busyWindow fs f free ≡ At l → {cs : List Choice} → cs ≡ set free (f .node - 1) (Fixed a) → WindowWithin fs f cs l
+  row-free {a} m {l} is e =
+      rw e (within-refined (rw (node-first f) at (finer (level-start self) (omega arith) (rw (← node-first f) at m))) (record { window = l; is = is; within = omega arith }))
+
+  row-first : lacksWindow fs f ≡ false → {a : ℕ} → Mem a (orEmpty (alignments fs f (f .node))) → {cs : List Choice} → cs ≡ set free (f .node - 1) (Fixed a)
+      → {limit : ℕ} → limit ≡ orZero (busyWindow fs f cs) → Reached fs f 1 a limit cs
+  unfolding orZero
+  row-first has {a} m e {limit} is =
+      let (l, window) = has-windows fs f (λ t. subst T has t) _ (own-scenarios fs self .1 (a, m, refl)) in
+      let long : limit ≡ l = rw (e, window) at is in
       rw e (
         set-same free (node-listed self) a refl,
         level-more self (level-start self) (omega arith) (f .node) a (sym (node-first f)),
-        has-windows fs f (λ t. subst T has t) _ (own-scenarios fs self .1 (a, m, refl)),
+        record { window = l; is = window; within = omega arith },
       )
 
-  row-next : {i own : ℕ} {cs : List Choice} → Reached fs f i own cs → 1 ≤ i → i < nodes → {j : ℕ} → j ≡ nodeAt f i → {a : ℕ} → Mem a (orEmpty (alignments fs f j))
-      → {cs′ : List Choice} → cs′ ≡ set cs (j - 1) (Fixed a) → Reached fs f (i + 1) own cs′
-  row-next {i} {own} {cs} (fixed, level, (l, window)) some less {j} at {a} m e =
-      let m′ : Mem a (orEmpty (alignments fs f (nodeAt f i))) = rw at at m in
-      let (l′, window′, le) = window-refine valid inside cs (set cs (nodeAt f i - 1) (Fixed a)) (finer level less m′) l window in
+  row-next : {i own limit : ℕ} {cs : List Choice} → Reached fs f i own limit cs → 1 ≤ i → i < nodes → {j : ℕ} → j ≡ nodeAt f i → {a : ℕ} → Mem a (orEmpty (alignments fs f j))
+      → {cs′ : List Choice} → cs′ ≡ set cs (j - 1) (Fixed a) → Reached fs f (i + 1) own limit cs′
+  row-next {i} {cs = cs} (fixed, level, within) some less {j} at {a} m e =
       rw (e, at) (
         set-other cs (level-node f self i less) a (node-listed self) (λ same. node-apart f 0 i some (node-first f ∙ same)) ∙ fixed,
         level-more self level less (nodeAt f i) a refl,
-        (l′, window′),
+        within-refined (finer level less (rw at at m)) within,
       )
 
 module _ {rows : List ℕ} (accepted : Accepted rows) {k : Frame} (table : InTable rows k) where
@@ -167,19 +195,24 @@ module _ {rows : List ℕ} (accepted : Accepted rows) {k : Frame} (table : InTab
   pub own-node : (1 ≤ k .node) × (k .node ≤ 16)
   own-node = reached-node (sym (node-first k)) (lit< tt)
 
+  -- Where the scenario with no node fixed has a window, it is not exceeded where k's own is.
+  pub free-within : {a : ℕ} → Mem a (orEmpty (alignments (framesOf rows) k (k .node))) → {l : ℕ} → busyWindow (framesOf rows) k free ≡ At l
+      → {cs : List Choice} → cs ≡ set free (k .node - 1) (Fixed a) → WindowWithin (framesOf rows) k cs l
+  free-within = rw (table .is) (row-free (accepted-valid rows accepted) (table .inside))
+
   -- The search starts with an alignment of k's own node, if none of these lacks a window.
   pub reached-first : lacksWindow (framesOf rows) k ≡ false → {a : ℕ} → Mem a (orEmpty (alignments (framesOf rows) k (k .node)))
-      → {cs : List Choice} → cs ≡ set free (k .node - 1) (Fixed a) → Reached (framesOf rows) k 1 a cs
+      → {cs : List Choice} → cs ≡ set free (k .node - 1) (Fixed a) → {limit : ℕ} → limit ≡ orZero (busyWindow (framesOf rows) k cs) → Reached (framesOf rows) k 1 a limit cs
   reached-first = rw (table .is) (row-first (accepted-valid rows accepted) (table .inside))
 
   -- It goes on with an alignment of the level's node.
-  pub reached-next : {i own : ℕ} {cs : List Choice} → Reached (framesOf rows) k i own cs → 1 ≤ i → i < nodes → {j : ℕ} → j ≡ nodeAt k i
-      → {a : ℕ} → Mem a (orEmpty (alignments (framesOf rows) k j)) → {cs′ : List Choice} → cs′ ≡ set cs (j - 1) (Fixed a) → Reached (framesOf rows) k (i + 1) own cs′
+  pub reached-next : {i own limit : ℕ} {cs : List Choice} → Reached (framesOf rows) k i own limit cs → 1 ≤ i → i < nodes → {j : ℕ} → j ≡ nodeAt k i
+      → {a : ℕ} → Mem a (orEmpty (alignments (framesOf rows) k j)) → {cs′ : List Choice} → cs′ ≡ set cs (j - 1) (Fixed a) → Reached (framesOf rows) k (i + 1) own limit cs′
   reached-next = rw (table .is) (row-next (accepted-valid rows accepted) (table .inside))
 
   -- No scenario further on has a greater response.
-  pub reached-most : {i own : ℕ} {cs : List Choice} → Reached (framesOf rows) k i own cs → 1 ≤ i → refined (framesOf rows) k (levels k i nodes) cs ≤ scenarioResponse (framesOf rows) k cs
-  reached-most {i} {own} {cs} = rw (table .is) (λ (fixed, level, (l, window)) some. pruned (accepted-valid rows accepted) (table .inside) level some nodes (le-refl nodes) l window)
+  pub reached-most : {i own limit : ℕ} {cs : List Choice} → Reached (framesOf rows) k i own limit cs → 1 ≤ i → refined (framesOf rows) k (levels k i nodes) cs ≤ scenarioResponse (framesOf rows) k cs
+  reached-most = rw (table .is) (λ (fixed, level, w) some. pruned (accepted-valid rows accepted) (table .inside) level some nodes (le-refl nodes) (w .window) (w .is))
 
   -- From the first level on it finds the precise bound.
   pub precise-levels : {most : ℕ} → most ≡ max 0 (greatest (nextLevel (framesOf rows) k free 0 (k .node)) (orEmpty (alignments (framesOf rows) k (k .node)))) → most ≡ preciseBound (framesOf rows) k

@@ -1,9 +1,9 @@
 -- The two searches of a scenario, as one loop computes them: the load of a number, what the loop may pass over,
 -- the busy window, and the instances of a window one after the other.
 use Prim.Native.Nat.{ℕ, suc, _+_, _-_, _*_, _≤_, _<_, max}
-use mathlib.Core.Path.{_≡_, sym, ap, subst, _∙_}
+use mathlib.Core.Path.{_≡_, refl, sym, ap, subst, _∙_}
 use mathlib.Core.List.{List}
-use mathlib.Core.Bool.{Bool, true, false}
+use mathlib.Core.Bool.{Bool, true, false, cond}
 use native.Mathlib.Omega.{arith}
 use native.Mathlib.Numerals.{add-one}
 use lib.Dec.{T, leb→le, le→leb}
@@ -13,19 +13,20 @@ use Rattle.arith.specs.Least.{least, orZero}
 use Rattle.arith.specs.Releases.{releasesBefore}
 use Rattle.arith.specs.laws.Walks.{CountUp, count-start, count-more, count-end, greatest-more}
 use Rattle.arith.specs.laws.Releases.{counted}
-use Rattle.arith.specs.laws.Least.{least-le, least-here, least-none, least-skip}
+use Rattle.arith.specs.laws.Least.{least-le, least-within, least-here, least-none, least-skip, least-from, least-neither}
 use Rattle.arith.specs.declared.Found.{Found}
 use Rattle.arith.specs.declared.Found.the-variants.{At, Nothing}
 use Rattle.bus_model.specs.declared.Frame.{Frame}
 use Rattle.bus_model.specs.declared.Choice.{Choice}
 use Rattle.bus_model.specs.declared.Choice.the-variants.{Fixed}
 use Rattle.bus_model.specs.Frame.{row}
-use Rattle.bus_model.specs.Valid.{Valid}
-use Rattle.bus_model.specs.Bounds.{windowLimit, ahead, better, blocking, distance, choiceOf, demand, work, windowLoad, busyWindow, delayLoad, queueingDelay, ownDistance, instanceResponse, responseTime}
-use Rattle.bus_model.specs.theory.Frames.{better-ahead}
-use Rattle.bus_model.specs.theory.Work.{work-mono, work-own}
-use Rattle.bus_model.specs.theory.Response.{window-at, own-distance, delay-at, delay-within}
+use Rattle.bus_model.specs.Valid.{ValidFrame, Valid}
+use Rattle.bus_model.specs.Bounds.{windowLimit, ahead, better, blocking, alignments, distance, choiceOf, demand, work, windowLoad, busyWindow, delayLoad, queueingDelay, ownDistance, instanceResponse, responseTime}
+use Rattle.bus_model.specs.theory.Frames.{node-listed, better-ahead}
+use Rattle.bus_model.specs.theory.Work.{RefinedBy, work-mono, work-refine, work-own}
+use Rattle.bus_model.specs.theory.Response.{window-at, window-least, own-distance, delay-at, delay-within}
 use Rattle.bus_model.specs.theory.Iteration.{delay-next}
+use Rattle.bus_model.specs.theory.Refine.{allowed-fixed}
 use Rattle.frame_table.specs.Frames.{framesOf}
 use Rattle.frame_table.specs.Table.{Accepted}
 use Rattle.frame_table.specs.laws.Accepted.{accepted-valid}
@@ -46,9 +47,9 @@ module _ {fs : List Frame} (valid : Valid fs) (k : Frame) (cs : List Choice) whe
 
   module _ (delay : Bool) (base e x : ℕ) {needed : ℕ} (is : needed ≡ loadOf fs k cs delay base x) where
     -- It stops at a number that holds its load.
-    pub settle-here : x < e → needed ≤ x → At x ≡ least (holds fs k cs delay base) (e - x) x
+    pub climb-here : x < e → needed ≤ x → At x ≡ least (holds fs k cs delay base) (e - x) x
     unfolding holds
-    settle-here inside fits = sym (least-here _ e x inside (le→leb _ x (rw is at fits)))
+    climb-here inside fits = sym (least-here _ e x inside (le→leb _ x (rw is at fits)))
 
     -- Nothing below its load holds its own.
     passed-over : (y : ℕ) → x ≤ y → y < needed → ¬ T (holds fs k cs delay base y)
@@ -56,12 +57,35 @@ module _ {fs : List Frame} (valid : Valid fs) (k : Frame) (cs : List Choice) whe
     passed-over y le less t = omega (arith, load-mono delay base le, leb→le _ y t)
 
     -- So the search goes on at the load,
-    pub settle-skip : x < needed → needed ≤ e → least (holds fs k cs delay base) (e - x) x ≡ least (holds fs k cs delay base) (e - needed) needed
-    settle-skip more inside = least-skip _ e x needed (omega arith) inside passed-over
+    pub climb-skip : x < needed → needed ≤ e → least (holds fs k cs delay base) (e - x) x ≡ least (holds fs k cs delay base) (e - needed) needed
+    climb-skip more inside = least-skip _ e x needed (omega arith) inside passed-over
 
     -- and finds nothing where that is beyond its end.
-    pub settle-beyond : e ≤ needed → Nothing ≡ least (holds fs k cs delay base) (e - x) x
-    settle-beyond over = sym (least-none _ (e - x) x (λ y le less. passed-over y le (omega arith)))
+    pub climb-beyond : e ≤ needed → Nothing ≡ least (holds fs k cs delay base) (e - x) x
+    climb-beyond over = sym (least-none _ (e - x) x (λ y le less. passed-over y le (omega arith)))
+
+-- ---- the search by a scenario that refines the one at hand
+
+module _ {fs : List Frame} (valid : Valid fs) (k : Frame) (cs cs′ : List Choice) (finer : RefinedBy fs k cs cs′) where
+  -- That has no greater load.
+  load-finer : (delay : Bool) (base x : ℕ) → loadOf fs k cs′ delay base x ≤ loadOf fs k cs delay base x
+  unfolding loadOf
+  load-finer true base x = omega (arith, work-refine valid k (better-ahead fs k) cs cs′ finer (suc x))
+  load-finer false base x = omega (arith, work-refine valid k (λ g m. m) cs cs′ finer x)
+
+  module _ (delay : Bool) (base e x : ℕ) {found : Found} (is : found ≡ least (holds fs k cs′ delay base) (e - x) x) where
+    -- What holds its load holds it there.
+    holds-finer : (y : ℕ) → T (holds fs k cs delay base y) → T (holds fs k cs′ delay base y)
+    unfolding holds
+    holds-finer y t = le→leb _ y (omega (arith, load-finer delay base y, leb→le _ y t))
+
+    -- So the search goes on at what is found there,
+    pub settle-skip : {y : ℕ} → found ≡ At y → least (holds fs k cs delay base) (e - x) x ≡ least (holds fs k cs delay base) (e - y) y
+    settle-skip {y} at = least-from _ _ e holds-finer x y (sym is ∙ at)
+
+    -- and finds nothing where nothing is found there.
+    pub settle-beyond : found ≡ Nothing → Nothing ≡ least (holds fs k cs delay base) (e - x) x
+    settle-beyond none = sym (least-neither _ _ e holds-finer x (sym is ∙ none))
 
 -- ---- the busy window
 
@@ -76,6 +100,19 @@ module _ (fs : List Frame) (k : Frame) (cs : List Choice) where
   pub window-small : {l : ℕ} → busyWindow fs k cs ≡ At l → l ≤ 1000000
   unfolding windowLimit
   window-small {l} e = window-at fs k cs l e .1
+
+  pub window-zero : {l : ℕ} → l ≡ orZero (busyWindow fs k cs) → l ≤ 1000000
+  unfolding orZero
+  window-zero {l} e = go (busyWindow fs k cs) refl
+    where
+      go : (r : Found) → busyWindow fs k cs ≡ r → l ≤ 1000000
+      go (At m) is = let same : l ≡ m = rw is at e in omega (arith, window-small is)
+      go Nothing is = let none : l ≡ 0 = rw is at e in omega arith
+
+  -- It is not longer than a length that holds its load.
+  pub window-held : {blocked l x : ℕ} → blocked ≡ blocking fs k → busyWindow fs k cs ≡ At l → 1 ≤ x → T (holds fs k cs false blocked x) → l ≤ x
+  unfolding holds loadOf windowLoad
+  window-held {l = l} {x} blocks e low t = window-least fs k cs l x e low (leb→le _ x (rw blocks at t))
 
   -- ---- the queueing delay of instance q
 
@@ -111,6 +148,32 @@ module _ {fs : List Frame} (valid : Valid fs) {k : Frame} {at : ℕ} (inside : a
       subst (λ (f : Frame). choiceOf cs (f .node) ≡ Fixed own → busyWindow fs f cs ≡ At l
       → (q : ℕ) → distance f own + q * f .period < l → (w : ℕ) × (queueingDelay fs f cs q ≡ At w) × (w + f .length ≤ l))
       (sym is) (λ f. delay-within valid inside cs own f l) fixed window
+
+-- ---- a scenario that refines that one
+
+module _ {fs : List Frame} (valid : Valid fs) {k : Frame} {at : ℕ} (inside : at < length fs) (is : k ≡ row fs at) (cs cs′ : List Choice) (finer : RefinedBy fs k cs cs′) (own : ℕ) where
+  -- It fixes the same alignment of k's own node.
+  pub own-finer : choiceOf cs (k .node) ≡ Fixed own → choiceOf cs′ (k .node) ≡ Fixed own
+  own-finer fixed =
+      allowed-fixed (alignments fs k (k .node)) (choiceOf cs′ (k .node)) (rw fixed at (finer (k .node) (node-listed (subst ValidFrame (sym is) (valid .frame at inside)))))
+
+  -- Where it has the same work, it has the same load.
+  load-same : (delay : Bool) (base x : ℕ) → (T delay → choiceOf cs (k .node) ≡ Fixed own)
+      → work fs k (ahead fs k) cs′ (cond delay (x + 1) x) ≡ work fs k (ahead fs k) cs (cond delay (x + 1) x) → loadOf fs k cs′ delay base x ≡ loadOf fs k cs delay base x
+  unfolding loadOf
+  load-same true base x fixed same =
+      let f = fixed tt in
+      rw (← add-one x) (omega (arith, same, own-part valid inside is cs own f (x + 1), own-part valid inside is cs′ own (own-finer f) (x + 1)))
+  load-same false base x fixed same = ap (λ (w : ℕ). base + w) same
+
+  -- So where its search stops at x, the search at hand does.
+  pub settle-here : (delay : Bool) (base e x : ℕ) {n : ℕ} → (T delay → choiceOf cs (k .node) ≡ Fixed own) → n ≡ cond delay (x + 1) x
+      → work fs k (ahead fs k) cs′ n ≡ work fs k (ahead fs k) cs n
+      → {found : Found} {y : ℕ} → found ≡ least (holds fs k cs′ delay base) (e - x) x → found ≡ At y → y ≡ x → At x ≡ least (holds fs k cs delay base) (e - x) x
+  unfolding holds
+  settle-here delay base e x fixed ticks same search at here =
+      let (low, high, t) = least-within _ e (sym search ∙ at) in
+      sym (least-here _ e x (omega arith) (rw (here, load-same delay base x fixed (rw ticks at same)) at t))
 
 -- ---- the instances released in a busy window
 

@@ -11,17 +11,11 @@ use Rattle.certifier.proofs.rows.bound_frame.Tie as tie
 frame-blocking-requires : tie.Need-frame-blocking-requires
 frame-blocking-requires c κs = search needs
 
-approximate-requires : tie.Need-approximate-requires
-approximate-requires c κs = search needs
-
 enum-told : tie.Need-enum-told
 enum-told c = search needs
 
 enum-told-2 : tie.Need-enum-told-2
 enum-told-2 c = search needs
-
-abbrev start : tie.After-approximate → tie.Start
-start c = c .before .before .before .before .before .before
 
 inside : (c : tie.Start) → InTable (c .args .rows .now) (c .args .k)
 inside c = record { at = c .args .i; inside = c .pre .1 .1 .0; is = c .pre .1 .1 .1 }
@@ -29,41 +23,59 @@ inside c = record { at = c .args .i; inside = c .pre .1 .1 .0; is = c .pre .1 .1
 small : (c : tie.Start) → c .args .i < 64
 small c = let place = claim-inside (c .args .rows .now) (c .pre .0) (c .pre .1 .1 .0) in omega (arith, place .0)
 
--- what is found
-rough : (c : tie.After-enum-told) → Approximated (framesOf (start (c .before .before) .args .rows .now)) (start (c .before .before) .args .k) (c .enum-told .given .0 .0)
-rough c =
-    let s = start (c .before .before) in
-    found-bound (s .pre .0) (inside s) (c .before .before .approximate .ensures) (c .enum-told .given .1)
+approximate-requires : tie.Need-approximate-requires
+approximate-requires c κs =
+    let s = c .before .before .before .before .before .before .before in
+    (s .pre .0, (s .pre .1 .0, (inside s, c .before .frame-blocking .ensures .0)))
 
-cast-t11 : tie.Need-cast-t11
-cast-t11 c = record { fits = omega (arith, small (start (c .before .before))) }
+abbrev start : tie.After-approximate → tie.Start
+start c = c .before .before .before .before .before .before .before .before
+
+-- what is found
+rough : (c : tie.After-enum-told) → let s = start (c .before .before .before .before) in Approximated (framesOf (s .args .rows .now)) (s .args .k) (c .enum-told .given .0 .0)
+rough c =
+    let a = c .before .before .before .before in
+    let s = start a in
+    found-bound (s .pre .0) (inside s) (a .approximate .ensures) (c .enum-told .given .1)
+
+cast-t14 : tie.Need-cast-t14
+cast-t14 c = record { fits = omega (arith, small (c .before .before .before .before .before .before .before .before .before .before .before .before)) }
+
+same-length : tie.Need-same-length
+same-length c = search needs
 
 returns : tie.Need-returns
 returns c =
-    let s = start (c .before .before) in
-    bound-none (framesOf (s .args .rows .now)) (s .args .i) (s .pre .1 .1 .1) (found-none (s .pre .0) (inside s) (c .before .before .approximate .ensures) (c .enum-told2 .given .1))
+    let a = c .before .before .before .before in
+    let s = start a in
+    bound-none (framesOf (s .args .rows .now)) (s .args .i) (s .pre .1 .1 .1) (found-none (s .pre .0) (inside s) (a .approximate .ensures) (c .enum-told2 .given .1))
 
 scenario-count-requires : tie.Need-scenario-count-requires
 scenario-count-requires c κs = search needs
 
-cast-t15 : tie.Need-cast-t15
-cast-t15 c = record { fits = omega (arith, small (start (c .before .before .before .before))) }
+cast-t18 : tie.Need-cast-t18
+cast-t18 c = record { fits = omega (arith, small (c .before .before .before .before .before .before .before .before .before .before .before .before .before .before)) }
+
+same-length-2 : tie.Need-same-length-2
+same-length-2 c = search needs
 
 returns-2 : tie.Need-returns-2
 returns-2 c =
-    let s = start (c .before .before .before .before) in
+    let s = c .before .before .before .before .before .before .before .before .before .before .before .before .before .before in
     bound-undecided (framesOf (s .args .rows .now)) (s .args .i) (s .pre .1 .1 .1) (rough (c .before .before)) (c .before .scenario-count .ensures) (c .if1 .taken)
 
 precise-requires : tie.Need-precise-requires
 precise-requires c κs =
-    let found = c .before .before in
-    let s = start (found .before .before) in
-    (s .pre .0, (s .pre .1 .0, (inside s, (found .before .before .before .frame-blocking .ensures .0, rough found .windows))))
+    let s = c .before .before .before .before .before .before .before .before .before .before .before .before .before .before .before in
+    (s .pre .0, (s .pre .1 .0, (inside s, (c .before .before .before .before .before .before .before .before .before .frame-blocking .ensures .0, rough (c .before .before .before) .windows))))
+
+same-length-3 : tie.Need-same-length-3
+same-length-3 c = search needs
 
 returns-3 : tie.Need-returns-3
 returns-3 c =
-    let s = start (c .before .before .before .before .before) in
-    bound-precise (framesOf (s .args .rows .now)) (s .args .i) (s .pre .1 .1 .1) (rough (c .before .before .before)) (c .before .before .scenario-count .ensures) (c .before .if1 .left) (c .precise .ensures)
+    let s = c .before .before .before .before .before .before .before .before .before .before .before .before .before .before .before .before .before .before in
+    bound-precise (framesOf (s .args .rows .now)) (s .args .i) (s .pre .1 .1 .1) (rough (c .before .before .before .before .before .before)) (c .before .before .before .before .before .scenario-count .ensures) (c .before .before .before .before .if1 .left) (c .before .before .precise .ensures)
 
 pub bound-frame-spec : {M : Type 1} → statement M
 bound-frame-spec =
@@ -73,10 +85,13 @@ bound-frame-spec =
     approximate-requires
     enum-told
     enum-told-2
-    cast-t11
+    cast-t14
+    same-length
     returns
     scenario-count-requires
-    cast-t15
+    cast-t18
+    same-length-2
     returns-2
     precise-requires
+    same-length-3
     returns-3)

@@ -19,26 +19,32 @@ enum-told : tie.Need-enum-told
 enum-told c = search needs
 
 abbrev start : tie.After-approximate → tie.Start
-start c = c .before .before .before .before .before .before
+start c = c .before .before .before .before .before .before .before .before
+
+same-length : tie.Need-same-length
+same-length c = search needs
 
 returns : tie.Need-returns
 returns c =
-    let s = start (c .before .before) in
-    judge-none (framesOf (s .args .rows .now)) (s .args .k) (s .args .claim)
-    (found-none (s .pre .0) (s .pre .1 .1) (c .before .before .approximate .ensures) (c .enum-told .given .1))
+    let a = c .before .before .before .before in
+    let s = start a in
+    judge-none (framesOf (s .args .rows .now)) (s .args .k) (s .args .claim) (found-none (s .pre .0) (s .pre .1 .1) (a .approximate .ensures) (c .enum-told .given .1))
 
 -- what is found
-rough : (c : tie.After-known-told) → Approximated (framesOf (start (c .before .before .before) .args .rows .now)) (start (c .before .before .before) .args .k) (c .before .found .given .0 .0)
+rough : (c : tie.After-known-told) → let s = start (c .before .before .before .before .before) in Approximated (framesOf (s .args .rows .now)) (s .args .k) (c .before .found .given .0 .0)
 rough c =
-    let given = start (c .before .before .before) .pre in
-    found-bound (given .0) (given .1 .1) (c .before .before .before .approximate .ensures) (c .before .found .given .1)
+    let a = c .before .before .before .before .before in
+    let given = start a .pre in
+    found-bound (given .0) (given .1 .1) (a .approximate .ensures) (c .before .found .given .1)
 
 judged-requires : tie.Need-judged-requires
 judged-requires c κs = search needs
 
+same-length-2 : tie.Need-same-length-2
+same-length-2 c = search needs
+
 returns-2 : tie.Need-returns-2
-returns-2 c =
-    c .judged .ensures ∙ judge-approximate (rough (c .before .before)) (c .before .if1 .taken)
+returns-2 c = c .judged .ensures ∙ judge-approximate (rough (c .before .before)) (c .before .if1 .taken)
 
 scenario-count-requires : tie.Need-scenario-count-requires
 scenario-count-requires c κs = search needs
@@ -46,16 +52,16 @@ scenario-count-requires c κs = search needs
 judged-requires-2 : tie.Need-judged-requires-2
 judged-requires-2 c κs = search needs
 
+same-length-3 : tie.Need-same-length-3
+same-length-3 c = search needs
+
 returns-3 : tie.Need-returns-3
-returns-3 c =
-    let counted = c .before .before in
-    c .judged2 .ensures ∙ judge-undecided (rough (counted .before .before)) (counted .before .if1 .left) (counted .scenario-count .ensures) (c .before .if2 .taken)
+returns-3 c = c .judged2 .ensures ∙ judge-undecided (rough (c .before .before .before .before)) (c .before .before .before .if1 .left) (c .before .before .scenario-count .ensures) (c .before .if2 .taken)
 
 precise-requires : tie.Need-precise-requires
 precise-requires c κs =
-    let found = c .before .before .before in
-    let s = start (found .before .before .before) in
-    (s .pre .0, (s .pre .1 .0, (s .pre .1 .1, (found .before .before .before .before .frame-blocking .ensures .0, rough found .windows))))
+    let p = c .before .before .before .before .before .before .before .before .before .before .before .before .before .before .before .before .before .pre in
+    (p .0, (p .1 .0, (p .1 .1, (c .before .before .before .before .before .before .before .before .before .before .before .frame-blocking .ensures .0, rough (c .before .before .before .before) .windows))))
 
 judged-requires-3 : tie.Need-judged-requires-3
 judged-requires-3 c κs = search needs
@@ -63,17 +69,19 @@ judged-requires-3 c κs = search needs
 judged-requires-4 : tie.Need-judged-requires-4
 judged-requires-4 c κs = search needs
 
+same-length-4 : tie.Need-same-length-4
+same-length-4 c = search needs
+
 returns-4 : tie.Need-returns-4
 returns-4 c =
-    let bounded = c .before .before in
-    let counted = bounded .before .before in
-    c .judged3 .ensures ∙ judge-precise (rough (counted .before .before)) (counted .before .if1 .left) (counted .scenario-count .ensures) (bounded .before .if2 .left) (bounded .precise .ensures) (c .before .if3 .taken)
+    c .judged3 .ensures ∙ judge-precise (rough (c .before .before .before .before .before .before .before .before .before)) (c .before .before .before .before .before .before .before .before .if1 .left) (c .before .before .before .before .before .before .before .scenario-count .ensures) (c .before .before .before .before .before .before .if2 .left) (c .before .before .before .before .precise .ensures) (c .before .if3 .taken)
+
+same-length-5 : tie.Need-same-length-5
+same-length-5 c = search needs
 
 returns-5 : tie.Need-returns-5
 returns-5 c =
-    let bounded = c .before .before in
-    let counted = bounded .before .before in
-    c .judged4 .ensures ∙ judge-small (rough (counted .before .before)) (counted .before .if1 .left) (counted .scenario-count .ensures) (bounded .before .if2 .left) (bounded .precise .ensures) (c .before .if3 .left)
+    c .judged4 .ensures ∙ judge-small (rough (c .before .before .before .before .before .before .before .before .before)) (c .before .before .before .before .before .before .before .before .if1 .left) (c .before .before .before .before .before .before .before .scenario-count .ensures) (c .before .before .before .before .before .before .if2 .left) (c .before .before .before .before .precise .ensures) (c .before .if3 .left)
 
 pub judge-frame-spec : {M : Type 1} → statement M
 judge-frame-spec =
@@ -83,14 +91,19 @@ judge-frame-spec =
     approximate-requires
     enum-known-found
     enum-told
+    same-length
     returns
     judged-requires
+    same-length-2
     returns-2
     scenario-count-requires
     judged-requires-2
+    same-length-3
     returns-3
     precise-requires
     judged-requires-3
     judged-requires-4
+    same-length-4
     returns-4
+    same-length-5
     returns-5)

@@ -50,14 +50,16 @@ slice-aggregate-judge-frame-2 c = search needs
 slice-aggregate-judge-frame-3 : tie.Need-slice-aggregate-judge-frame-3
 slice-aggregate-judge-frame-3 c = search needs
 
+slice-aggregate-judge-frame-4 : tie.Need-slice-aggregate-judge-frame-4
+slice-aggregate-judge-frame-4 c = search needs
+
 judge-frame-requires : tie.Need-judge-frame-requires
 judge-frame-requires c κs = search needs
 
 returns : tie.Need-returns
 returns c =
-    let s = c .before .before .before .before .before .before .before .before .before .before .before .before .before .before in
-    c .judge-frame .ensures
-    ∙ ap (λ k. judge (framesOf (s .args .rows .now)) k (claimOf (s .args .rows .now) (s .args .i))) (c .before .before .before .before .before .before .before .before .before .before .before .before .frame .ensures)
+    let s = c .before .before .before .before .before .before .before .before .before .before .before .before .before .before .before .before in
+    c .before .judge-frame .ensures ∙ ap (λ k. judge (framesOf (s .args .rows .now)) k (claimOf (s .args .rows .now) (s .args .i))) (c .before .before .before .before .before .before .before .before .before .before .before .before .before .before .frame .ensures)
 
 pub judge-row-spec : {M : Type 1} → statement M
 judge-row-spec =
@@ -75,5 +77,6 @@ judge-row-spec =
     slice-aggregate-judge-frame
     slice-aggregate-judge-frame-2
     slice-aggregate-judge-frame-3
+    slice-aggregate-judge-frame-4
     judge-frame-requires
     returns)

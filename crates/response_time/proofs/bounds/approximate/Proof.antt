@@ -1,28 +1,33 @@
--- `response_time::bounds::approximate` meets its contract: the invariant has the greatest response over the alignments of k's node that are visited; what is left and it make the bound. Assumes nothing.
+-- The loop has the greatest response over the alignments of k's node that are visited; what is left and it make the bound.
 use Prim.Native.Nat.{_-_, _≤_}
-use mathlib.Core.Path.{refl, sym, _∙_}
+use mathlib.Core.Path.{_≡_, refl, sym, _∙_}
+use mathlib.Core.List.{List·Memᴰ as Mem}
 use native.Mathlib.Omega.{arith}
 use borrow.Author.Needs.{needs}
+use lib.ListN.{length}
 use Rattle.arith.specs.declared.Found.the-variants.{At}
 use Rattle.arith.specs.laws.Members.{mem-range}
 use Rattle.arith.specs.laws.Walks.{Walk, walk-more, walk-less, walk-end}
-use Rattle.bus_model.specs.Bounds.{nodes}
+use Rattle.bus_model.specs.Bounds.{nodes, alignments, orEmpty}
 use Rattle.bus_model.specs.Pattern.{ofNode, hyperperiod}
 use Rattle.bus_model.specs.theory.Refine.{free, set-same}
 use Rattle.bus_model.specs.theory.Visits.{isAlignment, visit-first}
-use Rattle.bus_model.specs.theory.Approximate.{both, greatestFound, approximateFound, found-more, found-missing, both-zero}
+use Rattle.bus_model.specs.theory.Approximate.{both, greatestFound, approximateFound, found-more, both-missing, both-zero}
 use Rattle.frame_table.specs.Frames.{framesOf}
 use Rattle.frame_table.specs.laws.Accepted.{accepted-valid, accepted-pattern}
-use Rattle.response_time.specs.laws.Levels.{own-node, ownFound, found-end}
+use Rattle.response_time.specs.laws.Searches.{window-small}
+use Rattle.response_time.specs.laws.Levels.{own-node, ownFound, found-end, first-listed, found-listed, free-within}
 use Rattle.response_time.proofs.bounds.approximate.Statement.{statement}
 use Rattle.response_time.proofs.bounds.approximate.Tie as tie
 
 abbrev Inv-loop : tie.InvT-loop
-Inv-loop rows members counts ends k blocked j best₀ a₀ best a =
-    Walk (greatestFound (ownFound (framesOf rows) k)) (λ done r. both (At done) r) (isAlignment (framesOf rows) k (k .node)) (hyperperiod (ofNode (framesOf rows) (k .node))) (approximateFound (framesOf rows) k) best a
+Inv-loop rows members counts ends k blocked hints₀ j limit most₀ a₀ hints most a =
+    Walk (greatestFound (ownFound (framesOf rows) k)) (λ done r. both (At done) r) (isAlignment (framesOf rows) k (k .node)) (hyperperiod (ofNode (framesOf rows) (k .node))) (approximateFound (framesOf rows) k) most a
+    × Mem a (orEmpty (alignments (framesOf rows) k (k .node)))
+    × (length hints ≡ length hints₀)
 
 abbrev μ-loop : tie.MeasureT-loop
-μ-loop rows members counts ends k blocked j best₀ a₀ best a = hyperperiod (ofNode (framesOf rows) (k .node)) - a
+μ-loop rows members counts ends k blocked hints₀ j limit most₀ a₀ hints most a = hyperperiod (ofNode (framesOf rows) (k .node)) - a
 
 -- k's node is one of the nodes
 node : (s : tie.Start Inv-loop μ-loop) → (1 ≤ s .args .k .node) × (s .args .k .node ≤ 16)
@@ -31,9 +36,12 @@ node s = own-node (s .pre .0) (s .pre .1 .1 .0)
 cast-j : tie.Need-cast-j Inv-loop μ-loop
 cast-j c = search needs
 
+busy-window-requires : tie.Need-busy-window-requires Inv-loop μ-loop
+busy-window-requires c κs = search needs
+
 next-of-requires : tie.Need-next-of-requires Inv-loop μ-loop
 next-of-requires c κs =
-    let s = c .before .before .before .before .before in
+    let s = c .before .before .before .before .before .before .before in
     let n = node s in
     (s .pre .0, (s .pre .1 .0, (n .0, n .1, omega arith)))
 
@@ -43,46 +51,53 @@ or-zero-requires c κs = search needs
 loop-holds : tie.Need-loop-holds Inv-loop μ-loop
 unfolding approximateFound
 loop-holds c =
-    let s = c .before .before .before .before .before .before .before in
-    rw (c .or-zero .ensures) (visit-first _ _ _ (accepted-valid _ (s .pre .0)) (s .args .k) (s .args .k .node) (c .before .next-of .result) (c .before .next-of .ensures) (both-zero _))
+    let s = c .before .before .before .before .before .before .before .before .before in
+    let valid = accepted-valid _ (s .pre .0) in
+    let first = c .before .next-of in
+    rw (c .or-zero .ensures) (
+      visit-first _ _ _ valid (s .args .k) (s .args .k .node) (first .result) (first .ensures) (both-zero _),
+      first-listed valid (s .args .k) (s .args .k .node) (first .result) (first .ensures),
+      refl,
+    )
 
 with-choice-requires : tie.Need-with-choice-requires Inv-loop μ-loop
-with-choice-requires c κs = node (c .before .before .before .before .before .before .before .before)
+with-choice-requires c κs = node (c .before .before .before .before .before .before .before .before .before .before)
 
-scenario-response-requires : tie.Need-scenario-response-requires Inv-loop μ-loop
-scenario-response-requires c κs =
-    let s = c .before .before .before .before .before .before .before .before .before in
+raised-requires : tie.Need-raised-requires Inv-loop μ-loop
+raised-requires c κs =
+    let s = c .before .before .before .before .before .before .before .before .before .before .before .before in
     let n = node s in
-    (s .pre .0, (s .pre .1 .0, (s .pre .1 .1 .0, (rw (c .with-choice .ensures) (set-same free (mem-range 1 nodes (s .args .k .node) (n .0) (omega (arith, n .1))) (c .before .loop .a) refl), s .pre .1 .1 .1))))
+    let l = c .before .before .loop in
+    let w = c .before .with-choice .ensures in
+    let limit = c .before .before .before .before .before .busy-window .ensures in
+    (s .pre .0, (s .pre .1 .0, (s .pre .1 .1 .0, ((rw w (set-same free (mem-range 1 nodes (s .args .k .node) (n .0) (omega (arith, n .1))) (l .a) refl), s .pre .1 .1 .1), (λ m e. (window-small _ _ _ (sym limit ∙ e), free-within (s .pre .0) (s .pre .1 .1 .0) (l .inv .1) (sym limit ∙ e) w))))))
 
-enum-known-one : tie.Need-enum-known-one Inv-loop μ-loop
-enum-known-one c = search needs
+enum-known-more : tie.Need-enum-known-more Inv-loop μ-loop
+enum-known-more c = search needs
 
 enum-told : tie.Need-enum-told Inv-loop μ-loop
 enum-told c = search needs
 
+same-length : tie.Need-same-length Inv-loop μ-loop
+same-length c = search needs
+
 returns : tie.Need-returns Inv-loop μ-loop
 returns c =
-    let o = c .before .before in
-    let w = o .before in
-    let l = w .before .loop in
-    let missing = sym (rw (w .with-choice .ensures) at (o .scenario-response .ensures)) ∙ c .enum-told .given .1 in
-    sym (found-missing _ (l .best) (l .a) missing _) ∙ l .inv .is
-
-bigger-requires : tie.Need-bigger-requires Inv-loop μ-loop
-bigger-requires c κs = search needs
+    let l = c .before .before .before .before .before .before .before .loop in
+    let more = rw (c .before .before .before .before .before .before .with-choice .ensures) at (c .before .before .before .before .raised .ensures) in
+    sym (found-more _ (l .most) (l .a) (sym (c .enum-told .given .1) ∙ more) _ ∙ both-missing _) ∙ l .inv .0 .is
 
 add-next-of : tie.Need-add-next-of Inv-loop μ-loop
 add-next-of c =
-    let s = c .before .before .before .before .before .before .before .before .before .before .before .before .before .before in
+    let s = c .before .before .before .before .before .before .before .before .before .before .before .before .before .before .before .before .before .before in
     let n = node s in
-    omega (arith, c .before .before .before .before .before .before .loop .inv .inside, accepted-pattern _ (s .pre .0) _ (n .0) (n .1) .0)
+    omega (arith, c .before .before .before .before .before .before .before .before .loop .inv .0 .inside, accepted-pattern _ (s .pre .0) _ (n .0) (n .1) .0)
 
 next-of-requires-2 : tie.Need-next-of-requires-2 Inv-loop μ-loop
 next-of-requires-2 c κs =
-    let s = c .before .before .before .before .before .before .before .before .before .before .before .before .before .before in
+    let s = c .before .before .before .before .before .before .before .before .before .before .before .before .before .before .before .before .before .before in
     let n = node s in
-    (s .pre .0, (s .pre .1 .0, (n .0, n .1, omega (arith, c .before .before .before .before .before .before .loop .inv .inside))))
+    (s .pre .0, (s .pre .1 .0, (n .0, n .1, omega (arith, c .before .before .before .before .before .before .before .before .loop .inv .0 .inside))))
 
 enum-known-found : tie.Need-enum-known-found Inv-loop μ-loop
 enum-known-found c = search needs
@@ -90,29 +105,29 @@ enum-known-found c = search needs
 enum-told-2 : tie.Need-enum-told-2 Inv-loop μ-loop
 enum-told-2 c = search needs
 
+same-length-2 : tie.Need-same-length-2 Inv-loop μ-loop
+same-length-2 c = search needs
+
 returns-2 : tie.Need-returns-2 Inv-loop μ-loop
 returns-2 c =
-    let n = c .before .before in
-    let b = n .before in
-    let o = b .before .before .before .before in
-    let w = o .before in
-    let l = w .before in
+    let l = c .before .before .before .before .before .before .before .before .before .before .before .loop in
+    let more = rw (c .before .before .before .before .before .before .before .before .before .before .with-choice .ensures) at (c .before .before .before .before .before .before .before .before .raised .ensures) in
     found-end _ _
-    ∙ walk-end _ _ _ _ _ (l .loop .inv) (found-more _ (l .loop .best) (l .loop .a) _ (sym (rw (w .with-choice .ensures) at (o .scenario-response .ensures)) ∙ b .before .before .one .given .1) (b .bigger .ensures))
-    (sym (n .next-of2 .ensures) ∙ c .enum-told2 .given .1)
+    ∙ walk-end _ _ _ _ _ (l .inv .0) (found-more _ (l .most) (l .a) (sym (c .before .before .before .before .more .given .1) ∙ more)) (sym (c .before .before .next-of2 .ensures) ∙ c .enum-told2 .given .1)
 
 loop-less : tie.Need-loop-less Inv-loop μ-loop
-loop-less c = walk-less _ _ _ _ _ (c .before .before .before .before .before .before .before .before .before .before .loop .inv) (sym (c .before .before .before .next-of2 .ensures) ∙ c .before .found .given .1)
+loop-less c = walk-less _ _ _ _ _ (c .before .before .before .before .before .before .before .before .before .before .before .before .loop .inv .0) (sym (c .before .before .before .next-of2 .ensures) ∙ c .before .found .given .1)
 
 loop-again : tie.Need-loop-again Inv-loop μ-loop
 loop-again c =
-    let n = c .before .before .before in
-    let b = n .before in
-    let o = b .before .before .before .before in
-    let w = o .before in
-    let l = w .before in
-    walk-more _ _ _ _ _ (l .loop .inv) (found-more _ (l .loop .best) (l .loop .a) _ (sym (rw (w .with-choice .ensures) at (o .scenario-response .ensures)) ∙ b .before .before .one .given .1) (b .bigger .ensures))
-    (sym (n .next-of2 .ensures) ∙ c .before .found .given .1)
+    let s = c .before .before .before .before .before .before .before .before .before .before .before .before .before .before .before .before .before .before .before .before .before .before in
+    let l = c .before .before .before .before .before .before .before .before .before .before .before .before .loop in
+    let more = rw (c .before .before .before .before .before .before .before .before .before .before .before .with-choice .ensures) at (c .before .before .before .before .before .before .before .before .before .raised .ensures) in
+    let next = sym (c .before .before .before .next-of2 .ensures) ∙ c .before .found .given .1 in (
+      walk-more _ _ _ _ _ (l .inv .0) (found-more _ (l .most) (l .a) (sym (c .before .before .before .before .before .more .given .1) ∙ more)) next,
+      found-listed _ _ _ _ next,
+      c .before .before .before .before .before .before .before .before .before .raised .kept .1 .1 .1 .1 .1 .1 .1 .1 .1 .1 .0 ∙ l .inv .2,
+    )
 
 pub approximate-spec : {M : Type 1} → statement M
 approximate-spec =
@@ -121,19 +136,21 @@ approximate-spec =
     Inv-loop
     μ-loop
     cast-j
+    busy-window-requires
     next-of-requires
     or-zero-requires
     loop-holds
     with-choice-requires
-    scenario-response-requires
-    enum-known-one
+    raised-requires
+    enum-known-more
     enum-told
+    same-length
     returns
-    bigger-requires
     add-next-of
     next-of-requires-2
     enum-known-found
     enum-told-2
+    same-length-2
     returns-2
     loop-less
     loop-again)

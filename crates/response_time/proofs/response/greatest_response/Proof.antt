@@ -1,8 +1,10 @@
 -- The loop goes through the instances released in the window; each starts in the window, and no delay of the next one is below the end of this one,
 -- so its search starts there. The measure is how many instances are left.
 use Prim.Native.Nat.{_-_, _+_, _*_, _≤_, _<_}
+use mathlib.Core.Path.{_≡_, refl}
 use native.Mathlib.Omega.{arith}
 use borrow.Author.Needs.{needs}
+use lib.ListN.{length}
 use Rattle.frame_table.specs.Frames.{framesOf}
 use Rattle.response_time.specs.laws.Fine.{in-table-fine}
 use Rattle.response_time.specs.laws.Searches.{window-small, Windowed, Turn, turn-start, turn-fits, turn-ends, turn-more, turn-end}
@@ -10,26 +12,26 @@ use Rattle.response_time.proofs.response.greatest_response.Statement.{s
 use Rattle.response_time.proofs.response.greatest_response.Tie as tie
 
 abbrev Inv-loop : tie.InvT-loop
-Inv-loop rows members counts ends k choices own blocked l d instances best₀ from₀ q₀ best from q =
-    Turn (framesOf rows) k choices l instances best from q
+Inv-loop rows members counts ends k choices own blocked l hints₀ d instances best₀ from₀ q₀ hints best from q =
+    (length hints ≡ length hints₀) × Turn (framesOf rows) k choices l instances best from q
 
 abbrev μ-loop : tie.MeasureT-loop
-μ-loop rows members counts ends k choices own blocked l d instances best₀ from₀ q₀ best from q = instances - q
+μ-loop rows members counts ends k choices own blocked l hints₀ d instances best₀ from₀ q₀ hints best from q = instances - q
 
 distance-from-requires : tie.Need-distance-from-requires Inv-loop μ-loop
-distance-from-requires c κs = let s = c .before .before .before .before in in-table-fine _ (s .pre .0) (s .pre .1 .1 .0)
+distance-from-requires c κs = let s = c .before .before .before .before .before in in-table-fine _ (s .pre .0) (s .pre .1 .1 .0)
 
 releases-before-requires : tie.Need-releases-before-requires Inv-loop μ-loop
 releases-before-requires c κs =
-    let s = c .before .before .before .before .before in
+    let s = c .before .before .before .before .before .before in
     let f = in-table-fine _ (s .pre .0) (s .pre .1 .1 .0) in
     (f .period-low, f .period-high, omega (arith, window-small _ _ _ (s .pre .1 .1 .1 .2)))
 
 -- what the calls before the loop tell of the window
 window : (c : tie.After-releases-before Inv-loop μ-loop) →
-    let a = c .before .before .before .before .before .before .args in Windowed (a .rows .now) (a .k) (a .choices) (a .own) (a .l) (c .before .distance-from .result) (c .releases-before .result)
+    let a = c .before .before .before .before .before .before .before .args in Windowed (a .rows .now) (a .k) (a .choices) (a .own) (a .l) (c .before .distance-from .result) (c .releases-before .result)
 window c =
-    let s = c .before .before .before .before .before .before in
+    let s = c .before .before .before .before .before .before .before in
     record {
       accepted = s .pre .0;
       listed = s .pre .1 .1 .0;
@@ -40,18 +42,18 @@ window c =
     }
 
 loop-holds : tie.Need-loop-holds Inv-loop μ-loop
-loop-holds c = turn-start (window c)
+loop-holds c = (refl, turn-start (window c))
 
 -- what an instance waits for and its release are small
 fits : (c : tie.In-loop Inv-loop μ-loop) →
-    let a = c .before .before .before .before .before .before .before .before .args in
+    let a = c .before .before .before .before .before .before .before .before .before .args in
     (a .blocked + c .before .loop .q * a .k .length ≤ 1000000) × (c .before .before .before .distance-from .result + c .before .loop .q * a .k .period < 1000000)
-fits c = rw (c .before .before .before .before .before .before .before .before .pre .1 .1 .1 .1) (turn-fits (window (c .before .before)) (c .before .loop .inv) (c .loop-test .taken))
+fits c = rw (c .before .before .before .before .before .before .before .before .before .pre .1 .1 .1 .1) (turn-fits (window (c .before .before)) (c .before .loop .inv .1) (c .loop-test .taken))
 
 -- and so is its end
-ends : (c : tie.After-or-zero Inv-loop μ-loop) → c .or-zero .result + c .before .before .before .before .before .before .before .before .before .before .before .args .k .length ≤ 1000000
+ends : (c : tie.After-or-zero Inv-loop μ-loop) → c .or-zero .result + c .before .before .before .before .before .before .before .before .before .before .before .before .args .k .length ≤ 1000000
 ends c =
-    turn-ends (window (c .before .before .before .before .before)) (c .before .before .before .before .loop .inv) (c .before .before .before .loop-test .taken) (c .before .before .before .before .before .before .before .before .before .before .before .pre .1 .1 .1 .1) (c .before .settle .ensures) (c .or-zero .ensures)
+    turn-ends (window (c .before .before .before .before .before)) (c .before .before .before .before .loop .inv .1) (c .before .before .before .loop-test .taken) (c .before .before .before .before .before .before .before .before .before .before .before .before .pre .1 .1 .1 .1) (c .before .settle .ensures) (c .or-zero .ensures)
 
 cast-base : tie.Need-cast-base Inv-loop μ-loop
 cast-base c = search needs
@@ -67,28 +69,37 @@ add-base c = omega (arith, fits (c .before) .0)
 
 settle-requires : tie.Need-settle-requires Inv-loop μ-loop
 settle-requires c κs =
-    let s = c .before .before .before .before .before .before .before .before .before in
-    (s .pre .0, (s .pre .1 .0, (s .pre .1 .1 .0, (s .pre .1 .1 .1 .0, omega (arith, fits (c .before) .0), omega arith))))
+    let s = c .before .before .before .before .before .before .before .before .before .before in
+    (s .pre .0, (s .pre .1 .0, (s .pre .1 .1 .0, (λ t. s .pre .1 .1 .1 .0, omega (arith, fits (c .before) .0), omega arith))))
 
 or-zero-requires : tie.Need-or-zero-requires Inv-loop μ-loop
 or-zero-requires c κs = search needs
 
+cast-remember : tie.Need-cast-remember Inv-loop μ-loop
+cast-remember c = search needs
+
+add-remember : tie.Need-add-remember Inv-loop μ-loop
+add-remember c = search needs
+
+remember-requires : tie.Need-remember-requires Inv-loop μ-loop
+remember-requires c κs = search needs
+
 mul-response : tie.Need-mul-response Inv-loop μ-loop
-mul-response c = omega (arith, fits (c .before .before .before .before) .1)
+mul-response c = omega (arith, fits (c .before .before .before .before .before .before .before .before) .1)
 
 add-response : tie.Need-add-response Inv-loop μ-loop
-add-response c = omega (arith, fits (c .before .before .before .before) .1)
+add-response c = omega (arith, fits (c .before .before .before .before .before .before .before .before) .1)
 
 response-requires : tie.Need-response-requires Inv-loop μ-loop
 response-requires c κs =
-    let s = c .before .before .before .before .before .before .before .before .before .before .before .before in
-    (omega (arith, ends (c .before)), in-table-fine _ (s .pre .0) (s .pre .1 .1 .0) .length-high)
+    let s = c .before .before .before .before .before .before .before .before .before .before .before .before .before .before .before .before .before in
+    (omega (arith, ends (c .before .before .before .before .before)), in-table-fine _ (s .pre .0) (s .pre .1 .1 .0) .length-high)
 
 bigger-requires : tie.Need-bigger-requires Inv-loop μ-loop
 bigger-requires c κs = search needs
 
 add-from : tie.Need-add-from Inv-loop μ-loop
-add-from c = omega (arith, ends (c .before .before .before .before))
+add-from c = omega (arith, ends (c .before .before .before .before .before .before .before .before))
 
 add-q : tie.Need-add-q Inv-loop μ-loop
 add-q c = search needs
@@ -98,10 +109,14 @@ loop-less c = search needs
 
 loop-again : tie.Need-loop-again Inv-loop μ-loop
 loop-again c =
-    turn-more (window (c .before .before .before .before .before .before .before .before .before)) (c .before .before .before .before .before .before .before .before .loop .inv) (c .before .before .before .before .before .before .before .loop-test .taken) (c .before .before .before .before .before .before .before .before .before .before .before .before .before .before .before .pre .1 .1 .1 .1) (c .before .before .before .before .before .settle .ensures) (c .before .before .before .before .or-zero .ensures) (c .before .before .response .ensures) (c .before .bigger .ensures)
+    let l = c .before .before .before .before .before .before .before .before .before .before .before .before in
+    (omega (arith, c .before .before .before .before .before .before .remember .kept .0, l .loop .inv .0), turn-more (window (l .before)) (l .loop .inv .1) (c .before .before .before .before .before .before .before .before .before .before .before .loop-test .taken) (l .before .before .before .before .before .before .before .before .pre .1 .1 .1 .1) (c .before .before .before .before .before .before .before .before .before .settle .ensures) (c .before .before .before .before .before .before .before .before .or-zero .ensures) (c .before .before .response .ensures) (c .before .bigger .ensures))
+
+same-length : tie.Need-same-length Inv-loop μ-loop
+same-length c = search needs
 
 returns : tie.Need-returns Inv-loop μ-loop
-returns c = turn-end (c .before .loop .inv) (c .loop-test .left)
+returns c = turn-end (c .before .loop .inv .1) (c .loop-test .left)
 
 pub greatest-response-spec : {M : Type 1} → statement M
 greatest-response-spec =
@@ -118,6 +133,9 @@ greatest-response-spec =
     add-base
     settle-requires
     or-zero-requires
+    cast-remember
+    add-remember
+    remember-requires
     mul-response
     add-response
     response-requires
@@ -126,4 +144,5 @@ greatest-response-spec =
     add-q
     loop-less
     loop-again
+    same-length
     returns)

@@ -32,7 +32,7 @@ loads : (c : tie.After-frame-demand) →
 loads c =
     let s = c .before .before .before .before .before .before .before in
     let t = s .pre .1 .1 .0 in
-    start-load (accepted-valid _ (s .pre .0)) (t .inside) (t .is) (s .args .choices) (s .args .own) (s .pre .1 .1 .1 .0) (s .args .base) (s .args .x) (c .before .whole-work .ensures .0) (c .frame-demand .ensures .0)
+    start-load (accepted-valid _ (s .pre .0)) (t .inside) (t .is) (s .args .choices) (s .args .own) (s .pre .1 .1 .1 .0 (rw (c .before .before .if1 .taken) tt)) (s .args .base) (s .args .x) (c .before .whole-work .ensures .0) (c .frame-demand .ensures .0)
 
 sub-result : tie.Need-sub-result
 sub-result c = loads c .0

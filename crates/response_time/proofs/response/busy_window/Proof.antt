@@ -1,0 +1,24 @@
+-- The search from 1 finds the busy window, or shows that there is none.
+use mathlib.Core.Path.{refl, sym}
+use native.Mathlib.Omega.{arith}
+use borrow.Author.Needs.{needs}
+use Rattle.response_time.specs.laws.Groups.{blocking-small}
+use Rattle.response_time.specs.laws.Searches.{window-search}
+use Rattle.response_time.proofs.response.busy_window.Statement.{statement}
+use Rattle.response_time.proofs.response.busy_window.Tie as tie
+
+add-settle : tie.Need-add-settle
+add-settle c = search needs
+
+settle-requires : tie.Need-settle-requires
+settle-requires c κs =
+    let s = c .before .before .before .before in
+    (s .pre .0, (s .pre .1 .0, (s .pre .1 .1 .0, (λ t. absurd t, omega (arith, s .pre .1 .1 .1, blocking-small _ (s .pre .0) (s .args .k)), omega arith))))
+
+returns : tie.Need-returns
+returns c =
+    let s = c .before .before .before .before .before in
+    sym (window-search _ _ _ (s .pre .1 .1 .1) (c .settle .ensures) refl)
+
+pub busy-window-spec : {M : Type 1} → statement M
+busy-window-spec = tie.close (tie.spec add-settle settle-requires returns)

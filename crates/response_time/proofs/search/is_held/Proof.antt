@@ -1,0 +1,14 @@
+-- It tests the load as the definition does.
+use Rattle.response_time.specs.Load.{holds}
+use Rattle.response_time.proofs.search.is_held.Statement.{statement}
+use Rattle.response_time.proofs.search.is_held.Tie as tie
+
+load-requires : tie.Need-load-requires
+load-requires c κs = c .before .before .before .before .pre
+
+returns : tie.Need-returns
+unfolding holds
+returns c = rw (c .load .ensures)
+
+pub is-held-spec : {M : Type 1} → statement M
+is-held-spec = tie.close (tie.spec load-requires returns)
