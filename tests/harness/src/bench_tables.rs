@@ -6,8 +6,8 @@ use analyser::table::{self, Row, MOST_LINES, NODE, PERIOD};
 
 /// Rows in order of rank; claims of 1 ask for the exact bound of every row that has one.
 #[derive(Default)]
-struct Builder {
-    rows: Vec<Row>,
+pub struct Builder {
+    pub rows: Vec<Row>,
 }
 
 impl Builder {
@@ -81,16 +81,56 @@ pub fn no_windows() -> Vec<Row> {
     builder.rows
 }
 
-/// Nodes with 256 alignments each: a frequent frame, and three that come once in 253 periods.
-pub fn crowded(nodes: u32, period: u32) -> Vec<Row> {
+/// Nodes with so many alignments each: a frequent frame, and three that come once in a while.
+pub fn crowded(nodes: u32, payload: u32, period: u32, alignments: u32) -> Builder {
     let mut builder = Builder::default();
-    (1..=nodes).for_each(|node| builder.frame(node, 8, period, 0));
+    (1..=nodes).for_each(|node| builder.frame(node, payload, period, 0));
     for place in 1..=3 {
         for node in 1..=nodes {
-            builder.frame(node, 8, 253 * period, place * period / 4);
+            builder.frame(node, payload, (alignments - 3) * period, place * period / 4);
         }
     }
+    builder
+}
+
+/// The approximate bound at its most: 12650 instances of the judged frame in a window, 256
+/// alignments of its own node, and 256 of each other node to be looked at for each of them.
+pub fn many_looks() -> Vec<Row> {
+    let mut builder = crowded(15, 0, 3758, 256);
+    builder.frame(16, 0, 255 * 71, 35);
+    builder.frame(16, 0, 71, 0);
     builder.rows
+}
+
+/// Two frames that nearly fill the bus, as above; a node that queues bursts; and judged frames.
+/// From each burst the judged frames start just before the next one comes, so that the starts of
+/// one alignment are none of another's, and those last found do not serve the next scenario.
+pub struct Bursts {
+    pub second: (u32, u32),
+    /// When a burst is queued, and the payloads as digits.
+    pub bursts: &'static [(u32, &'static str)],
+    /// How many judged frames, their payload and period.
+    pub judged: (u32, u32, u32),
+    pub alignments: [u32; 2],
+}
+
+impl Bursts {
+    pub fn rows(&self) -> Vec<Row> {
+        let mut builder = Builder::default();
+        let (payload, second) = self.second;
+        builder.frame(1, 0, 62, 0);
+        builder.frame(2, payload, second, 0);
+        for (offset, payloads) in self.bursts {
+            for payload in payloads.bytes() {
+                builder.frame(4, (payload - b'0').into(), 1_000_000, *offset);
+            }
+        }
+        let (count, payload, period) = self.judged;
+        (0..count).for_each(|_| builder.frame(3, payload, period, 0));
+        builder.frame(1, 0, 62 * self.alignments[0], 0);
+        builder.frame(2, 0, second * self.alignments[1], 0);
+        builder.rows
+    }
 }
 
 /// Periods in ticks of 2 microseconds, their weights, and the first of their 200 identifiers.
@@ -112,6 +152,7 @@ const PAYLOADS: [(u32, u64); 8] = [(1, 1), (2, 1), (3, 1), (4, 2), (5, 3), (6, 4
 #[derive(Clone, Copy)]
 pub struct Drawing {
     pub seed: u64,
+    pub nodes: u32,
     /// The unit of offsets: 2500 ticks there, 1 for fine ones.
     pub unit: u32,
     /// Claims are the periods; otherwise 1.
@@ -119,11 +160,11 @@ pub struct Drawing {
 }
 
 impl Drawing {
-    /// A table by appendix A: 7 to 15 nodes, a load of 40 to 60 %, of which node 1 has 30 %. What
-    /// a node's pattern does not allow goes to another node, and the table ends with 64 lines.
+    /// A table by appendix A: a load of 40 to 60 %, of which node 1 has 30 %. What a node's pattern
+    /// does not allow goes to another node, and the table ends with 64 lines.
     pub fn rows(self) -> Vec<Row> {
         let mut random = Random::new(self.seed);
-        let nodes = random.between(7, 15) as u32;
+        let nodes = self.nodes;
         let wanted = random.between(400_000, 600_000);
         let mut rows: Vec<Row> = Vec::new();
         for _ in 0..10 * MOST_LINES {

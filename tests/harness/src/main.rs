@@ -2,6 +2,7 @@
 
 mod answer;
 mod bench;
+mod bench_groups;
 mod bench_tables;
 mod call;
 mod compare;
@@ -15,6 +16,7 @@ mod simulate;
 mod starts;
 mod tables;
 mod tally;
+mod yardstick;
 
 use std::io;
 use std::process::ExitCode;
@@ -24,7 +26,7 @@ const USAGE: &str = "usage:
   harness replay SEED NUMBER [--save FILE]
   harness simulate SEED COUNT
   harness bench
-  harness time library|analyser|plain < table";
+  harness time library|yardstick|analyser|plain < table";
 
 fn main() -> ExitCode {
     let words: Vec<String> = std::env::args().skip(1).collect();

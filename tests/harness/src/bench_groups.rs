@@ -1,0 +1,139 @@
+//! The tables that are measured, in groups.
+
+use crate::bench_tables::{
+    alike, crowded, long_windows, many_looks, no_windows, Bursts, Drawing, Filled,
+};
+use analyser::table::Row;
+
+/// A name and the rows.
+pub type Table = (String, Vec<Row>);
+
+pub fn groups() -> [(&'static str, Vec<Table>); 9] {
+    [
+        ("A realistic table: 12 nodes, periods 2500 to 500000", realistic()),
+        ("Drawn as in document 002, appendix A", drawn()),
+        ("Most scenarios, none to be ruled out early", many_scenarios()),
+        ("Long windows", long_searches()),
+        ("Growth with rows of 65536 scenarios", growing_rows()),
+        ("Growth with scenarios", growing_scenarios()),
+        ("Growth with the window", growing_window()),
+        ("Growth with alignments, 16 nodes", growing_alignments()),
+        ("Worst found", worst()),
+    ]
+}
+
+fn realistic() -> Vec<Table> {
+    let table = |(claims, deadlines)| {
+        let drawing = Drawing { seed: 12, nodes: 12, unit: 500, deadlines };
+        (format!("offsets in ms, claims {claims}"), drawing.rows())
+    };
+    [("periods", true), ("1", false)].map(table).into()
+}
+
+fn drawn() -> Vec<Table> {
+    let mut tables = Vec::new();
+    for nodes in [7, 11, 15] {
+        for (unit, offsets) in [(2500, "in steps"), (1, "fine")] {
+            for (deadlines, claims) in [(true, "periods"), (false, "1")] {
+                let drawing = Drawing { seed: nodes.into(), nodes, unit, deadlines };
+                let name = format!("{nodes} nodes, offsets {offsets}, claims {claims}");
+                tables.push((name, drawing.rows()));
+            }
+        }
+    }
+    tables
+}
+
+fn many_scenarios() -> Vec<Table> {
+    vec![
+        ("16 nodes x 2".into(), alike(&[2; 16], 30_000, 10, 23)),
+        ("4 nodes x 16".into(), alike(&[16; 4], 60_000, 17, 40)),
+        ("255 x 250".into(), alike(&[255, 250], 3920, 7, 15)),
+    ]
+}
+
+const LONGEST: Filled = Filled { second: 1199, gap: 371_000, judged: 1_000_000 };
+const MANY_INSTANCES: Filled = Filled { second: 1366, gap: 30_000, judged: 4000 };
+
+fn long_searches() -> Vec<Table> {
+    vec![
+        ("one scenario a row".into(), long_windows()),
+        ("no window up to 1000000".into(), no_windows()),
+        ("255 x 128 x 2 scenarios".into(), LONGEST.rows([255, 128])),
+        ("192 instances, 255 x 128 x 2".into(), MANY_INSTANCES.rows([255, 128])),
+    ]
+}
+
+fn growing_rows() -> Vec<Table> {
+    let table = |judged| (format!("{judged} judged"), alike(&[2; 16], 30_000, 10, judged));
+    [1, 4, 16].map(table).into()
+}
+
+fn growing_scenarios() -> Vec<Table> {
+    let table = |counts: [u32; 2]| {
+        (format!("{} x {} x 2 scenarios", counts[0], counts[1]), LONGEST.rows(counts))
+    };
+    [[4, 4], [16, 16], [64, 64], [128, 128]].map(table).into()
+}
+
+fn growing_window() -> Vec<Table> {
+    let table = |(second, gap)| {
+        let filled = Filled { second, gap, judged: 1_000_000 };
+        (format!("periods 62 and {second}"), filled.rows([64, 64]))
+    };
+    [(1250, 24_000), (1220, 52_000), (1205, 130_000), (1199, 371_000)].map(table).into()
+}
+
+fn growing_alignments() -> Vec<Table> {
+    let table = |(alignments, period, load): (u32, u32, &str)| {
+        let rows = crowded(16, 8, period, alignments).rows;
+        (format!("{alignments} alignments, load {load}"), rows)
+    };
+    [
+        (16, 3950, "0.6"),
+        (64, 3950, "0.6"),
+        (256, 3950, "0.6"),
+        (16, 2665, "near 1"),
+        (64, 2270, "near 1"),
+        (256, 2186, "near 1"),
+    ]
+    .map(table)
+    .into()
+}
+
+fn worst() -> Vec<Table> {
+    vec![
+        ("12650 instances, rough bound".into(), many_looks()),
+        ("6 bursts, one row".into(), ONE_ROW.rows()),
+        ("7 bursts, several rows".into(), SEVERAL_ROWS.rows()),
+    ]
+}
+
+const ONE_ROW: Bursts = Bursts {
+    second: (8, 1207),
+    bursts: &[
+        (41_583, "2"),
+        (244_570, "0"),
+        (406_482, "2"),
+        (586_268, "1"),
+        (769_642, "0"),
+        (853_928, "1"),
+    ],
+    judged: (20, 1, 113_144),
+    alignments: [43, 254],
+};
+
+const SEVERAL_ROWS: Bursts = Bursts {
+    second: (7, 1300),
+    bursts: &[
+        (26_250, "888387381873"),
+        (269_281, "886388820434210"),
+        (564_299, "75"),
+        (805_537, "40"),
+        (819_027, "1"),
+        (834_925, "888"),
+        (888_122, "88836361103"),
+    ],
+    judged: (14, 0, 41_640),
+    alignments: [62, 151],
+};
