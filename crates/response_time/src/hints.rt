@@ -1,23 +1,44 @@
 // Numbers at which searches like the one at hand ended, tried before it is made. Nothing is promised of them: where one
 // is used, it is looked at anew.
-ghost use mathlib.Core.Path.{_≡_};
-ghost use lib.ListN.{getD};
 
-// Room for windows and starts, the latest in the first half and those before them in the second.
 pub const HINTS: usize = 4096;
 
-// What stands at a place, and 0 beyond.
-pub fn recall(hints: &[u32], at: usize) -> u32
-    ensures { λ r. ⌜ r ≡ getD (now (hints .entry)) at 0 ⌝ }
-{
-    if at < hints.len() { hints[at] } else { 0 }
+// So many are kept for each window or instance, the last first; those for place `at` stand from KEPT * at on.
+pub const KEPT: usize = 8;
+
+// Hint number i for a place, and 0 where there is none.
+pub fn recall(hints: &[u32], at: usize, i: usize) -> u32 {
+    if KEPT <= i {
+        return 0;
+    }
+    if hints.len() / KEPT <= at {
+        return 0;
+    }
+    hints[KEPT * at + i]
 }
 
-// Puts a number at a place of the first half, and what stood there in the second.
-pub fn remember(hints: &mut [u32], at: usize, x: u32) {
-    let half = hints.len() / 2;
-    if at < half && hints[at] != x {
-        hints[half + at] = hints[at];
-        hints[at] = x;
+// Whether a number is kept for a place.
+fn is_kept(hints: &[u32], at: usize, x: u32) -> bool {
+    let mut i = 0;
+    while i < KEPT {
+        if recall(hints, at, i) == x {
+            return true;
+        }
+        i += 1;
     }
+    false
+}
+
+// Puts a number in front of those kept for a place.
+pub fn remember(hints: &mut [u32], at: usize, x: u32) {
+    if hints.len() / KEPT <= at || is_kept(hints, at, x) {
+        return;
+    }
+    let first = KEPT * at;
+    let mut i = KEPT - 1;
+    while 0 < i {
+        hints[first + i] = hints[first + i - 1];
+        i -= 1;
+    }
+    hints[first] = x;
 }

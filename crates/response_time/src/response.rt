@@ -1,5 +1,5 @@
 // The response times of k in a scenario.
-use crate::hints::HINTS;
+use crate::hints::KEPT;
 use crate::hints::recall;
 use crate::hints::remember;
 use crate::search::WINDOW_LIMIT;
@@ -202,7 +202,6 @@ fn starts_by(
     requires { ⌜ Grouped (now rows) k (now members) (now counts) (now ends) ⌝ }
     requires { ⌜ InTable (now rows) k ⌝ }
     requires { ⌜ (choiceOf choices (k .node) ≡ Fixed own) × (base ≤ 1000000000) × (latest ≤ 1000000) ⌝ }
-    requires { ⌜ at ≤ 1000001 ⌝ }
     ensures { λ r. ⌜ (T r → (x : ℕ) × (x ≤ latest) × T (holds (framesOf (now (rows .entry))) k choices true base x)) ⌝ }
 {
     if is_held(
@@ -219,37 +218,18 @@ fn starts_by(
     ) {
         return true;
     }
-    let newer = recall(hints, at);
-    if newer <= latest
-        && is_held(
-            rows,
-            members,
-            counts,
-            ends,
-            k,
-            choices,
-            own,
-            true,
-            base,
-            newer,
-        )
-    {
-        return true;
+    let mut i = 0;
+    while i < KEPT {
+        let x = recall(hints, at, i);
+        if x == 0 {
+            return false;
+        }
+        if x <= latest && is_held(rows, members, counts, ends, k, choices, own, true, base, x) {
+            return true;
+        }
+        i += 1;
     }
-    let older = recall(hints, HINTS / 2 + at);
-    older <= latest
-        && is_held(
-            rows,
-            members,
-            counts,
-            ends,
-            k,
-            choices,
-            own,
-            true,
-            base,
-            older,
-        )
+    false
 }
 
 // A length that the scenario's window does not exceed, where `limit` is one: the last window, if it would do here.
@@ -271,7 +251,7 @@ fn window_limit(
     ensures { λ r. ⌜ ((l : ℕ) → busyWindow (framesOf (now (rows .entry))) k choices ≡ At l → l ≤ limit → l ≤ r) ⌝ }
     ensures small { λ r. ⌜ r ≤ limit ⌝ }
 {
-    let last = recall(hints, 0);
+    let last = recall(hints, 0, 0);
     if last == 0 || limit <= last {
         return limit;
     }

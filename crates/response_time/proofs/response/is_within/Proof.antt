@@ -95,7 +95,7 @@ starts-by-requires : tie.Need-starts-by-requires Inv-loop μ-loop
 starts-by-requires c κs =
     let s = c .before .before .before .before .before .before .before .before .before .before .before .before .before .before .before .before .before in
     let latest = latest-start-fits _ _ _ (sym (c .before .before .before .latest-start .ensures) ∙ c .before .found .given .1) in
-    (s .pre .0, (s .pre .1 .0, (s .pre .1 .1 .0, ((s .pre .1 .1 .1 .0 .0, fits (c .before .before .before .before .before .before) .0, omega (arith, latest .1)), omega (arith, fits (c .before .before .before .before .before .before) .2)))))
+    (s .pre .0, (s .pre .1 .0, (s .pre .1 .1 .0, (s .pre .1 .1 .1 .0 .0, fits (c .before .before .before .before .before .before) .0, omega (arith, latest .1)))))
 
 returns-3 : tie.Need-returns-3 Inv-loop μ-loop
 returns-3 c t = absurd t

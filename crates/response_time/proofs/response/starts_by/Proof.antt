@@ -1,57 +1,70 @@
--- Each try that says yes has found a start that holds its load, by `latest`.
+-- Each number that is tried and holds its load is one up to the latest.
+use Prim.Native.Nat.{_-_}
+use mathlib.Core.Path.{sym}
 use native.Mathlib.Omega.{arith}
 use borrow.Author.Needs.{needs}
-use borrow.Author.Tests.{lt-leb}
 use Rattle.response_time.proofs.response.starts_by.Statement.{statement}
 use Rattle.response_time.proofs.response.starts_by.Tie as tie
 
-is-held-requires : tie.Need-is-held-requires
-is-held-requires c κs =
-    let s = c .before .before .before .before .before in
-    (s .pre .0, (s .pre .1 .0, (s .pre .1 .1 .0, (λ t. s .pre .1 .1 .1 .0 .0, s .pre .1 .1 .1 .0 .1, s .pre .1 .1 .1 .0 .2))))
+abbrev Inv-loop : tie.InvT-loop
+Inv-loop rows members counts ends k choices own base latest hints at i₀ i = Unit {0}
 
-returns : tie.Need-returns
+abbrev μ-loop : tie.MeasureT-loop
+μ-loop rows members counts ends k choices own base latest hints at i₀ i = 8 - i
+
+is-held-requires : tie.Need-is-held-requires Inv-loop μ-loop
+is-held-requires c κs =
+    let p = c .before .before .before .before .before .pre in
+    let q = p .1 .1 .1 in
+    (p .0, (p .1 .0, (p .1 .1 .0, (λ t. q .0, q .1, q .2))))
+
+returns : tie.Need-returns Inv-loop μ-loop
 returns c t = (c .before .before .before .before .before .before .before .args .latest, omega arith, rw (← c .before .is-held .ensures, c .if1 .taken) tt)
 
-recall-requires : tie.Need-recall-requires
+loop-holds : tie.Need-loop-holds Inv-loop μ-loop
+loop-holds c = tt
+
+recall-requires : tie.Need-recall-requires Inv-loop μ-loop
 recall-requires c κs = search needs
 
-is-held-requires-2 : tie.Need-is-held-requires-2
+returns-2 : tie.Need-returns-2 Inv-loop μ-loop
+returns-2 c t = absurd t
+
+is-held-requires-2 : tie.Need-is-held-requires-2 Inv-loop μ-loop
 is-held-requires-2 c κs =
-    let s = c .before .before .before .before .before .before .before .before .before in
-    (s .pre .0, (s .pre .1 .0, (s .pre .1 .1 .0, (λ t. s .pre .1 .1 .1 .0 .0, s .pre .1 .1 .1 .0 .1, omega (arith, c .if2 .taken, s .pre .1 .1 .1 .0)))))
+    let p = c .before .before .before .before .before .before .before .before .before .before .before .before .pre in
+    let q = p .1 .1 .1 in
+    (p .0, (p .1 .0, (p .1 .1 .0, (λ t. q .0, q .1, omega (arith, c .if3 .taken, q .2)))))
 
-returns-2 : tie.Need-returns-2
-returns-2 c t = (c .before .before .before .recall .result, c .before .before .if2 .taken, rw (← c .before .is-held2 .ensures, c .if3 .taken) tt)
+returns-3 : tie.Need-returns-3 Inv-loop μ-loop
+returns-3 c t = (c .before .before .before .before .recall .result, c .before .before .if3 .taken, rw (← c .before .is-held2 .ensures, c .if4 .taken) tt)
 
-add-recall : tie.Need-add-recall
-add-recall c = search needs
+add-i : tie.Need-add-i Inv-loop μ-loop
+add-i c = search needs
 
-recall-requires-2 : tie.Need-recall-requires-2
-recall-requires-2 c κs = search needs
+loop-less : tie.Need-loop-less Inv-loop μ-loop
+loop-less c = search needs
 
-is-held-requires-3 : tie.Need-is-held-requires-3
-is-held-requires-3 c κs =
-    let s = c .before .before .before .before .before .before .before .before .before .before .before in
-    (s .pre .0, (s .pre .1 .0, (s .pre .1 .1 .0, (λ t. s .pre .1 .1 .1 .0 .0, s .pre .1 .1 .1 .0 .1, omega (arith, c .if4 .taken, s .pre .1 .1 .1 .0)))))
+loop-again : tie.Need-loop-again Inv-loop μ-loop
+loop-again c = tt
 
-returns-3 : tie.Need-returns-3
-returns-3 c t = (c .before .before .recall2 .result, c .before .if4 .taken, rw (← c .is-held3 .ensures) t)
-
-returns-4 : tie.Need-returns-4
-returns-4 c t = absurd (rw (lt-leb _ _ (c .if4 .left)) at t)
+returns-4 : tie.Need-returns-4 Inv-loop μ-loop
+returns-4 c t = absurd t
 
 pub starts-by-spec : {M : Type 1} → statement M
 starts-by-spec =
     tie.close
     (tie.spec
+    Inv-loop
+    μ-loop
     is-held-requires
     returns
+    loop-holds
     recall-requires
-    is-held-requires-2
     returns-2
-    add-recall
-    recall-requires-2
-    is-held-requires-3
+    is-held-requires-2
     returns-3
+    add-i
+    loop-less
+    loop-again
     returns-4)
