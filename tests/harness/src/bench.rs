@@ -36,12 +36,8 @@ struct Lister {
 const LISTERS: [Lister; 4] = [
     Lister { name: "library", cap: 60, list: library_listing },
     Lister { name: "yardstick", cap: 60, list: |file| yardstick::list(&accepted(file)) },
-    Lister {
-        name: "analyser",
-        cap: 10,
-        list: |file| list_rows_by(Search::Pruned, &accepted(file)),
-    },
-    Lister { name: "plain", cap: 4, list: |file| list_rows_by(Search::Plain, &accepted(file)) },
+    Lister { name: "analyser", cap: 5, list: |file| list_rows_by(Search::Pruned, &accepted(file)) },
+    Lister { name: "plain", cap: 3, list: |file| list_rows_by(Search::Plain, &accepted(file)) },
 ];
 
 /// A median time and the listing, or the time after which it was stopped.
@@ -111,7 +107,7 @@ fn measure_table((name, rows): &Table) -> io::Result<bool> {
 
 fn print_line(columns: &[&str]) {
     let rest: String = columns[1..].iter().map(|column| format!("{column:>10}")).collect();
-    println!("{:<38}{rest}", columns[0]);
+    println!("{:<42}{rest}", columns[0]);
     let _ = io::stdout().flush();
 }
 

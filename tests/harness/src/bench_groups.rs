@@ -24,7 +24,7 @@ pub fn groups() -> [(&'static str, Vec<Table>); 9] {
 
 fn realistic() -> Vec<Table> {
     let table = |(claims, deadlines)| {
-        let drawing = Drawing { seed: 12, nodes: 12, unit: 500, deadlines };
+        let drawing = Drawing { seed: 2, nodes: 12, unit: 500, deadlines };
         (format!("offsets in ms, claims {claims}"), drawing.rows())
     };
     [("periods", true), ("1", false)].map(table).into()
@@ -32,10 +32,10 @@ fn realistic() -> Vec<Table> {
 
 fn drawn() -> Vec<Table> {
     let mut tables = Vec::new();
-    for nodes in [7, 11, 15] {
+    for (seed, nodes) in [(3, 7), (4, 11), (5, 15)] {
         for (unit, offsets) in [(2500, "in steps"), (1, "fine")] {
             for (deadlines, claims) in [(true, "periods"), (false, "1")] {
-                let drawing = Drawing { seed: nodes.into(), nodes, unit, deadlines };
+                let drawing = Drawing { seed, nodes, unit, deadlines };
                 let name = format!("{nodes} nodes, offsets {offsets}, claims {claims}");
                 tables.push((name, drawing.rows()));
             }
@@ -73,7 +73,7 @@ fn growing_scenarios() -> Vec<Table> {
     let table = |counts: [u32; 2]| {
         (format!("{} x {} x 2 scenarios", counts[0], counts[1]), LONGEST.rows(counts))
     };
-    [[4, 4], [16, 16], [64, 64], [128, 128]].map(table).into()
+    [[4, 4], [16, 16], [128, 128]].map(table).into()
 }
 
 fn growing_window() -> Vec<Table> {
@@ -103,27 +103,12 @@ fn growing_alignments() -> Vec<Table> {
 
 fn worst() -> Vec<Table> {
     vec![
-        ("12650 instances, rough bound".into(), many_looks()),
-        ("6 bursts, one row".into(), ONE_ROW.rows()),
-        ("7 bursts, several rows".into(), SEVERAL_ROWS.rows()),
+        ("12650 instances, 256 alignments a node".into(), many_looks()),
+        ("starts that serve no other scenario".into(), BURSTS.rows()),
     ]
 }
 
-const ONE_ROW: Bursts = Bursts {
-    second: (8, 1207),
-    bursts: &[
-        (41_583, "2"),
-        (244_570, "0"),
-        (406_482, "2"),
-        (586_268, "1"),
-        (769_642, "0"),
-        (853_928, "1"),
-    ],
-    judged: (20, 1, 113_144),
-    alignments: [43, 254],
-};
-
-const SEVERAL_ROWS: Bursts = Bursts {
+const BURSTS: Bursts = Bursts {
     second: (7, 1300),
     bursts: &[
         (26_250, "888387381873"),

@@ -168,22 +168,26 @@ impl Search {
     }
 }
 
-/// The greatest response found, the last window, and the last two starts of each instance.
+/// So many starts are kept for each instance.
+const KEPT: usize = 8;
+
+/// The greatest response found, the last window, and the last starts of each instance.
 #[derive(Default)]
 struct Best {
     response: u64,
     window: u64,
-    starts: Vec<[u64; 2]>,
+    starts: Vec<[u64; KEPT]>,
 }
 
 impl Best {
     fn remember(&mut self, instance: usize, start: u64) {
         if self.starts.len() <= instance {
-            self.starts.resize(instance + 1, [0; 2]);
+            self.starts.resize(instance + 1, [0; KEPT]);
         }
-        let [newer, older] = &mut self.starts[instance];
-        if *newer != start {
-            (*newer, *older) = (start, *newer);
+        let kept = &mut self.starts[instance];
+        if !kept.contains(&start) {
+            kept.rotate_right(1);
+            kept[0] = start;
         }
     }
 }
@@ -295,10 +299,10 @@ impl View {
                 return false;
             };
             let latest = latest.min(LIMITS.window - 1);
-            let [newer, older] = best.starts.get(instance as usize).copied().unwrap_or_default();
+            let kept = best.starts.get(instance as usize).copied().unwrap_or_default();
+            let mut tried = kept.into_iter().take_while(|kept| *kept != 0);
             start.holds(scenario, latest)
-                || newer <= latest && start.holds(scenario, newer)
-                || older <= latest && start.holds(scenario, older)
+                || tried.any(|kept| kept <= latest && start.holds(scenario, kept))
         })
     }
 
