@@ -1,4 +1,5 @@
 -- What is proved of these definitions.
+pub mod Stored
 pub mod Judged
 pub mod Reading
 pub mod Encoding

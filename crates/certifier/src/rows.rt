@@ -9,16 +9,18 @@ use bus_model::Judgement;
 use bus_model::Outcome;
 use frame_table::Checked;
 ghost use mathlib.Core.Path.{_≡_};
-ghost use Prim.Native.Nat.{_<_};
+ghost use Prim.Native.Nat.{_*_, _/_, _≤_, _<_};
 ghost use lib.Dec.{T};
 ghost use lib.IntN.{pos, _-ℤ_};
-ghost use lib.ListN.{length};
+ghost use lib.ListN.{length, take};
 ghost use Rattle.bus_model.specs.Frame.{row};
 ghost use Rattle.bus_model.specs.Bus.{MeetsClaim};
 ghost use Rattle.bus_model.specs.Judgement.{verdict, judge};
 ghost use Rattle.frame_table.specs.Frames.{framesOf};
 ghost use Rattle.frame_table.specs.Table.{Accepted};
-ghost use Rattle.response_time.specs.Grouped.{Grouped, InTable};
+ghost use Rattle.workload.specs.Stored.{stored};
+ghost use Rattle.workload.specs.Kept.{Kept};
+ghost use Rattle.workload.specs.Grouped.{FineTable, Grouped, InTable};
 ghost use Rattle.certifier.specs.Refusal.{ofTable};
 ghost use Rattle.certifier.specs.Judge.{claimOf, judgeRow, certified, boundFrame, boundRow};
 
@@ -53,6 +55,18 @@ pub fn judge(rows: &[u32], row: u64) -> Judged
     }
 }
 
+// Puts the frames of an accepted table into an area.
+fn store(rows: &[u32], frames: &mut [u32])
+    requires { ⌜ Accepted (now rows) × (length (now frames) ≡ 384) ⌝ }
+    ensures { λ _. ⌜ stored (take (6 * (length (now (rows .entry)) / 7)) (now (frames .exit))) ≡ framesOf (now (rows .entry)) ⌝ }
+{
+    let mut i = 0;
+    while i < rows.len() / frame_table::ROW {
+        workload::put(frames, i, frame_table::frame(rows, i));
+        i += 1;
+    }
+}
+
 // The judgement of a row of an accepted table.
 pub fn judge_row(rows: &[u32], i: usize) -> Judgement
     requires { ⌜ Accepted (now rows) ⌝ }
@@ -61,31 +75,64 @@ pub fn judge_row(rows: &[u32], i: usize) -> Judgement
 {
     let k = frame_table::frame(rows, i);
     let claim = rows[frame_table::ROW * i + 6];
-    let mut members = [0u8; response_time::MEMBERS];
-    let mut counts = [0usize; response_time::NODES];
-    let mut ends = [0u32; response_time::NODES];
+    let mut frames = [0u32; workload::FRAMES];
+    store(rows, &mut frames);
+    let used = workload::FRAME * (rows.len() / frame_table::ROW);
+    judge_stored(&frames, used, k, claim)
+}
+
+// The judgement of frame k of a table whose frames are the first numbers of an area.
+fn judge_stored(area: &[u32], used: usize, k: Frame, claim: u32) -> Judgement
+    requires { ⌜ (used ≤ length (now area)) × FineTable (stored (take used (now area))) ⌝ }
+    requires { ⌜ InTable (stored (take used (now area))) k ⌝ }
+    ensures { λ r. ⌜ r ≡ judge (stored (take used (now (area .entry)))) k claim ⌝ }
+{
+    judge_among(&area[0..used], k, claim)
+}
+
+// The judgement of frame k of a table.
+fn judge_among(frames: &[u32], k: Frame, claim: u32) -> Judgement
+    requires { ⌜ FineTable (stored (now frames)) ⌝ }
+    requires { ⌜ InTable (stored (now frames)) k ⌝ }
+    ensures { λ r. ⌜ r ≡ judge (stored (now (frames .entry))) k claim ⌝ }
+{
+    let mut members = [0u8; workload::MEMBERS];
+    let mut counts = [0usize; workload::NODES];
+    let mut ends = [0u32; workload::NODES];
     let mut hints = [0u32; response_time::HINTS];
-    response_time::group(rows, k, &mut members, &mut counts, &mut ends);
-    judge_frame(rows, &members, &counts, &ends, k, claim, &mut hints)
+    let mut sums = [0u64; workload::SUMS];
+    workload::group(frames, k, &mut members, &mut counts, &mut ends);
+    judge_frame(
+        frames,
+        &members,
+        &counts,
+        &ends,
+        k,
+        claim,
+        &mut hints,
+        &mut sums,
+    )
 }
 
 // The judgement of frame k, whose frames ahead are grouped.
 fn judge_frame(
-    rows: &[u32],
+    frames: &[u32],
     members: &[u8],
     counts: &[usize],
     ends: &[u32],
     k: Frame,
     claim: u32,
     hints: &mut [u32],
+    sums: &mut [u64],
 ) -> Judgement
-    requires { ⌜ Accepted (now rows) ⌝ }
-    requires { ⌜ Grouped (now rows) k (now members) (now counts) (now ends) ⌝ }
-    requires { ⌜ InTable (now rows) k ⌝ }
-    ensures { λ r. ⌜ r ≡ judge (framesOf (now (rows .entry))) k claim ⌝ }
+    requires { ⌜ FineTable (stored (now frames)) ⌝ }
+    requires { ⌜ Grouped (stored (now frames)) k (now members) (now counts) (now ends) ⌝ }
+    requires { ⌜ InTable (stored (now frames)) k ⌝ }
+    requires { ⌜ Kept (stored (now frames)) k (now sums) ⌝ }
+    ensures { λ r. ⌜ r ≡ judge (stored (now (frames .entry))) k claim ⌝ }
 {
-    let blocked = response_time::frame_blocking(rows, k);
-    let found = response_time::approximate(rows, members, counts, ends, k, blocked, hints);
+    let blocked = workload::frame_blocking(frames, k);
+    let found = response_time::approximate(frames, members, counts, ends, k, blocked, hints, sums);
     let Found::At(rough) = found else {
         return Judgement {
             outcome: Outcome::NoWindow,
@@ -96,11 +143,11 @@ fn judge_frame(
     if rough <= claim {
         return judged(Outcome::CertifiedApproximate(rough), rough, claim);
     }
-    let scenarios = response_time::scenario_count(rows, members, counts, ends, k);
+    let scenarios = response_time::scenario_count(frames, members, counts, ends, k);
     if response_time::SCENARIO_LIMIT < scenarios {
         return judged(Outcome::Undecided(rough), rough, claim);
     }
-    let exact = response_time::precise(rows, members, counts, ends, k, blocked, hints);
+    let exact = response_time::precise(frames, members, counts, ends, k, blocked, hints, sums);
     if exact <= claim {
         judged(Outcome::CertifiedPrecise(exact), exact, claim)
     } else {
@@ -158,43 +205,76 @@ fn bound_row(rows: &[u32], i: usize) -> Bounded
     ensures { λ r. ⌜ r ≡ boundFrame (framesOf (now (rows .entry))) i ⌝ }
 {
     let k = frame_table::frame(rows, i);
-    let mut members = [0u8; response_time::MEMBERS];
-    let mut counts = [0usize; response_time::NODES];
-    let mut ends = [0u32; response_time::NODES];
+    let mut frames = [0u32; workload::FRAMES];
+    store(rows, &mut frames);
+    let used = workload::FRAME * (rows.len() / frame_table::ROW);
+    bound_stored(&frames, used, k, i)
+}
+
+// The precise bound of frame k, the i-th of a table whose frames are the first numbers of an area.
+fn bound_stored(area: &[u32], used: usize, k: Frame, i: usize) -> Bounded
+    requires { ⌜ (used ≤ length (now area)) × FineTable (stored (take used (now area))) ⌝ }
+    requires { ⌜ (i < length (stored (take used (now area)))) × (k ≡ row (stored (take used (now area))) i) ⌝ }
+    ensures { λ r. ⌜ r ≡ boundFrame (stored (take used (now (area .entry)))) i ⌝ }
+{
+    bound_among(&area[0..used], k, i)
+}
+
+// The precise bound of frame k, the i-th of a table.
+fn bound_among(frames: &[u32], k: Frame, i: usize) -> Bounded
+    requires { ⌜ FineTable (stored (now frames)) ⌝ }
+    requires { ⌜ (i < length (stored (now frames))) × (k ≡ row (stored (now frames)) i) ⌝ }
+    ensures { λ r. ⌜ r ≡ boundFrame (stored (now (frames .entry))) i ⌝ }
+{
+    let mut members = [0u8; workload::MEMBERS];
+    let mut counts = [0usize; workload::NODES];
+    let mut ends = [0u32; workload::NODES];
     let mut hints = [0u32; response_time::HINTS];
-    response_time::group(rows, k, &mut members, &mut counts, &mut ends);
-    bound_frame(rows, &members, &counts, &ends, k, i, &mut hints)
+    let mut sums = [0u64; workload::SUMS];
+    workload::group(frames, k, &mut members, &mut counts, &mut ends);
+    bound_frame(
+        frames,
+        &members,
+        &counts,
+        &ends,
+        k,
+        i,
+        &mut hints,
+        &mut sums,
+    )
 }
 
 // The precise bound of frame k in row i, whose frames ahead are grouped.
 fn bound_frame(
-    rows: &[u32],
+    frames: &[u32],
     members: &[u8],
     counts: &[usize],
     ends: &[u32],
     k: Frame,
     i: usize,
     hints: &mut [u32],
+    sums: &mut [u64],
 ) -> Bounded
-    requires { ⌜ Accepted (now rows) ⌝ }
-    requires { ⌜ Grouped (now rows) k (now members) (now counts) (now ends) ⌝ }
-    requires { ⌜ (i < length (framesOf (now rows))) × (k ≡ row (framesOf (now rows)) i) ⌝ }
-    ensures { λ r. ⌜ r ≡ boundFrame (framesOf (now (rows .entry))) i ⌝ }
+    requires { ⌜ FineTable (stored (now frames)) ⌝ }
+    requires { ⌜ Grouped (stored (now frames)) k (now members) (now counts) (now ends) ⌝ }
+    requires { ⌜ (i < length (stored (now frames))) × (k ≡ row (stored (now frames)) i) ⌝ }
+    requires { ⌜ Kept (stored (now frames)) k (now sums) ⌝ }
+    ensures { λ r. ⌜ r ≡ boundFrame (stored (now (frames .entry))) i ⌝ }
 {
-    let blocked = response_time::frame_blocking(rows, k);
-    let found = response_time::approximate(rows, members, counts, ends, k, blocked, hints);
+    let blocked = workload::frame_blocking(frames, k);
+    let found = response_time::approximate(frames, members, counts, ends, k, blocked, hints, sums);
     let Found::At(_) = found else {
         return Bounded::NotBounded(Refusal {
             cause: Cause::NoWindow,
             place: i as u32,
         });
     };
-    let scenarios = response_time::scenario_count(rows, members, counts, ends, k);
+    let scenarios = response_time::scenario_count(frames, members, counts, ends, k);
     if response_time::SCENARIO_LIMIT < scenarios {
         return Bounded::NotBounded(Refusal {
             cause: Cause::TooManyScenarios,
             place: i as u32,
         });
     }
-    Bounded::Bound(response_time::precise(rows, members, counts, ends, k, blocked, hints))
+    Bounded::Bound(response_time::precise(frames, members, counts, ends, k, blocked, hints, sums))
 }

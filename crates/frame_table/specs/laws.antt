@@ -2,8 +2,6 @@
 pub mod First
 pub mod Limits
 pub mod Lengths
-pub mod Rows
-pub mod Hyperperiod
 pub mod Accepted
 pub mod Layout
 pub mod Sizes

@@ -1,8 +1,4 @@
 -- What is proved of these definitions, for the proofs of the code.
-pub mod Fine
-pub mod Parts
-pub mod Groups
-pub mod Best
 pub mod Searches
 pub mod Levels
 pub mod Within

@@ -1,18 +1,12 @@
-// The bounds of a frame's response time, computed over the rows of an accepted table.
-mod alignments;
+// The bounds of a frame's response time, computed over the frames of an accepted table.
 mod bounds;
-mod groups;
 mod hints;
 mod response;
 mod search;
-mod work;
+mod within;
 
 pub use bounds::SCENARIO_LIMIT;
 pub use bounds::approximate;
 pub use bounds::precise;
 pub use bounds::scenario_count;
-pub use groups::MEMBERS;
-pub use groups::NODES;
-pub use groups::group;
 pub use hints::HINTS;
-pub use search::frame_blocking;

@@ -1,15 +1,13 @@
 // The response times of k in a scenario.
-use crate::hints::KEPT;
-use crate::hints::recall;
 use crate::hints::remember;
 use crate::search::WINDOW_LIMIT;
-use crate::search::is_held;
 use crate::search::settle;
-use crate::work::distance_from;
-use crate::work::releases_before;
+use crate::within::is_within;
 use arith::Found;
 use bus_model::Choice;
 use bus_model::Frame;
+use workload::distance_from;
+use workload::releases_before;
 ghost use mathlib.Core.Path.{_≡_};
 ghost use mathlib.Core.Bool.{true};
 ghost use Prim.Native.Nat.{ℕ, _+_, _-_, _*_, _≤_, _<_, max};
@@ -19,9 +17,9 @@ ghost use Rattle.arith.specs.declared.Found.the-variants.{At};
 ghost use Rattle.bus_model.specs.declared.Choice.the-variants.{Fixed};
 ghost use Rattle.bus_model.specs.Bounds.{choiceOf, blocking, busyWindow, responseTime, scenarioResponse};
 ghost use Rattle.bus_model.specs.theory.Approximate.{both, scenarioFound};
-ghost use Rattle.frame_table.specs.Frames.{framesOf};
-ghost use Rattle.frame_table.specs.Table.{Accepted};
-ghost use Rattle.response_time.specs.Grouped.{Grouped, InTable};
+ghost use Rattle.workload.specs.Stored.{stored};
+ghost use Rattle.workload.specs.Grouped.{Grouped, InTable, FineTable};
+ghost use Rattle.workload.specs.Kept.{Kept};
 ghost use Rattle.response_time.specs.Load.{holds, latestStart, WindowWithin};
 
 pub fn bigger(a: u32, b: u32) -> u32
@@ -53,7 +51,7 @@ fn response(delay: u32, length: u32, released: u32) -> u32
 
 // The greatest response of the instances released in the scenario's busy window, whose length is l.
 fn greatest_response(
-    rows: &[u32],
+    frames: &[u32],
     members: &[u8],
     counts: &[usize],
     ends: &[u32],
@@ -64,21 +62,21 @@ fn greatest_response(
     l: u32,
     hints: &mut [u32],
 ) -> u32
-    requires { ⌜ Accepted (now rows) ⌝ }
-    requires { ⌜ Grouped (now rows) k (now members) (now counts) (now ends) ⌝ }
-    requires { ⌜ InTable (now rows) k ⌝ }
-    requires { ⌜ (choiceOf choices (k .node) ≡ Fixed own) × (blocked ≡ blocking (framesOf (now rows)) k) × (busyWindow (framesOf (now rows)) k choices ≡ At l) ⌝ }
-    ensures { λ r. ⌜ r ≡ responseTime (framesOf (now (rows .entry))) k choices l ⌝ }
+    requires { ⌜ FineTable (stored (now frames)) ⌝ }
+    requires { ⌜ Grouped (stored (now frames)) k (now members) (now counts) (now ends) ⌝ }
+    requires { ⌜ InTable (stored (now frames)) k ⌝ }
+    requires { ⌜ (choiceOf choices (k .node) ≡ Fixed own) × (blocked ≡ blocking (stored (now frames)) k) × (busyWindow (stored (now frames)) k choices ≡ At l) ⌝ }
+    ensures { λ r. ⌜ r ≡ responseTime (stored (now (frames .entry))) k choices l ⌝ }
 {
-    let d = distance_from(k, own);
-    let instances = releases_before(d, k.period, l);
+    let d = distance_from(k, own, 0);
+    let instances = releases_before(d, k.period, l, 0);
     let mut best: u32 = 0;
     let mut from: u32 = 0;
     let mut q: u32 = 0;
     while q < instances {
         let base = blocked as u64 + q as u64 * k.length as u64;
         let found = settle(
-            rows,
+            frames,
             members,
             counts,
             ends,
@@ -101,7 +99,7 @@ fn greatest_response(
 
 // The busy window of a scenario.
 pub fn busy_window(
-    rows: &[u32],
+    frames: &[u32],
     members: &[u8],
     counts: &[usize],
     ends: &[u32],
@@ -109,14 +107,14 @@ pub fn busy_window(
     choices: [Choice; 16],
     blocked: u32,
 ) -> Found
-    requires { ⌜ Accepted (now rows) ⌝ }
-    requires { ⌜ Grouped (now rows) k (now members) (now counts) (now ends) ⌝ }
-    requires { ⌜ InTable (now rows) k ⌝ }
-    requires { ⌜ blocked ≡ blocking (framesOf (now rows)) k ⌝ }
-    ensures { λ r. ⌜ r ≡ busyWindow (framesOf (now (rows .entry))) k choices ⌝ }
+    requires { ⌜ FineTable (stored (now frames)) ⌝ }
+    requires { ⌜ Grouped (stored (now frames)) k (now members) (now counts) (now ends) ⌝ }
+    requires { ⌜ InTable (stored (now frames)) k ⌝ }
+    requires { ⌜ blocked ≡ blocking (stored (now frames)) k ⌝ }
+    ensures { λ r. ⌜ r ≡ busyWindow (stored (now (frames .entry))) k choices ⌝ }
 {
     settle(
-        rows,
+        frames,
         members,
         counts,
         ends,
@@ -132,7 +130,7 @@ pub fn busy_window(
 
 // The greatest response of a scenario in which k's node has alignment `own`, where it has a busy window.
 pub fn scenario_response(
-    rows: &[u32],
+    frames: &[u32],
     members: &[u8],
     counts: &[usize],
     ends: &[u32],
@@ -142,19 +140,19 @@ pub fn scenario_response(
     blocked: u32,
     hints: &mut [u32],
 ) -> Found
-    requires { ⌜ Accepted (now rows) ⌝ }
-    requires { ⌜ Grouped (now rows) k (now members) (now counts) (now ends) ⌝ }
-    requires { ⌜ InTable (now rows) k ⌝ }
-    requires { ⌜ (choiceOf choices (k .node) ≡ Fixed own) × (blocked ≡ blocking (framesOf (now rows)) k) ⌝ }
-    ensures { λ r. ⌜ r ≡ scenarioFound (framesOf (now (rows .entry))) k choices ⌝ }
+    requires { ⌜ FineTable (stored (now frames)) ⌝ }
+    requires { ⌜ Grouped (stored (now frames)) k (now members) (now counts) (now ends) ⌝ }
+    requires { ⌜ InTable (stored (now frames)) k ⌝ }
+    requires { ⌜ (choiceOf choices (k .node) ≡ Fixed own) × (blocked ≡ blocking (stored (now frames)) k) ⌝ }
+    ensures { λ r. ⌜ r ≡ scenarioFound (stored (now (frames .entry))) k choices ⌝ }
 {
-    let found = busy_window(rows, members, counts, ends, k, choices, blocked);
+    let found = busy_window(frames, members, counts, ends, k, choices, blocked);
     let Found::At(l) = found else {
         return Found::Nothing;
     };
     remember(hints, 0, l);
     Found::At(greatest_response(
-        rows,
+        frames,
         members,
         counts,
         ends,
@@ -167,181 +165,9 @@ pub fn scenario_response(
     ))
 }
 
-// The latest start below the window's limit with a response of `most` at the most, for a release at a tick.
-fn latest_start(most: u32, length: u32, released: u32) -> Found
-    requires { ⌜ released ≤ 1000000 ⌝ }
-    ensures { λ r. ⌜ r ≡ latestStart most length released ⌝ }
-{
-    let end = most as u64 + released as u64;
-    if end < length as u64 {
-        return Found::Nothing;
-    }
-    let start = end - length as u64;
-    if start < WINDOW_LIMIT as u64 {
-        Found::At(start as u32)
-    } else {
-        Found::At(WINDOW_LIMIT - 1)
-    }
-}
-
-// Whether a start by `latest` is found: at that itself, or where one like it was. If it is not, there may still be one.
-fn starts_by(
-    rows: &[u32],
-    members: &[u8],
-    counts: &[usize],
-    ends: &[u32],
-    k: Frame,
-    choices: [Choice; 16],
-    own: u32,
-    base: u64,
-    latest: u32,
-    hints: &[u32],
-    at: usize,
-) -> bool
-    requires { ⌜ Accepted (now rows) ⌝ }
-    requires { ⌜ Grouped (now rows) k (now members) (now counts) (now ends) ⌝ }
-    requires { ⌜ InTable (now rows) k ⌝ }
-    requires { ⌜ (choiceOf choices (k .node) ≡ Fixed own) × (base ≤ 1000000000) × (latest ≤ 1000000) ⌝ }
-    ensures { λ r. ⌜ (T r → (x : ℕ) × (x ≤ latest) × T (holds (framesOf (now (rows .entry))) k choices true base x)) ⌝ }
-{
-    if is_held(
-        rows,
-        members,
-        counts,
-        ends,
-        k,
-        choices,
-        own,
-        true,
-        base,
-        latest,
-    ) {
-        return true;
-    }
-    let mut i = 0;
-    while i < KEPT {
-        let x = recall(hints, at, i);
-        if x == 0 {
-            return false;
-        }
-        if x <= latest && is_held(rows, members, counts, ends, k, choices, own, true, base, x) {
-            return true;
-        }
-        i += 1;
-    }
-    false
-}
-
-// A length that the scenario's window does not exceed, where `limit` is one: the last window, if it would do here.
-fn window_limit(
-    rows: &[u32],
-    members: &[u8],
-    counts: &[usize],
-    ends: &[u32],
-    k: Frame,
-    choices: [Choice; 16],
-    blocked: u32,
-    limit: u32,
-    hints: &[u32],
-) -> u32
-    requires { ⌜ Accepted (now rows) ⌝ }
-    requires { ⌜ Grouped (now rows) k (now members) (now counts) (now ends) ⌝ }
-    requires { ⌜ InTable (now rows) k ⌝ }
-    requires { ⌜ (blocked ≡ blocking (framesOf (now rows)) k) × (limit ≤ 1000000) ⌝ }
-    ensures { λ r. ⌜ ((l : ℕ) → busyWindow (framesOf (now (rows .entry))) k choices ≡ At l → l ≤ limit → l ≤ r) ⌝ }
-    ensures small { λ r. ⌜ r ≤ limit ⌝ }
-{
-    let last = recall(hints, 0, 0);
-    if last == 0 || limit <= last {
-        return limit;
-    }
-    if is_held(
-        rows,
-        members,
-        counts,
-        ends,
-        k,
-        choices,
-        0,
-        false,
-        blocked as u64,
-        last,
-    ) {
-        last
-    } else {
-        limit
-    }
-}
-
-// Whether no response of the scenario exceeds `most`, as far as the starts that are tried tell. If one does, they never do.
-pub fn is_within(
-    rows: &[u32],
-    members: &[u8],
-    counts: &[usize],
-    ends: &[u32],
-    k: Frame,
-    choices: [Choice; 16],
-    own: u32,
-    blocked: u32,
-    limit: u32,
-    most: u32,
-    hints: &[u32],
-) -> bool
-    requires { ⌜ Accepted (now rows) ⌝ }
-    requires { ⌜ Grouped (now rows) k (now members) (now counts) (now ends) ⌝ }
-    requires { ⌜ InTable (now rows) k ⌝ }
-    requires { ⌜ (choiceOf choices (k .node) ≡ Fixed own) × (blocked ≡ blocking (framesOf (now rows)) k) ⌝ }
-    requires { ⌜ (limit ≤ 1000000) × WindowWithin (framesOf (now rows)) k choices limit ⌝ }
-    ensures { λ r. ⌜ (T r → scenarioResponse (framesOf (now (rows .entry))) k choices ≤ most) ⌝ }
-{
-    let d = distance_from(k, own);
-    if limit <= d {
-        return true;
-    }
-    let l = window_limit(
-        rows,
-        members,
-        counts,
-        ends,
-        k,
-        choices,
-        blocked,
-        limit,
-        hints,
-    );
-    let releases = releases_before(d, k.period, l);
-    let mut q: u32 = 0;
-    while q < releases {
-        let base = blocked as u64 + q as u64 * k.length as u64;
-        let found = latest_start(most, k.length, d + q * k.period);
-        let Found::At(latest) = found else {
-            return false;
-        };
-        let at = q as usize + 1;
-        let tried = starts_by(
-            rows,
-            members,
-            counts,
-            ends,
-            k,
-            choices,
-            own,
-            base,
-            latest,
-            hints,
-            at,
-        );
-        if !tried {
-            return false;
-        }
-        q += 1;
-    }
-    true
-}
-
-// The greater of `most` and the scenario's response, where it has a busy window; `limit`, if there is one, is not below that.
-pub fn raised(
-    rows: &[u32],
+// Whether no response of a scenario whose window `limit` bounds, if it is there, exceeds `most`, as far as is_within tells.
+fn is_limited(
+    frames: &[u32],
     members: &[u8],
     counts: &[usize],
     ends: &[u32],
@@ -351,18 +177,22 @@ pub fn raised(
     blocked: u32,
     limit: Found,
     most: u32,
-    hints: &mut [u32],
-) -> Found
-    requires { ⌜ Accepted (now rows) ⌝ }
-    requires { ⌜ Grouped (now rows) k (now members) (now counts) (now ends) ⌝ }
-    requires { ⌜ InTable (now rows) k ⌝ }
-    requires { ⌜ (choiceOf choices (k .node) ≡ Fixed own) × (blocked ≡ blocking (framesOf (now rows)) k) ⌝ }
-    requires { ⌜ ((l : ℕ) → limit ≡ At l → (l ≤ 1000000) × WindowWithin (framesOf (now rows)) k choices l) ⌝ }
-    ensures { λ r. ⌜ r ≡ both (At most) (scenarioFound (framesOf (now (rows .entry))) k choices) ⌝ }
+    open: bool,
+    hints: &[u32],
+    sums: &mut [u64],
+) -> bool
+    requires { ⌜ FineTable (stored (now frames)) ⌝ }
+    requires { ⌜ Grouped (stored (now frames)) k (now members) (now counts) (now ends) ⌝ }
+    requires { ⌜ InTable (stored (now frames)) k ⌝ }
+    requires { ⌜ (choiceOf choices (k .node) ≡ Fixed own) × (blocked ≡ blocking (stored (now frames)) k) ⌝ }
+    requires { ⌜ ((l : ℕ) → limit ≡ At l → (l ≤ 1000000) × WindowWithin (stored (now frames)) k choices l) ⌝ }
+    requires { ⌜ Kept (stored (now frames)) k (now sums) ⌝ }
+    ensures { λ r. ⌜ (T r → At most ≡ both (At most) (scenarioFound (stored (now (frames .entry))) k choices)) ⌝ }
+    ensures kept { λ _. ⌜ Kept (stored (now (frames .entry))) k (now (sums .exit)) ⌝ }
 {
-    if let Found::At(l) = limit {
-        if is_within(
-            rows,
+    match limit {
+        Found::At(l) => is_within(
+            frames,
             members,
             counts,
             ends,
@@ -372,12 +202,68 @@ pub fn raised(
             blocked,
             l,
             most,
+            open,
             hints,
-        ) {
-            return Found::At(most);
-        }
+            sums,
+        ),
+        Found::Nothing => false,
     }
-    let found = scenario_response(rows, members, counts, ends, k, choices, own, blocked, hints);
+}
+
+// The greater of `most` and the scenario's response, where it has a busy window; `limit`, if there is one, is not below that.
+// `open` tells that some node stands at `Any`.
+pub fn raised(
+    frames: &[u32],
+    members: &[u8],
+    counts: &[usize],
+    ends: &[u32],
+    k: Frame,
+    choices: [Choice; 16],
+    own: u32,
+    blocked: u32,
+    limit: Found,
+    most: u32,
+    open: bool,
+    hints: &mut [u32],
+    sums: &mut [u64],
+) -> Found
+    requires { ⌜ FineTable (stored (now frames)) ⌝ }
+    requires { ⌜ Grouped (stored (now frames)) k (now members) (now counts) (now ends) ⌝ }
+    requires { ⌜ InTable (stored (now frames)) k ⌝ }
+    requires { ⌜ (choiceOf choices (k .node) ≡ Fixed own) × (blocked ≡ blocking (stored (now frames)) k) ⌝ }
+    requires { ⌜ ((l : ℕ) → limit ≡ At l → (l ≤ 1000000) × WindowWithin (stored (now frames)) k choices l) ⌝ }
+    requires { ⌜ Kept (stored (now frames)) k (now sums) ⌝ }
+    ensures { λ r. ⌜ r ≡ both (At most) (scenarioFound (stored (now (frames .entry))) k choices) ⌝ }
+    ensures kept { λ _. ⌜ Kept (stored (now (frames .entry))) k (now (sums .exit)) ⌝ }
+{
+    if is_limited(
+        frames,
+        members,
+        counts,
+        ends,
+        k,
+        choices,
+        own,
+        blocked,
+        limit,
+        most,
+        open,
+        hints,
+        sums,
+    ) {
+        return Found::At(most);
+    }
+    let found = scenario_response(
+        frames,
+        members,
+        counts,
+        ends,
+        k,
+        choices,
+        own,
+        blocked,
+        hints,
+    );
     let Found::At(response) = found else {
         return Found::Nothing;
     };

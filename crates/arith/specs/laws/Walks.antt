@@ -1,8 +1,8 @@
--- Loops that go once through a list, rising: through a range, or through those numbers of it that pass a test, found one
--- after the other by a least search. `join done (F rest)` is what the loop is to find, where `done` is what it has gathered
+-- Loops that go once through a list. Most go up: through a range, or through those numbers of it that pass a test, found one
+-- after the other by a least search. `join done (F rest)` is what such a loop is to find, where `done` is what it has gathered
 -- and `rest` is what is left: sums, products, greatest values, counts and selections are each an F and a join.
 use Prim.Native.Nat.{ℕ, zero, suc, _+_, _-_, _*_, _≤_, _<_, min, max}
-use mathlib.Core.Path.{_≡_, refl, sym, _∙_}
+use mathlib.Core.Path.{_≡_, refl, sym, ap, _∙_}
 use mathlib.Core.List.{List, [], _∷_, _++_, List·Memᴰ as Mem}
 use mathlib.Core.Bool.{Bool, true, false, cond}
 use native.Mathlib.Nat.{sub-zero, mul-assoc, mul-zero, mul-suc}
@@ -10,7 +10,7 @@ use native.Mathlib.Numerals.{add-one}
 use native.Mathlib.Decide.{decLe}
 use native.Mathlib.Omega.{arith}
 use lib.ListN.{length, getD, drop, drop-of-length-le}
-use lib.Seq.{drop-cons, append-snoc}
+use lib.Seq.{drop-cons, drop-length, append-snoc}
 use Rattle.arith.specs.Lists.{sum, product, greatest, keep, range}
 use Rattle.arith.specs.Least.{least}
 use Rattle.arith.specs.laws.Members.{mem-keep, mem-range}
@@ -186,3 +186,29 @@ module _ {X A B : Type 0} (F : List X → B) (join : A → B → B) (xs : List X
   -- It ends after the last.
   pub through-end : {done : A} {i : ℕ} → Through F join xs goal done i → length xs ≤ i → join done (F []) ≡ goal
   through-end {i = i} t over = rw (drop-of-length-le xs {i = i} over) at (t .is)
+
+-- ---- down through the elements of a list
+
+-- The loop has come down to place i: acc is the fold F of the elements from there on.
+pub record Down {X B : Type 0} (F : List X → B) (xs : List X) (acc : B) (i : ℕ) : Type 0 where
+  pub inside : i ≤ length xs
+  pub is : acc ≡ F (drop i xs)
+
+module _ {X B : Type 0} (F : List X → B) (xs : List X) where
+  -- It starts behind the last element.
+  pub down-start : {z : B} → z ≡ F [] → Down F xs z (length xs)
+  down-start e = record { inside = omega arith; is = e ∙ ap F (sym (drop-length xs)) }
+
+  -- It takes the element before, and `step` is what an element more does to the fold.
+  pub down-more : (step : X → B → B) → ((x : X) (ys : List X) → F (x ∷ ys) ≡ step x (F ys))
+      → (d : X) {i : ℕ} {x : X} {acc next : B} → Down F xs acc i → 0 < i → x ≡ getD xs (i - 1) d → next ≡ step x acc → Down F xs next (i - 1)
+  down-more step cons d {i} {x} t pos read is =
+      let after : suc (i - 1) ≡ i = omega arith in
+      record {
+        inside = omega (arith, t .inside);
+        is = is ∙ ap (step x) (t .is) ∙ sym (cons x (drop i xs)) ∙ ap (λ y. F (y ∷ drop i xs)) read ∙ ap F (sym (rw after at (drop-cons xs (i - 1) d (omega (arith, t .inside)))));
+      }
+
+  -- It ends with the first.
+  pub down-end : {acc : B} {i : ℕ} → Down F xs acc i → i ≤ 0 → acc ≡ F xs
+  down-end {i = i} t over = let first : i ≡ 0 = omega arith in rw first at (t .is)

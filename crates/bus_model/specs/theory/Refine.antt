@@ -1,5 +1,6 @@
 -- The bounds found node by node: one node after the other takes each of its alignments, and the greatest response counts.
--- A branch may be left out where its scenario with the open nodes at `Any` has no greater response than one already found.
+-- A branch may be left out where its scenario with the open nodes at `Any` has no greater response than one already found, or where
+-- none has in which one of these nodes takes an alignment.
 use Prim.Native.Nat.{ℕ, zero, suc, _+_, _-_, _≤_, _<_}
 use mathlib.Core.Path.{_≡_, refl, sym, ap, _∙_}
 use mathlib.Core.List.{List, [], _∷_, map, List·Memᴰ as Mem, List·Memᴰ·head as here, List·Memᴰ·tail as there, List·Memᴰ·not-nil, List·Memᴰ·cases-cons, List·Memᴰ·eq-of-singleton, Memᴰ·map}
@@ -21,7 +22,7 @@ use Rattle.bus_model.specs.Valid.{ValidFrame, Valid}
 use Rattle.bus_model.specs.Bounds.{nodes, alignments, orEmpty, choiceOf, choices, scenarios, ownNode, everyNode, busyWindow, scenarioResponse, boundOf, preciseBound, approximateBound}
 use Rattle.bus_model.specs.theory.Frames.{node-listed}
 use Rattle.bus_model.specs.theory.Work.{Allows, RefinedBy}
-use Rattle.bus_model.specs.theory.Response.{response-refine}
+use Rattle.bus_model.specs.theory.Response.{window-refine, response-refine}
 use Rattle.bus_model.specs.theory.Scenarios.{scenario-is, mem-scenarios, of-scenarios, scenarios-length, fixed-choice, allows-self}
 use Rattle.arith.specs.declared.Found.the-variants.{At}
 use Rattle.bus_model.specs.declared.Frame.{Frame}
@@ -47,7 +48,7 @@ module _ (cs : List Choice) {j : ℕ} (listed : Mem j (range 1 nodes)) where
   set-same a long = let (low, high) = of-range 1 nodes listed in getD-set-same cs (j - 1) (Fixed a) Any (omega arith)
 
   -- The others stand as before.
-  pub set-other : (a : ℕ) {i : ℕ} → Mem i (range 1 nodes) → i ≢ j → choiceOf (set cs (j - 1) (Fixed a)) i ≡ choiceOf cs i
+  set-other : (a : ℕ) {i : ℕ} → Mem i (range 1 nodes) → i ≢ j → choiceOf (set cs (j - 1) (Fixed a)) i ≡ choiceOf cs i
   set-other a {i} m other =
       let (low, high) = of-range 1 nodes listed in
       let (i-low, i-high) = of-range 1 nodes m in
@@ -221,7 +222,7 @@ module _ (k : Frame) where
   node-after (suc i) some le = rw (le-ltb (suc i) (k .node) le) (omega arith)
 
   -- Two levels have two nodes.
-  pub node-apart : (i m : ℕ) → i < m → nodeAt k i ≢ nodeAt k m
+  node-apart : (i m : ℕ) → i < m → nodeAt k i ≢ nodeAt k m
   node-apart zero m less e =
       elim (decLt m (k .node)) [
         | yes low ↦ omega (arith, node-first, node-before m less low)
@@ -339,14 +340,51 @@ module _ {k : Frame} (valid : ValidFrame k) where
 -- ---- leaving out a branch
 
 -- What a fixed choice allows is that choice.
-pub allowed-fixed : (als : List ℕ) {a : ℕ} (c : Choice) → Allows als (Fixed a) c → c ≡ Fixed a
+allowed-fixed : (als : List ℕ) {a : ℕ} (c : Choice) → Allows als (Fixed a) c → c ≡ Fixed a
 unfolding Allows
 allowed-fixed als (Fixed b) e = ap Fixed (sym e)
 allowed-fixed als Any none = absurd none
 
+module _ (fs : List Frame) (k : Frame) (cs cs′ : List Choice) (refines : RefinedBy fs k cs cs′) where
+  -- A scenario that refines cs fixes the same alignment of k's own node.
+  pub own-kept : ValidFrame k → {a : ℕ} → choiceOf cs (k .node) ≡ Fixed a → choiceOf cs′ (k .node) ≡ Fixed a
+  own-kept valid fixed = allowed-fixed (alignments fs k (k .node)) (choiceOf cs′ (k .node)) (rw fixed at (refines (k .node) (node-listed valid)))
+
+  module _ {j : ℕ} (listed : Mem j (range 1 nodes)) {a : ℕ} where
+    -- It still does with an alignment more, of a node that cs leaves open.
+    refines-more : length cs′ ≡ nodes → choiceOf cs j ≡ Any → Mem a (orEmpty (alignments fs k j)) → RefinedBy fs k cs (set cs′ (j - 1) (Fixed a))
+    unfolding Allows
+    refines-more long left m i l =
+        elim (ℕ-discrete i j) [
+          | yes e ↦ rw (e, set-same cs′ listed a long, left) m
+          | no other ↦ rw (set-other cs′ listed a l other) (refines i l)
+        ]
+
+    -- Where it has that alignment, it refines cs with that alignment too.
+    refines-taken : length cs ≡ nodes → choiceOf cs′ j ≡ Fixed a → RefinedBy fs k (set cs (j - 1) (Fixed a)) cs′
+    refines-taken long taken i l =
+        elim (ℕ-discrete i j) [
+          | yes e ↦ rw (e, set-same cs listed a long, taken) (allows-self (alignments fs k j) (Fixed a))
+          | no other ↦ rw (set-other cs listed a l other) (refines i l)
+        ]
+
+-- A scenario refines itself,
+refines-self : (fs : List Frame) (k : Frame) (cs : List Choice) → RefinedBy fs k cs cs
+refines-self fs k cs j l = allows-self (alignments fs k j) (choiceOf cs j)
+
+-- and it is refined by an alignment of a node that is open.
+pub refines-node : (fs : List Frame) (k : Frame) (cs : List Choice) {j : ℕ} → Mem j (range 1 nodes) → {a : ℕ} → length cs ≡ nodes → choiceOf cs j ≡ Any
+    → Mem a (orEmpty (alignments fs k j)) → RefinedBy fs k cs (set cs (j - 1) (Fixed a))
+refines-node fs k cs listed = refines-more fs k cs cs (refines-self fs k cs) listed
+
 module _ {fs : List Frame} (valid : Valid fs) {k : ℕ} (inside : k < length fs) where
   abbrev f : Frame
   f = row fs k
+
+  -- No scenario that refines one with a window has a greater response, where the frame's own node is fixed.
+  response-below : (cs cs′ : List Choice) → RefinedBy fs f cs cs′ → {a : ℕ} → choiceOf cs (f .node) ≡ Fixed a → {l : ℕ} → busyWindow fs f cs ≡ At l
+      → scenarioResponse fs f cs′ ≤ scenarioResponse fs f cs
+  response-below cs cs′ refines {a} own {l} window = response-refine valid inside cs cs′ refines l window a own (own-kept fs f cs cs′ refines (valid .frame k inside) own)
 
   -- cs′ refines cs, and cs leaves the nodes js open
   record Finer (cs : List Choice) (js : List ℕ) (cs′ : List Choice) : Type 0 where
@@ -357,34 +395,65 @@ module _ {fs : List Frame} (valid : Valid fs) {k : ℕ} (inside : k < length fs)
 
   -- one more node takes its alignment
   finer-more : (cs : List Choice) (j : ℕ) (js : List ℕ) (cs′ : List Choice) (a : ℕ) → Mem a (orEmpty (alignments fs f j)) → Finer cs (j ∷ js) cs′ → Finer cs js (set cs′ (j - 1) (Fixed a))
-  unfolding Allows
   finer-more cs j js cs′ a m p =
       record {
         long = length-set cs′ (j - 1) (Fixed a) ∙ p .long;
         node = λ i l. p .node i (there l);
         left = λ i l. p .left i (there l);
-        refines = λ i l. elim (ℕ-discrete i j) [
-          | yes e ↦ rw (e, set-same cs′ (p .node j (here refl)) a (p .long), p .left j (here refl)) m
-          | no other ↦ rw (set-other cs′ (p .node j (here refl)) a l other) (p .refines i l)
-        ];
+        refines = refines-more fs f cs cs′ (p .refines) (p .node j (here refl)) (p .long) (p .left j (here refl)) m;
       }
 
-  -- No scenario that fixes more nodes has a greater response, where the frame's own node is fixed and there is a window.
-  pub refined-below : (js : List ℕ) (cs : List Choice) → length cs ≡ nodes → ((j : ℕ) → Mem j js → Mem j (range 1 nodes)) → ((j : ℕ) → Mem j js → choiceOf cs j ≡ Any)
-      → (a : ℕ) → choiceOf cs (f .node) ≡ Fixed a → (l : ℕ) → busyWindow fs f cs ≡ At l → refined fs f js cs ≤ scenarioResponse fs f cs
-  refined-below js cs long node left a own l window =
-      refined-le fs f js cs (λ cs′ leaf.
-      let same : Finer cs js cs = record { long = long; node = node; left = left; refines = λ i m. allows-self (alignments fs f i) (choiceOf cs i) } in
-      let finer = leaf-keeps fs f (Finer cs) (finer-more cs) js same leaf in
-      let mine = allowed-fixed (alignments fs f (f .node)) (choiceOf cs′ (f .node)) (rw own at (finer .refines (f .node) (node-listed (valid .frame k inside)))) in
-      response-refine valid inside cs cs′ (finer .refines) l window a own mine)
+  -- besides, the node i is one of js or has taken one of its alignments
+  abbrev Split : ℕ → List Choice → List ℕ → List Choice → Type 0
+  Split i cs js cs′ = Finer cs js cs′ × (Mem i js ⊎ ((a : ℕ) × Mem a (orEmpty (alignments fs f i)) × (choiceOf cs′ i ≡ Fixed a)))
 
-  -- So a branch may be left out at each level but the first, where its scenario has a window and no greater response than what is found.
-  pub pruned : {i : ℕ} {cs : List Choice} → Level f i cs → 0 < i → (stop : ℕ) → stop ≤ nodes → (l : ℕ) → busyWindow fs f cs ≡ At l
-      → refined fs f (levels f i stop) cs ≤ scenarioResponse fs f cs
-  pruned {i} {cs} level some stop within l window =
-      let (a, own) = level .own some in
-      refined-below (levels f i stop) cs (level .long)
-      (λ j m. let (n, low, high, e) = of-levels f i stop m in rw e (level-node f (valid .frame k inside) n (omega arith)))
-      (λ j m. let (n, low, high, e) = of-levels f i stop m in rw e (level .left n low (omega arith)))
-      a own l window
+  split-more : {i : ℕ} → Mem i (range 1 nodes) → (cs : List Choice) (j : ℕ) (js : List ℕ) (cs′ : List Choice) (a : ℕ) → Mem a (orEmpty (alignments fs f j))
+      → Split i cs (j ∷ js) cs′ → Split i cs js (set cs′ (j - 1) (Fixed a))
+  split-more {i} listed cs j js cs′ a m (p, takes) = (
+    finer-more cs j js cs′ a m p,
+    elim (ℕ-discrete i j) [
+      | yes e ↦ inr (rw e (a, m, set-same cs′ (p .node j (here refl)) a (p .long)))
+      | no other ↦ elim takes [
+        | inl later ↦ elim (List·Memᴰ·cases-cons later) [ inl now ↦ absurd (other now) | inr n ↦ inl n ]
+        | inr (b, n, taken) ↦ inr (b, n, set-other cs′ (p .node j (here refl)) a listed other ∙ taken)
+      ]
+    ],
+  )
+
+  -- A search has come to a level after the first, and its scenario has a window.
+  module _ {i : ℕ} {cs : List Choice} (level : Level f i cs) (some : 0 < i) (stop : ℕ) (within : stop ≤ nodes) (l : ℕ) (window : busyWindow fs f cs ≡ At l) where
+    self : ValidFrame f
+    self = valid .frame k inside
+
+    -- nothing is refined yet
+    unrefined : Finer cs (levels f i stop) cs
+    unrefined =
+        record {
+          long = level .long;
+          node = λ j m. let (n, low, high, e) = of-levels f i stop m in rw e (level-node f self n (omega arith));
+          left = λ j m. let (n, low, high, e) = of-levels f i stop m in rw e (level .left n low (omega arith));
+          refines = refines-self fs f cs;
+        }
+
+    -- The branch may be left out where that has no greater response than what is found,
+    pub pruned : refined fs f (levels f i stop) cs ≤ scenarioResponse fs f cs
+    pruned =
+        refined-le fs f (levels f i stop) cs (λ cs′ leaf.
+        response-below cs cs′ (leaf-keeps fs f (Finer cs) (finer-more cs) (levels f i stop) unrefined leaf .refines) (level .own some .1) window)
+
+    -- or where none has with an alignment of the node of a level that is left.
+    pub split-pruned : {m : ℕ} → i ≤ m → m < stop → {most : ℕ}
+        → ((a : ℕ) → Mem a (orEmpty (alignments fs f (nodeAt f m))) → scenarioResponse fs f (set cs (nodeAt f m - 1) (Fixed a)) ≤ most) → refined fs f (levels f i stop) cs ≤ most
+    unfolding levels
+    split-pruned {m} low high each =
+        let listed = level-node f self m (omega arith) in
+        refined-le fs f (levels f i stop) cs (λ cs′ leaf.
+        let (finer, takes) = leaf-keeps fs f (Split (nodeAt f m) cs) (split-more listed cs) (levels f i stop) (unrefined, inl (Memᴰ·map (nodeAt f) (mem-range i (stop - i) m low (omega arith)))) leaf in
+        elim takes [
+          | inl none ↦ absurd (List·Memᴰ·not-nil none)
+          | inr (a, n, taken) ↦
+              let split = refines-node fs f cs listed (level .long) (level .left m low (omega arith)) n in
+              let cs″ = set cs (nodeAt f m - 1) (Fixed a) in
+              let (l′, window′, shorter) = window-refine valid inside cs cs″ split l window in
+              le-trans (response-below cs″ cs′ (refines-taken fs f cs cs′ (finer .refines) listed (level .long) taken) (own-kept fs f cs cs″ split self (level .own some .1)) window′) (each a n)
+        ])

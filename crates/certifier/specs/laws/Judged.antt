@@ -28,7 +28,7 @@ use Rattle.frame_table.specs.declared.Checked.the-variants.{Passed, Failed}
 use Rattle.frame_table.specs.Frames.{framesOf}
 use Rattle.frame_table.specs.Table.{rowsCheck, Accepted}
 use Rattle.frame_table.specs.laws.Accepted.{length-frames, accepted-size, accepted-limits, accepted-valid}
-use Rattle.response_time.specs.Grouped.{InTable}
+use Rattle.workload.specs.Grouped.{FineTable, InTable}
 use Rattle.certifier.specs.declared.Cause.{Cause}
 use Rattle.certifier.specs.declared.Refusal.{Refusal}
 use Rattle.certifier.specs.declared.Judged.{Judged}
@@ -45,17 +45,17 @@ pub record Approximated (fs : List Frame) (k : Frame) (b : ℕ) : Type 0 where
   pub windows : lacksWindow fs k ≡ false
   pub bound : approximateBound fs k ≡ b
 
-module _ {rows : List ℕ} {k : Frame} (accepted : Accepted rows) (inside : InTable rows k) {found : Found} (is : found ≡ approximateFound (framesOf rows) k) where
+module _ {fs : List Frame} {k : Frame} (table : FineTable fs) (inside : InTable fs k) {found : Found} (is : found ≡ approximateFound fs k) where
   valid : ValidFrame k
-  valid = rw (inside .is) (accepted-valid rows accepted .frame (inside .at) (inside .inside))
+  valid = rw (inside .is) (table .valid .frame (inside .at) (inside .inside))
 
   -- Nothing is found where a window is missing,
-  pub found-none : found ≡ Nothing → lacksWindow (framesOf rows) k ≡ true
-  found-none none = approximate-none (framesOf rows) valid .0 (sym is ∙ none)
+  pub found-none : found ≡ Nothing → lacksWindow fs k ≡ true
+  found-none none = approximate-none fs valid .0 (sym is ∙ none)
 
   -- and otherwise the approximate bound.
-  pub found-bound : {b : ℕ} → found ≡ At b → Approximated (framesOf rows) k b
-  found-bound at = let (windows, bound) = approximate-at (framesOf rows) valid (sym is ∙ at) in record { windows = windows; bound = bound }
+  pub found-bound : {b : ℕ} → found ≡ At b → Approximated fs k b
+  found-bound at = let (windows, bound) = approximate-at fs valid (sym is ∙ at) in record { windows = windows; bound = bound }
 
 -- the number of scenarios, cut at one more than the limit, exceeds the limit where the number itself does
 module _ (fs : List Frame) (k : Frame) {n : ℕ} (count : n ≡ min 65537 (scenarioCount fs k)) where

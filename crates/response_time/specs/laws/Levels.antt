@@ -7,7 +7,6 @@ use mathlib.Core.Bool.{Bool, false}
 use native.Mathlib.Omega.{arith}
 use native.Mathlib.Nat.{le-refl}
 use native.Mathlib.Numerals.{add-one}
-use native.Mathlib.Decide.{ℕ-discrete}
 use lib.Dec.{T, lit<}
 use lib.ListN.{length, getD, set}
 use Rattle.arith.specs.declared.Found.{Found}
@@ -15,11 +14,11 @@ use Rattle.arith.specs.declared.Found.the-variants.{At, Nothing}
 use Rattle.arith.specs.Lists.{product, greatest, range}
 use Rattle.arith.specs.Least.{least, orZero}
 use Rattle.arith.specs.laws.Members.{of-range}
-use Rattle.arith.specs.laws.Sums.{product-shift}
+use Rattle.arith.specs.laws.Sums.{product-shift, le-greatest}
 use Rattle.arith.specs.laws.Walks.{keep-found, Walk, greatest-more, walk-more, walk-end}
 use Rattle.bus_model.specs.declared.Frame.{Frame}
 use Rattle.bus_model.specs.declared.Choice.{Choice}
-use Rattle.bus_model.specs.declared.Choice.the-variants.{Fixed}
+use Rattle.bus_model.specs.declared.Choice.the-variants.{Fixed, Any}
 use Rattle.bus_model.specs.Frame.{row}
 use Rattle.bus_model.specs.Pattern.{ofNode, hyperperiod}
 use Rattle.bus_model.specs.Valid.{ValidFrame, Valid}
@@ -27,32 +26,28 @@ use Rattle.bus_model.specs.Bounds.{nodes, alignments, orEmpty, choiceOf, busyWi
 use Rattle.bus_model.specs.Judgement.{lacksWindow}
 use Rattle.bus_model.specs.theory.Frames.{node-listed}
 use Rattle.bus_model.specs.theory.Alignment.{or-empty}
-use Rattle.bus_model.specs.theory.Work.{Allows, RefinedBy}
+use Rattle.bus_model.specs.theory.Work.{RefinedBy}
 use Rattle.bus_model.specs.theory.Response.{window-refine}
-use Rattle.bus_model.specs.theory.Scenarios.{allows-self}
 use Rattle.bus_model.specs.theory.Judged.{has-windows}
 use Rattle.bus_model.specs.theory.Visits.{isAlignment, visit-first}
-use Rattle.bus_model.specs.theory.Refine.{refined, free, set-same, set-other, nodeAt, levels, node-first, node-apart, level-node, own-scenarios, precise-refined, refined-step, Level, level-start, level-more, pruned}
+use Rattle.bus_model.specs.theory.Refine.{refined, free, set-same, nodeAt, levels, node-first, level-node, own-scenarios, precise-refined, refined-step, Level, level-start, level-more, own-kept, refines-node, pruned, split-pruned}
 use Rattle.bus_model.specs.theory.Approximate.{both, greatestFound, scenarioFound, found-at, found-counts}
-use Rattle.frame_table.specs.Frames.{framesOf}
-use Rattle.frame_table.specs.Table.{Accepted}
-use Rattle.frame_table.specs.laws.Accepted.{accepted-valid}
-use Rattle.response_time.specs.Grouped.{framesIn, instantsIn, Grouped, InTable}
+use Rattle.workload.specs.Grouped.{FineTable, framesIn, instantsIn, Grouped, InTable}
 use Rattle.response_time.specs.Load.{WindowWithin}
-use Rattle.response_time.specs.laws.Groups.{lent, lent-alignments}
+use Rattle.workload.specs.laws.Groups.{lent, lent-alignments}
 
 -- ---- the number of scenarios
 
 -- how many alignments the rows of node i + 1 give, an empty one counting 1
-abbrev pub countAt : List ℕ → List ℕ → List ℕ → List ℕ → ℕ → ℕ
-countAt rows members counts ends i = length (orEmpty (instantsIn (framesIn rows (lent members counts i)) (getD ends i 0)))
+abbrev pub countAt : List Frame → List ℕ → List ℕ → List ℕ → ℕ → ℕ
+countAt fs members counts ends i = length (orEmpty (instantsIn (framesIn fs (lent members counts i)) (getD ends i 0)))
 
 -- Their product is the scenario count.
-pub counts-product : {rows : List ℕ} {k : Frame} {members counts ends : List ℕ} → Grouped rows k members counts ends
-    → product (countAt rows members counts ends) (range 0 16) ≡ scenarioCount (framesOf rows) k
+pub counts-product : {fs : List Frame} {k : Frame} {members counts ends : List ℕ} → Grouped fs k members counts ends
+    → product (countAt fs members counts ends) (range 0 16) ≡ scenarioCount fs k
 unfolding scenarioCount
-counts-product {rows} {k} grouped =
-    product-shift _ (λ j. length (orEmpty (alignments (framesOf rows) k j))) 0 16
+counts-product {fs} {k} grouped =
+    product-shift _ (λ j. length (orEmpty (alignments fs k j))) 0 16
     (λ i low high. ap (λ (instants : List ℕ). length (orEmpty instants)) (rw add-one at (lent-alignments grouped i (omega arith))))
 
 -- ---- the approximate bound, as a loop finds it
@@ -109,6 +104,14 @@ module _ (fs : List Frame) (k : Frame) (j : ℕ) (f : ℕ → ℕ) where
     unfolding greatest
     best-end none = let ended = walk-end (greatest f) max passes end (goal from) (best .walk) (greatest-more f most a more) none in omega arith
 
+  -- It may end where none of the values exceeds what it has.
+  pub best-over : {from most a all : ℕ} → Best fs k j f from most a → from ≤ most → greatest f (orEmpty (alignments fs k j)) ≡ all → all ≤ most → most ≡ max from all
+  best-over best low whole le = omega (arith, best .walk .is)
+
+  -- If it ends with what it started from, no value is greater.
+  pub best-stays : {most a : ℕ} → Best fs k j f most most a → f a ≤ most → least passes (end - (a + 1)) (a + 1) ≡ Nothing → (b : ℕ) → Mem b (orEmpty (alignments fs k j)) → f b ≤ most
+  best-stays {most} best le none b m = omega (arith, best-end {next = most} best (omega arith) none, le-greatest f m)
+
 -- ---- one scenario
 
 module _ {fs : List Frame} {k : Frame} {cs : List Choice} {limit : ℕ} where
@@ -133,6 +136,10 @@ pub next-levels : (fs : List Frame) (k : Frame) (cs : List Choice) {i j : ℕ} �
     → greatest (nextLevel fs k cs i j) (orEmpty (alignments fs k j)) ≡ refined fs k (levels k i nodes) cs
 next-levels fs k cs {i} at less = rw at (sym (refined-step fs k cs i nodes less))
 
+-- the response where node j takes alignment a
+abbrev pub splitResponse : List Frame → Frame → List Choice → ℕ → ℕ → ℕ
+splitResponse fs k cs j a = scenarioResponse fs k (set cs (j - 1) (Fixed a))
+
 -- A search has come to level i with the choices cs: k's own node has alignment own, and there is a window within the limit.
 abbrev pub Reached : List Frame → Frame → ℕ → ℕ → ℕ → List Choice → Type 0
 Reached fs k i own limit cs = (choiceOf cs (k .node) ≡ Fixed own) × Level k i cs × WindowWithin fs k cs limit
@@ -144,15 +151,6 @@ module _ {fs : List Frame} (valid : Valid fs) {n : ℕ} (inside : n < length fs)
   self : ValidFrame f
   self = valid .frame n inside
 
-  -- An alignment of the level's node refines the scenario.
-  finer : {i : ℕ} {cs : List Choice} → Level f i cs → i < nodes → {a : ℕ} → Mem a (orEmpty (alignments fs f (nodeAt f i))) → RefinedBy fs f cs (set cs (nodeAt f i - 1) (Fixed a))
-  unfolding Allows
-  finer {i} {cs} level less {a} m j l =
-      elim (ℕ-discrete j (nodeAt f i)) [
-        | yes e ↦ rw (e, level .left i (omega arith) less, set-same cs (level-node f self i less) a (level .long)) m
-        | no other ↦ rw (set-other cs (level-node f self i less) a l other) (allows-self (alignments fs f j) (choiceOf cs j))
-      ]
-
   -- A window stays within the limit where the scenario is refined.
   within-refined : {cs cs′ : List Choice} → RefinedBy fs f cs cs′ → {limit : ℕ} → WindowWithin fs f cs limit → WindowWithin fs f cs′ limit
   within-refined {cs} {cs′} refines w =
@@ -161,7 +159,7 @@ module _ {fs : List Frame} (valid : Valid fs) {n : ℕ} (inside : n < length fs)
 
   row-free : {a : ℕ} → Mem a (orEmpty (alignments fs f (f .node))) → {l : ℕ} → busyWindow fs f free ≡ At l → {cs : List Choice} → cs ≡ set free (f .node - 1) (Fixed a) → WindowWithin fs f cs l
   row-free {a} m {l} is e =
-      rw e (within-refined (rw (node-first f) at (finer (level-start self) (omega arith) (rw (← node-first f) at m))) (record { window = l; is = is; within = omega arith }))
+      rw e (within-refined (refines-node fs f free (node-listed self) refl (rw (node-first f) at (level-start self .left 0 (omega arith) (omega arith))) m) (record { window = l; is = is; within = omega arith }))
 
   row-first : lacksWindow fs f ≡ false → {a : ℕ} → Mem a (orEmpty (alignments fs f (f .node))) → {cs : List Choice} → cs ≡ set free (f .node - 1) (Fixed a)
       → {limit : ℕ} → limit ≡ orZero (busyWindow fs f cs) → Reached fs f 1 a limit cs
@@ -175,18 +173,22 @@ module _ {fs : List Frame} (valid : Valid fs) {n : ℕ} (inside : n < length fs)
         record { window = l; is = window; within = omega arith },
       )
 
-  row-next : {i own limit : ℕ} {cs : List Choice} → Reached fs f i own limit cs → 1 ≤ i → i < nodes → {j : ℕ} → j ≡ nodeAt f i → {a : ℕ} → Mem a (orEmpty (alignments fs f j))
-      → {cs′ : List Choice} → cs′ ≡ set cs (j - 1) (Fixed a) → Reached fs f (i + 1) own limit cs′
-  row-next {i} {cs = cs} (fixed, level, within) some less {j} at {a} m e =
-      rw (e, at) (
-        set-other cs (level-node f self i less) a (node-listed self) (λ same. node-apart f 0 i some (node-first f ∙ same)) ∙ fixed,
-        level-more self level less (nodeAt f i) a refl,
-        within-refined (finer level less (rw at at m)) within,
-      )
+  row-split : {i own limit : ℕ} {cs : List Choice} → i < nodes → length cs ≡ nodes → choiceOf cs (nodeAt f i) ≡ Any → choiceOf cs (f .node) ≡ Fixed own → WindowWithin fs f cs limit
+      → {j : ℕ} → j ≡ nodeAt f i → {a : ℕ} → Mem a (orEmpty (alignments fs f j)) → {cs′ : List Choice} → cs′ ≡ set cs (j - 1) (Fixed a)
+      → (choiceOf cs′ (f .node) ≡ Fixed own) × WindowWithin fs f cs′ limit
+  row-split {i} {cs = cs} less long left fixed within at {a} m e =
+      let refines = refines-node fs f cs (level-node f self i less) long left (rw at at m) in
+      rw (e, at) (own-kept fs f cs (set cs (nodeAt f i - 1) (Fixed a)) refines self fixed, within-refined refines within)
 
-module _ {rows : List ℕ} (accepted : Accepted rows) {k : Frame} (table : InTable rows k) where
+  row-next : {i own limit : ℕ} {cs : List Choice} → Reached fs f i own limit cs → i < nodes → {j : ℕ} → j ≡ nodeAt f i → {a : ℕ} → Mem a (orEmpty (alignments fs f j))
+      → {cs′ : List Choice} → cs′ ≡ set cs (j - 1) (Fixed a) → Reached fs f (i + 1) own limit cs′
+  row-next {i} (fixed, level, within) less {j} at {a} m e =
+      let (own, window) = row-split less (level .long) (level .left i (omega arith) less) fixed within at m e in
+      (own, rw e (level-more self level less j a at), window)
+
+module _ {fs : List Frame} (accepted : FineTable fs) {k : Frame} (table : InTable fs k) where
   valid-self : ValidFrame k
-  valid-self = subst ValidFrame (sym (table .is)) (accepted-valid rows accepted .frame (table .at) (table .inside))
+  valid-self = subst ValidFrame (sym (table .is)) (accepted .valid .frame (table .at) (table .inside))
 
   -- A level's node is one of the nodes.
   pub reached-node : {i j : ℕ} → j ≡ nodeAt k i → i < nodes → (1 ≤ j) × (j ≤ 16)
@@ -196,24 +198,35 @@ module _ {rows : List ℕ} (accepted : Accepted rows) {k : Frame} (table : InTab
   own-node = reached-node (sym (node-first k)) (lit< tt)
 
   -- Where the scenario with no node fixed has a window, it is not exceeded where k's own is.
-  pub free-within : {a : ℕ} → Mem a (orEmpty (alignments (framesOf rows) k (k .node))) → {l : ℕ} → busyWindow (framesOf rows) k free ≡ At l
-      → {cs : List Choice} → cs ≡ set free (k .node - 1) (Fixed a) → WindowWithin (framesOf rows) k cs l
-  free-within = rw (table .is) (row-free (accepted-valid rows accepted) (table .inside))
+  pub free-within : {a : ℕ} → Mem a (orEmpty (alignments fs k (k .node))) → {l : ℕ} → busyWindow fs k free ≡ At l
+      → {cs : List Choice} → cs ≡ set free (k .node - 1) (Fixed a) → WindowWithin fs k cs l
+  free-within = rw (table .is) (row-free (accepted .valid) (table .inside))
 
   -- The search starts with an alignment of k's own node, if none of these lacks a window.
-  pub reached-first : lacksWindow (framesOf rows) k ≡ false → {a : ℕ} → Mem a (orEmpty (alignments (framesOf rows) k (k .node)))
-      → {cs : List Choice} → cs ≡ set free (k .node - 1) (Fixed a) → {limit : ℕ} → limit ≡ orZero (busyWindow (framesOf rows) k cs) → Reached (framesOf rows) k 1 a limit cs
-  reached-first = rw (table .is) (row-first (accepted-valid rows accepted) (table .inside))
+  pub reached-first : lacksWindow fs k ≡ false → {a : ℕ} → Mem a (orEmpty (alignments fs k (k .node)))
+      → {cs : List Choice} → cs ≡ set free (k .node - 1) (Fixed a) → {limit : ℕ} → limit ≡ orZero (busyWindow fs k cs) → Reached fs k 1 a limit cs
+  reached-first = rw (table .is) (row-first (accepted .valid) (table .inside))
+
+  -- An alignment of a node that is open leaves k's own as it is, and the window within the limit.
+  pub split-next : {i own limit : ℕ} {cs : List Choice} → i < nodes → length cs ≡ nodes → choiceOf cs (nodeAt k i) ≡ Any → choiceOf cs (k .node) ≡ Fixed own → WindowWithin fs k cs limit
+      → {j : ℕ} → j ≡ nodeAt k i → {a : ℕ} → Mem a (orEmpty (alignments fs k j)) → {cs′ : List Choice} → cs′ ≡ set cs (j - 1) (Fixed a)
+      → (choiceOf cs′ (k .node) ≡ Fixed own) × WindowWithin fs k cs′ limit
+  split-next = rw (table .is) (row-split (accepted .valid) (table .inside))
 
   -- It goes on with an alignment of the level's node.
-  pub reached-next : {i own limit : ℕ} {cs : List Choice} → Reached (framesOf rows) k i own limit cs → 1 ≤ i → i < nodes → {j : ℕ} → j ≡ nodeAt k i
-      → {a : ℕ} → Mem a (orEmpty (alignments (framesOf rows) k j)) → {cs′ : List Choice} → cs′ ≡ set cs (j - 1) (Fixed a) → Reached (framesOf rows) k (i + 1) own limit cs′
-  reached-next = rw (table .is) (row-next (accepted-valid rows accepted) (table .inside))
+  pub reached-next : {i own limit : ℕ} {cs : List Choice} → Reached fs k i own limit cs → i < nodes → {j : ℕ} → j ≡ nodeAt k i
+      → {a : ℕ} → Mem a (orEmpty (alignments fs k j)) → {cs′ : List Choice} → cs′ ≡ set cs (j - 1) (Fixed a) → Reached fs k (i + 1) own limit cs′
+  reached-next = rw (table .is) (row-next (accepted .valid) (table .inside))
 
   -- No scenario further on has a greater response.
-  pub reached-most : {i own limit : ℕ} {cs : List Choice} → Reached (framesOf rows) k i own limit cs → 1 ≤ i → refined (framesOf rows) k (levels k i nodes) cs ≤ scenarioResponse (framesOf rows) k cs
-  reached-most = rw (table .is) (λ (fixed, level, w) some. pruned (accepted-valid rows accepted) (table .inside) level some nodes (le-refl nodes) (w .window) (w .is))
+  pub reached-most : {i own limit : ℕ} {cs : List Choice} → Reached fs k i own limit cs → 1 ≤ i → refined fs k (levels k i nodes) cs ≤ scenarioResponse fs k cs
+  reached-most = rw (table .is) (λ (fixed, level, w) some. pruned (accepted .valid) (table .inside) level some nodes (le-refl nodes) (w .window) (w .is))
+
+  -- Nor has one a response above `most`, where none has with an alignment of the node of a level that is left.
+  pub reached-split : {i own limit : ℕ} {cs : List Choice} → Reached fs k i own limit cs → 1 ≤ i → {m : ℕ} → i ≤ m → m < nodes → {most : ℕ}
+      → ((a : ℕ) → Mem a (orEmpty (alignments fs k (nodeAt k m))) → splitResponse fs k cs (nodeAt k m) a ≤ most) → refined fs k (levels k i nodes) cs ≤ most
+  reached-split = rw (table .is) (λ (fixed, level, w) some m. split-pruned (accepted .valid) (table .inside) level some nodes (le-refl nodes) (w .window) (w .is) {m = m})
 
   -- From the first level on it finds the precise bound.
-  pub precise-levels : {most : ℕ} → most ≡ max 0 (greatest (nextLevel (framesOf rows) k free 0 (k .node)) (orEmpty (alignments (framesOf rows) k (k .node)))) → most ≡ preciseBound (framesOf rows) k
-  precise-levels is = omega (arith, next-levels (framesOf rows) k free (sym (node-first k)) (lit< tt), precise-refined (framesOf rows) valid-self)
+  pub precise-levels : {most : ℕ} → most ≡ max 0 (greatest (nextLevel fs k free 0 (k .node)) (orEmpty (alignments fs k (k .node)))) → most ≡ preciseBound fs k
+  precise-levels is = omega (arith, next-levels fs k free (sym (node-first k)) (lit< tt), precise-refined fs valid-self)

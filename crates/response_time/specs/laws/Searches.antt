@@ -21,18 +21,15 @@ use Rattle.bus_model.specs.declared.Choice.{Choice}
 use Rattle.bus_model.specs.declared.Choice.the-variants.{Fixed}
 use Rattle.bus_model.specs.Frame.{row}
 use Rattle.bus_model.specs.Valid.{ValidFrame, Valid}
-use Rattle.bus_model.specs.Bounds.{windowLimit, ahead, better, blocking, alignments, distance, choiceOf, demand, work, windowLoad, busyWindow, delayLoad, queueingDelay, ownDistance, instanceResponse, responseTime}
-use Rattle.bus_model.specs.theory.Frames.{node-listed, better-ahead}
+use Rattle.bus_model.specs.Bounds.{windowLimit, ahead, better, blocking, distance, choiceOf, demand, work, windowLoad, busyWindow, delayLoad, queueingDelay, ownDistance, instanceResponse, responseTime}
+use Rattle.bus_model.specs.theory.Frames.{better-ahead}
 use Rattle.bus_model.specs.theory.Work.{RefinedBy, work-mono, work-refine, work-own}
 use Rattle.bus_model.specs.theory.Response.{window-at, window-least, own-distance, delay-at, delay-within}
 use Rattle.bus_model.specs.theory.Iteration.{delay-next}
-use Rattle.bus_model.specs.theory.Refine.{allowed-fixed}
-use Rattle.frame_table.specs.Frames.{framesOf}
-use Rattle.frame_table.specs.Table.{Accepted}
-use Rattle.frame_table.specs.laws.Accepted.{accepted-valid}
-use Rattle.response_time.specs.Grouped.{InTable}
+use Rattle.bus_model.specs.theory.Refine.{own-kept}
+use Rattle.workload.specs.Grouped.{FineTable, InTable}
 use Rattle.response_time.specs.Load.{loadOf, holds}
-use Rattle.response_time.specs.laws.Fine.{in-table-fine}
+use Rattle.workload.specs.laws.Fine.{in-table-fine}
 
 module _ {fs : List Frame} (valid : Valid fs) (k : Frame) (cs : List Choice) where
   -- ---- the load of a number
@@ -154,8 +151,7 @@ module _ {fs : List Frame} (valid : Valid fs) {k : Frame} {at : ℕ} (inside : a
 module _ {fs : List Frame} (valid : Valid fs) {k : Frame} {at : ℕ} (inside : at < length fs) (is : k ≡ row fs at) (cs cs′ : List Choice) (finer : RefinedBy fs k cs cs′) (own : ℕ) where
   -- It fixes the same alignment of k's own node.
   pub own-finer : choiceOf cs (k .node) ≡ Fixed own → choiceOf cs′ (k .node) ≡ Fixed own
-  own-finer fixed =
-      allowed-fixed (alignments fs k (k .node)) (choiceOf cs′ (k .node)) (rw fixed at (finer (k .node) (node-listed (subst ValidFrame (sym is) (valid .frame at inside)))))
+  own-finer = own-kept fs k cs cs′ finer (subst ValidFrame (sym is) (valid .frame at inside))
 
   -- Where it has the same work, it has the same load.
   load-same : (delay : Bool) (base x : ℕ) → (T delay → choiceOf cs (k .node) ≡ Fixed own)
@@ -178,11 +174,11 @@ module _ {fs : List Frame} (valid : Valid fs) {k : Frame} {at : ℕ} (inside : a
 -- ---- the instances released in a busy window
 
 -- The window of a scenario in which k's node has alignment `own`: its length is l, k is released d ticks after its start, and so often in it.
-pub record Windowed (rows : List ℕ) (k : Frame) (cs : List Choice) (own l d instances : ℕ) : Type 0 where
-  pub accepted : Accepted rows
-  pub listed : InTable rows k
+pub record Windowed (fs : List Frame) (k : Frame) (cs : List Choice) (own l d instances : ℕ) : Type 0 where
+  pub accepted : FineTable fs
+  pub listed : InTable fs k
   pub fixed : choiceOf cs (k .node) ≡ Fixed own
-  pub window : busyWindow (framesOf rows) k cs ≡ At l
+  pub window : busyWindow fs k cs ≡ At l
   pub away : d ≡ distance k own
   pub number : instances ≡ releasesBefore d (k .period) l
 
@@ -196,12 +192,9 @@ pub turn-end : {fs : List Frame} {k : Frame} {cs : List Choice} {l instances bes
 unfolding greatest
 turn-end turn over = let all = count-end _ _ _ _ (turn .counts) over in omega arith
 
-module _ {rows : List ℕ} {k : Frame} {cs : List Choice} {own l d instances : ℕ} (v : Windowed rows k cs own l d instances) where
-  abbrev fs : List Frame
-  fs = framesOf rows
-
+module _ {fs : List Frame} {k : Frame} {cs : List Choice} {own l d instances : ℕ} (v : Windowed fs k cs own l d instances) where
   valid : Valid fs
-  valid = accepted-valid rows (v .accepted)
+  valid = v .accepted .valid
 
   own-away : ownDistance k cs ≡ d
   own-away = own-distance fs k cs own (v .fixed) ∙ sym (v .away)
@@ -213,7 +206,7 @@ module _ {rows : List ℕ} {k : Frame} {cs : List Choice} {own l d instances : �
 
   module _ {best from q : ℕ} (turn : Turn fs k cs l instances best from q) (inside : q < instances) where
     released : d + q * k .period < l
-    released = counted d (in-table-fine rows (v .accepted) (v .listed) .period-low) l q .0 (rw (v .number) at inside)
+    released = counted d (in-table-fine fs (v .accepted) (v .listed) .period-low) l q .0 (rw (v .number) at inside)
 
     starts : (w : ℕ) × (queueingDelay fs k cs q ≡ At w) × (w + k .length ≤ l)
     starts = ends-within valid (v .listed .inside) (v .listed .is) cs own (v .fixed) (v .window) q (rw (v .away) at released)

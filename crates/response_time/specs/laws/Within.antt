@@ -1,13 +1,13 @@
 -- A scenario no response of which exceeds a number, as a loop over the instances finds it.
 use Prim.Native.Nat.{ℕ, _+_, _-_, _*_, _≤_, _<_, min}
-use mathlib.Core.Path.{_≡_, refl, sym, ap, _∙_}
+use mathlib.Core.Path.{_≡_, refl, sym, ap, subst, _∙_}
 use mathlib.Core.List.{List}
 use mathlib.Core.Bool.{Bool, true, false, cond}
-use mathlib.Core.Logic.{inl, inr}
 use native.Mathlib.Omega.{arith}
-use native.Mathlib.Nat.{mul-le-mul-left, le-mul-of-pos-right, eq-or-lt-of-le}
+use native.Mathlib.Nat.{mul-le-mul-left, mul-le-mul-right, le-mul-of-pos-right, add-mul}
+use native.Mathlib.Decide.{decLt}
 use borrow.Author.Tests.{ltb-false}
-use lib.Dec.{T, ltb, leb→le}
+use lib.Dec.{T, ltb, leb→le, le→leb}
 use Rattle.arith.specs.Least.{orZero}
 use Rattle.arith.specs.Releases.{releasesBefore}
 use Rattle.arith.specs.laws.Members.{of-range}
@@ -20,12 +20,10 @@ use Rattle.bus_model.specs.declared.Choice.the-variants.{Fixed}
 use Rattle.bus_model.specs.Bounds.{windowLimit, blocking, distance, choiceOf, delayLoad, ownDistance, instanceResponse, responseTime, scenarioResponse}
 use Rattle.bus_model.specs.theory.Response.{response-at, own-distance, delay-found}
 use Rattle.bus_model.specs.theory.Approximate.{both, scenarioFound, found-at}
-use Rattle.frame_table.specs.Frames.{framesOf}
-use Rattle.frame_table.specs.Table.{Accepted}
-use Rattle.response_time.specs.Grouped.{InTable}
-use Rattle.response_time.specs.Load.{loadOf, holds, latestStart, WindowWithin}
-use Rattle.response_time.specs.laws.Fine.{in-table-fine}
-use Rattle.response_time.specs.laws.Groups.{blocking-small}
+use Rattle.workload.specs.Grouped.{FineTable, InTable}
+use Rattle.response_time.specs.Load.{loadOf, holds, latestStart, WindowWithin, Serves}
+use Rattle.workload.specs.laws.Fine.{in-table-fine}
+use Rattle.workload.specs.laws.Groups.{blocking-small}
 
 -- From the latest start the response is not above `most`, and it is below the window's limit.
 pub latest-start-fits : (most length released : ℕ) {latest : ℕ} → latestStart most length released ≡ At latest → (latest + length ≤ most + released) × (latest < 1000000)
@@ -40,35 +38,48 @@ latest-start-fits most length released {latest} = go (ltb (most + released) leng
         let enough = ltb-false (most + released) length t in
         (omega arith, omega arith)
 
+-- A start serves as many instances as its load, or a bound of that, leaves room for.
+pub serves : (fs : List Frame) (k : Frame) (cs : List Choice) (base x : ℕ) {needed count latest : ℕ} → loadOf fs k cs true base x ≤ needed
+    → ((i : ℕ) → i < count → needed + i * k .length ≤ x) → x ≤ latest → Serves fs k cs base latest x count
+unfolding holds loadOf
+serves fs k cs base x le each inside i less = (inside, le→leb _ x (omega (arith, each i less)))
+
 -- What an instance released in the first million ticks waits for at least, its release and its number are small.
-pub instance-fits : {rows : List ℕ} {k : Frame} → Accepted rows → InTable rows k → (d : ℕ) {blocked l q instances : ℕ} → blocked ≡ blocking (framesOf rows) k
+pub instance-fits : {fs : List Frame} {k : Frame} → FineTable fs → InTable fs k → (d : ℕ) {blocked l q instances : ℕ} → blocked ≡ blocking fs k
     → instances ≡ releasesBefore d (k .period) l → l ≤ 1000000 → q < instances → (blocked + q * k .length ≤ 1000000000) × (d + q * k .period < 1000000) × (q < 1000000)
-instance-fits {rows} {k} accepted listed d {l = l} {q} blocks number small inside =
-    let f = in-table-fine rows accepted listed in
+instance-fits {fs} {k} accepted listed d {l = l} {q} blocks number small inside =
+    let f = in-table-fine fs accepted listed in
     let released = counted d (f .period-low) l q .0 (rw number at inside) in
     let few : q < 1000000 = omega (arith, le-mul-of-pos-right q (f .period-low)) in
-    (omega (arith, blocking-small rows accepted k, mul-le-mul-left q (f .length-high)), omega arith, few)
+    (omega (arith, blocking-small fs accepted k, mul-le-mul-left q (f .length-high)), omega arith, few)
 
 module _ (fs : List Frame) (k : Frame) (cs : List Choice) {own d : ℕ} (fixed : choiceOf cs (k .node) ≡ Fixed own) (away : d ≡ distance k own) where
   own-away : ownDistance k cs ≡ d
   own-away = own-distance fs k cs own fixed ∙ sym away
 
-  -- Where an instance may start by its latest start, its response is not above `most`: it starts no later.
-  start-within : (q most : ℕ) {latest blocked : ℕ} → blocked ≡ blocking fs k → latestStart most (k .length) (d + q * k .period) ≡ At latest
-      → (x : ℕ) × (x ≤ latest) × T (holds fs k cs true (blocked + q * k .length) x) → instanceResponse fs k cs q ≤ most
+  -- Where an instance may start at x, which leaves it a response of `most` at the most, it has no greater one: it starts no later.
+  start-within : (q most : ℕ) {x blocked : ℕ} → blocked ≡ blocking fs k → x + k .length ≤ most + (d + q * k .period) → x < 1000000
+      → T (holds fs k cs true (blocked + q * k .length) x) → instanceResponse fs k cs q ≤ most
   unfolding instanceResponse orZero holds loadOf delayLoad windowLimit
-  start-within q most blocks latest-is (x, le, t) =
-      let (fits, inside) = latest-start-fits most (k .length) (d + q * k .period) latest-is in
-      let (w, e, first) = delay-found fs k cs q x (omega arith) (leb→le _ x (rw blocks at t)) in
+  start-within q most {x} blocks fits inside t =
+      let (w, e, first) = delay-found fs k cs q x inside (leb→le _ x (rw blocks at t)) in
       omega (arith, ap orZero e, own-away)
 
-  -- So it goes with one instance more.
-  pub next-within : (q most : ℕ) {latest blocked : ℕ} → blocked ≡ blocking fs k → latestStart most (k .length) (d + q * k .period) ≡ At latest
-      → (x : ℕ) × (x ≤ latest) × T (holds fs k cs true (blocked + q * k .length) x) → ((i : ℕ) → i < q → instanceResponse fs k cs i ≤ most)
-      → (i : ℕ) → i < q + 1 → instanceResponse fs k cs i ≤ most
-  next-within q most blocks latest-is start before i less =
-      let last : i ≤ q = omega arith in
-      elim (eq-or-lt-of-le last) [ inl e ↦ rw e (start-within q most blocks latest-is start) | inr earlier ↦ before i earlier ]
+  -- So it goes with the instances that a start serves: those after the first are released later.
+  pub next-within : (q most : ℕ) {latest blocked start count : ℕ} → blocked ≡ blocking fs k → latestStart most (k .length) (d + q * k .period) ≡ At latest
+      → Serves fs k cs (blocked + q * k .length) latest start count → ((i : ℕ) → i < q → instanceResponse fs k cs i ≤ most)
+      → (i : ℕ) → i < q + count → instanceResponse fs k cs i ≤ most
+  next-within q most {blocked = blocked} {start} blocks latest-is served before i less =
+      elim (decLt i q) [
+        | yes earlier ↦ before i earlier
+        | no later ↦
+            let (fits, inside) = latest-start-fits most (k .length) (d + q * k .period) latest-is in
+            let (le, t) = served (i - q) (omega arith) in
+            let is : q + (i - q) ≡ i = omega arith in
+            let base : blocked + q * k .length + (i - q) * k .length ≡ blocked + i * k .length = omega (arith, add-mul q (i - q) (k .length), ap (λ (j : ℕ). j * k .length) is) in
+            let release : q * k .period ≤ i * k .period = mul-le-mul-right (k .period) (omega arith) in
+            start-within i most blocks (omega arith) (omega arith) (subst (λ (b : ℕ). T (holds fs k cs true b start)) base t)
+      ]
 
   -- Where no instance released in the window has a response above `most`, the scenario has none.
   pub all-within : {limit most n : ℕ} (window : WindowWithin fs k cs limit) → releasesBefore d (k .period) (window .window) ≤ n

@@ -2,21 +2,20 @@
 use Prim.Native.Nat.{_-_, _≤_, _<_}
 use native.Mathlib.Omega.{arith}
 use borrow.Author.Needs.{needs}
+use Rattle.bus_model.specs.theory.Hyperperiod.{hyperOf}
 use Rattle.frame_table.specs.Steps.{Periods}
-use Rattle.frame_table.specs.laws.Rows.{Folded, folded-all}
-use Rattle.frame_table.specs.laws.Hyperperiod.{hyperOf, hyper-none, hyper-le}
-use Rattle.frame_table.proofs.ChecksLaws.{hyper-row}
+use Rattle.frame_table.proofs.ChecksLaws.{Rows, rows-all, hyper-start, hyper-row, hyper-most}
 use Rattle.frame_table.proofs.checks.bounded_hyperperiod.Statement.{statement}
 use Rattle.frame_table.proofs.checks.bounded_hyperperiod.Tie as tie
 
 abbrev Inv-loop : tie.InvT-loop
-Inv-loop t node h₀ i₀ h i = Folded (hyperOf node) t h i × (0 < h) × (h ≤ 1000000)
+Inv-loop t node h₀ i₀ h i = Rows (hyperOf node) t h i × (0 < h) × (h ≤ 1000000)
 
 abbrev μ-loop : tie.MeasureT-loop
 μ-loop t node h₀ i₀ h i = i
 
 loop-holds : tie.Need-loop-holds Inv-loop μ-loop
-loop-holds c = (hyper-none _ _, search needs, search needs)
+loop-holds c = (hyper-start _ _, search needs, search needs)
 
 sub-i : tie.Need-sub-i Inv-loop μ-loop
 sub-i c = search needs
@@ -56,8 +55,8 @@ returns : tie.Need-returns Inv-loop μ-loop
 returns c =
     let at-loop = c .before .before .before .before .before in
     let s = at-loop .before .before in
-    let m = hyper-row _ _ (s .pre) _ _ _ (at-loop .loop .inv .0) (c .before .before .before .before .loop-test .taken) (c .before .joined .ensures) in
-    omega (arith, hyper-le _ _ (s .pre) _ _ (m .0), c .if1 .taken)
+    let m = hyper-row _ _ (s .pre) (at-loop .loop .inv .0) (c .before .before .before .before .loop-test .taken) (c .before .joined .ensures) in
+    omega (arith, hyper-most _ _ (s .pre) (m .0), c .if1 .taken)
 
 loop-less : tie.Need-loop-less Inv-loop μ-loop
 loop-less c = search needs
@@ -65,11 +64,11 @@ loop-less c = search needs
 loop-again : tie.Need-loop-again Inv-loop μ-loop
 loop-again c =
     let at-loop = c .before .before .before .before .before in
-    let m = hyper-row _ _ (at-loop .before .before .pre) _ _ _ (at-loop .loop .inv .0) (c .before .before .before .before .loop-test .taken) (c .before .joined .ensures) in
+    let m = hyper-row _ _ (at-loop .before .before .pre) (at-loop .loop .inv .0) (c .before .before .before .before .loop-test .taken) (c .before .joined .ensures) in
     (m .0, omega (arith, m .1, at-loop .loop .inv .1), c .if1 .left)
 
 returns-2 : tie.Need-returns-2 Inv-loop μ-loop
-returns-2 c = omega (arith, folded-all _ _ _ _ (c .before .loop .inv .0) (c .loop-test .left), c .before .loop .inv .2)
+returns-2 c = omega (arith, rows-all _ _ (c .before .loop .inv .0) (c .loop-test .left), c .before .loop .inv .2)
 
 pub bounded-hyperperiod-spec : {M : Type 1} → statement M
 bounded-hyperperiod-spec =

@@ -4,13 +4,12 @@ use native.Mathlib.Omega.{arith}
 use lib.ListN.{length}
 use borrow.Author.Needs.{needs}
 use Rattle.frame_table.specs.Steps.{Periods}
-use Rattle.frame_table.specs.laws.Rows.{Folded, folded-all}
-use Rattle.frame_table.proofs.ChecksLaws.{releasesOf, releases-none, releases-more}
+use Rattle.frame_table.proofs.ChecksLaws.{Rows, rows-all, releasesOf, releases-none, releases-more}
 use Rattle.frame_table.proofs.checks.node_releases.Statement.{statement}
 use Rattle.frame_table.proofs.checks.node_releases.Tie as tie
 
 abbrev Inv-loop : tie.InvT-loop
-Inv-loop t node h sum₀ i₀ sum i = Folded (releasesOf h node) t sum i × (sum ≤ 1000000 * (length t / 7 - i))
+Inv-loop t node h sum₀ i₀ sum i = Rows (releasesOf h node) t sum i × (sum ≤ 1000000 * (length t / 7 - i))
 
 abbrev μ-loop : tie.MeasureT-loop
 μ-loop t node h sum₀ i₀ sum i = i
@@ -51,7 +50,7 @@ frame-releases-requires c κs =
 add-sum : tie.Need-add-sum Inv-loop μ-loop
 add-sum c =
     let at-loop = c .before .before .before .before in
-    let m = releases-more _ _ _ _ _ _ (at-loop .loop .inv .0) (c .before .before .before .loop-test .taken) (c .frame-releases .ensures) in
+    let m = releases-more _ _ _ (at-loop .loop .inv .0) (c .before .before .before .loop-test .taken) (c .frame-releases .ensures) in
     omega (arith, m .1, at-loop .before .before .pre .1, at-loop .loop .inv .1)
 
 loop-less : tie.Need-loop-less Inv-loop μ-loop
@@ -60,11 +59,11 @@ loop-less c = search needs
 loop-again : tie.Need-loop-again Inv-loop μ-loop
 loop-again c =
     let at-loop = c .before .before .before .before in
-    let m = releases-more _ _ _ _ _ _ (at-loop .loop .inv .0) (c .before .before .before .loop-test .taken) (c .frame-releases .ensures) in
+    let m = releases-more _ _ _ (at-loop .loop .inv .0) (c .before .before .before .loop-test .taken) (c .frame-releases .ensures) in
     (m .0, omega (arith, m .1, at-loop .before .before .pre .1, at-loop .loop .inv .1, at-loop .loop .inv .0 .inside))
 
 returns : tie.Need-returns Inv-loop μ-loop
-returns c = folded-all _ _ _ _ (c .before .loop .inv .0) (c .loop-test .left)
+returns c = rows-all _ _ (c .before .loop .inv .0) (c .loop-test .left)
 
 pub node-releases-spec : {M : Type 1} → statement M
 node-releases-spec =

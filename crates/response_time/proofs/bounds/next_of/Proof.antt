@@ -4,7 +4,7 @@ use mathlib.Core.Path.{_∙_}
 use native.Mathlib.Omega.{arith}
 use lib.ListN.{length, getD}
 use borrow.Author.Needs.{needs}
-use Rattle.response_time.specs.laws.Groups.{lent-inside, lent-fine, lent-search}
+use Rattle.workload.specs.laws.Groups.{lent-inside, lent-fine, lent-search}
 use Rattle.response_time.proofs.bounds.next_of.Statement.{statement}
 use Rattle.response_time.proofs.bounds.next_of.Tie as tie
 

@@ -6,7 +6,8 @@ use borrow.Author.Needs.{needs}
 use lib.ListN.{length, getD}
 use Rattle.arith.specs.Lists.{range, product}
 use Rattle.arith.specs.laws.Walks.{CountUp, count-start, count-more, count-end, product-more}
-use Rattle.response_time.specs.laws.Groups.{lent-inside, lent-fine}
+use Rattle.workload.specs.Stored.{stored}
+use Rattle.workload.specs.laws.Groups.{lent-inside, lent-fine}
 use Rattle.response_time.specs.laws.Levels.{countAt, counts-product}
 use Rattle.response_time.proofs.bounds.scenario_count.Statement.{statement}
 use Rattle.response_time.proofs.bounds.scenario_count.Tie as tie
@@ -16,12 +17,12 @@ abbrev cut : ℕ → ℕ → ℕ
 cut done more = min 65537 (done * more)
 
 abbrev Inv-loop : tie.InvT-loop
-Inv-loop rows members counts ends product₀ j₀ done j =
+Inv-loop frames members counts ends product₀ j₀ done j =
     (done ≤ 65537)
-    × CountUp (product (countAt rows members counts ends)) cut 16 (cut 1 (product (countAt rows members counts ends) (range 0 16))) done j
+    × CountUp (product (countAt (stored frames) members counts ends)) cut 16 (cut 1 (product (countAt (stored frames) members counts ends) (range 0 16))) done j
 
 abbrev μ-loop : tie.MeasureT-loop
-μ-loop rows members counts ends product₀ j₀ done j = 16 - j
+μ-loop frames members counts ends product₀ j₀ done j = 16 - j
 
 -- the rows of the node that the loop stands at are inside the group
 inside : (c : tie.In-loop Inv-loop μ-loop) → let a = c .before .before .before .before .before .before .args in let j = c .before .loop .j in 64 * j + getD (a .counts .now) j 0 ≤ length (a .members .now)

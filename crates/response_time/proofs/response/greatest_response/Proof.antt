@@ -5,18 +5,18 @@ use mathlib.Core.Path.{_≡_, refl}
 use native.Mathlib.Omega.{arith}
 use borrow.Author.Needs.{needs}
 use lib.ListN.{length}
-use Rattle.frame_table.specs.Frames.{framesOf}
-use Rattle.response_time.specs.laws.Fine.{in-table-fine}
+use Rattle.workload.specs.Stored.{stored}
+use Rattle.workload.specs.laws.Fine.{in-table-fine}
 use Rattle.response_time.specs.laws.Searches.{window-small, Windowed, Turn, turn-start, turn-fits, turn-ends, turn-more, turn-end}
 use Rattle.response_time.proofs.response.greatest_response.Statement.{statement}
 use Rattle.response_time.proofs.response.greatest_response.Tie as tie
 
 abbrev Inv-loop : tie.InvT-loop
-Inv-loop rows members counts ends k choices own blocked l hints₀ d instances best₀ from₀ q₀ hints best from q =
-    (length hints ≡ length hints₀) × Turn (framesOf rows) k choices l instances best from q
+Inv-loop frames members counts ends k choices own blocked l hints₀ d instances best₀ from₀ q₀ hints best from q =
+    (length hints ≡ length hints₀) × Turn (stored frames) k choices l instances best from q
 
 abbrev μ-loop : tie.MeasureT-loop
-μ-loop rows members counts ends k choices own blocked l hints₀ d instances best₀ from₀ q₀ hints best from q = instances - q
+μ-loop frames members counts ends k choices own blocked l hints₀ d instances best₀ from₀ q₀ hints best from q = instances - q
 
 distance-from-requires : tie.Need-distance-from-requires Inv-loop μ-loop
 distance-from-requires c κs = let s = c .before .before .before .before .before in in-table-fine _ (s .pre .0) (s .pre .1 .1 .0)
@@ -29,7 +29,7 @@ releases-before-requires c κs =
 
 -- what the calls before the loop tell of the window
 window : (c : tie.After-releases-before Inv-loop μ-loop) →
-    let a = c .before .before .before .before .before .before .before .args in Windowed (a .rows .now) (a .k) (a .choices) (a .own) (a .l) (c .before .distance-from .result) (c .releases-before .result)
+    let a = c .before .before .before .before .before .before .before .args in Windowed (stored (a .frames .now)) (a .k) (a .choices) (a .own) (a .l) (c .before .distance-from .result) (c .releases-before .result)
 window c =
     let s = c .before .before .before .before .before .before .before in
     record {

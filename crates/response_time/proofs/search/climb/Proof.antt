@@ -5,19 +5,18 @@ use native.Mathlib.Omega.{arith}
 use borrow.Author.Needs.{needs}
 use Rattle.arith.specs.laws.Least.{least-end}
 use Rattle.arith.specs.Least.{least}
-use Rattle.frame_table.specs.laws.Accepted.{accepted-valid}
-use Rattle.frame_table.specs.Frames.{framesOf}
+use Rattle.workload.specs.Stored.{stored}
 use Rattle.response_time.specs.laws.Searches.{climb-here, climb-skip, climb-beyond}
 use Rattle.response_time.specs.Load.{holds}
 use Rattle.response_time.proofs.search.climb.Statement.{statement}
 use Rattle.response_time.proofs.search.climb.Tie as tie
 
 abbrev Inv-loop : tie.InvT-loop
-Inv-loop rows members counts ends k choices own delay base from end x₀ x =
-    least (holds (framesOf rows) k choices delay base) (end - x) x ≡ least (holds (framesOf rows) k choices delay base) (end - from) from
+Inv-loop frames members counts ends k choices own delay base from end x₀ x =
+    least (holds (stored frames) k choices delay base) (end - x) x ≡ least (holds (stored frames) k choices delay base) (end - from) from
 
 abbrev μ-loop : tie.MeasureT-loop
-μ-loop rows members counts ends k choices own delay base from end x₀ x = end - x
+μ-loop frames members counts ends k choices own delay base from end x₀ x = end - x
 
 loop-holds : tie.Need-loop-holds Inv-loop μ-loop
 loop-holds c = refl
@@ -31,12 +30,12 @@ cast-if1 c = search needs
 returns : tie.Need-returns Inv-loop μ-loop
 returns c =
     let s = c .before .before .before .before .before .before .before .before in
-    climb-here (accepted-valid _ (s .pre .0)) _ _ _ _ (s .args .end) (c .before .before .before .loop .x) (c .before .load .ensures) (c .before .before .loop-test .taken) (c .if1 .taken) ∙ c .before .before .before .loop .inv
+    climb-here (s .pre .0 .valid) _ _ _ _ (s .args .end) (c .before .before .before .loop .x) (c .before .load .ensures) (c .before .before .loop-test .taken) (c .if1 .taken) ∙ c .before .before .before .loop .inv
 
 returns-2 : tie.Need-returns-2 Inv-loop μ-loop
 returns-2 c =
     let s = c .before .before .before .before .before .before .before .before .before in
-    climb-beyond (accepted-valid _ (s .pre .0)) _ _ _ _ (s .args .end) (c .before .before .before .before .loop .x) (c .before .before .load .ensures) (c .if2 .taken) ∙ c .before .before .before .before .loop .inv
+    climb-beyond (s .pre .0 .valid) _ _ _ _ (s .args .end) (c .before .before .before .before .loop .x) (c .before .before .load .ensures) (c .if2 .taken) ∙ c .before .before .before .before .loop .inv
 
 cast-x : tie.Need-cast-x Inv-loop μ-loop
 cast-x c = search needs
@@ -47,7 +46,7 @@ loop-less c = search needs
 loop-again : tie.Need-loop-again Inv-loop μ-loop
 loop-again c =
     let s = c .before .before .before .before .before .before .before .before .before in
-    sym (climb-skip (accepted-valid _ (s .pre .0)) _ _ _ _ (s .args .end) (c .before .before .before .before .loop .x) (c .before .before .load .ensures) (c .before .if1 .left) (omega (arith, c .if2 .left))) ∙ c .before .before .before .before .loop .inv
+    sym (climb-skip (s .pre .0 .valid) _ _ _ _ (s .args .end) (c .before .before .before .before .loop .x) (c .before .before .load .ensures) (c .before .if1 .left) (omega (arith, c .if2 .left))) ∙ c .before .before .before .before .loop .inv
 
 returns-3 : tie.Need-returns-3 Inv-loop μ-loop
 returns-3 c = sym (least-end _ _ (c .before .loop .x) (c .loop-test .left)) ∙ c .before .loop .inv

@@ -4,10 +4,9 @@ use mathlib.Core.Path.{_≡_}
 use mathlib.Core.Bool.{true}
 use native.Mathlib.Omega.{arith}
 use borrow.Author.Needs.{needs}
-use Rattle.frame_table.specs.Frames.{framesOf}
-use Rattle.frame_table.specs.laws.Accepted.{accepted-valid}
+use Rattle.workload.specs.Stored.{stored}
 use Rattle.response_time.specs.Load.{loadOf}
-use Rattle.response_time.specs.laws.Fine.{in-table-fine}
+use Rattle.workload.specs.laws.Fine.{in-table-fine}
 use Rattle.response_time.specs.laws.Searches.{start-load}
 use Rattle.response_time.proofs.search.load.Statement.{statement}
 use Rattle.response_time.proofs.search.load.Tie as tie
@@ -28,11 +27,11 @@ frame-demand-requires c κs = let s = c .before .before .before .before .before 
 loads : (c : tie.After-frame-demand) →
     let a = c .before .before .before .before .before .before .before .args in
     (c .frame-demand .result ≤ c .before .whole-work .result)
-    × (a .base + (c .before .whole-work .result - c .frame-demand .result) ≡ loadOf (framesOf (a .rows .now)) (a .k) (a .choices) true (a .base) (a .x))
+    × (a .base + (c .before .whole-work .result - c .frame-demand .result) ≡ loadOf (stored (a .frames .now)) (a .k) (a .choices) true (a .base) (a .x))
 loads c =
     let s = c .before .before .before .before .before .before .before in
     let t = s .pre .1 .1 .0 in
-    start-load (accepted-valid _ (s .pre .0)) (t .inside) (t .is) (s .args .choices) (s .args .own) (s .pre .1 .1 .1 .0 (rw (c .before .before .if1 .taken) tt)) (s .args .base) (s .args .x) (c .before .whole-work .ensures .0) (c .frame-demand .ensures .0)
+    start-load (s .pre .0 .valid) (t .inside) (t .is) (s .args .choices) (s .args .own) (s .pre .1 .1 .1 .0 (rw (c .before .before .if1 .taken) tt)) (s .args .base) (s .args .x) (c .before .whole-work .ensures .0) (c .frame-demand .ensures .0)
 
 sub-result : tie.Need-sub-result
 sub-result c = loads c .0

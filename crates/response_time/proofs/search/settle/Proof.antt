@@ -8,19 +8,18 @@ use borrow.Author.Needs.{needs}
 use Rattle.arith.specs.laws.Least.{least-within, least-end}
 use Rattle.arith.specs.Least.{least}
 use Rattle.arith.specs.declared.Found.the-variants.{At}
-use Rattle.frame_table.specs.laws.Accepted.{accepted-valid}
-use Rattle.frame_table.specs.Frames.{framesOf}
+use Rattle.workload.specs.Stored.{stored}
 use Rattle.response_time.specs.laws.Searches.{settle-skip, settle-beyond, own-finer, settle-here}
 use Rattle.response_time.specs.Load.{holds}
 use Rattle.response_time.proofs.search.settle.Statement.{statement}
 use Rattle.response_time.proofs.search.settle.Tie as tie
 
 abbrev Inv-loop : tie.InvT-loop
-Inv-loop rows members counts ends k choices own delay base from end x₀ x =
-    least (holds (framesOf rows) k choices delay base) (end - x) x ≡ least (holds (framesOf rows) k choices delay base) (end - from) from
+Inv-loop frames members counts ends k choices own delay base from end x₀ x =
+    least (holds (stored frames) k choices delay base) (end - x) x ≡ least (holds (stored frames) k choices delay base) (end - from) from
 
 abbrev μ-loop : tie.MeasureT-loop
-μ-loop rows members counts ends k choices own delay base from end x₀ x = end - x
+μ-loop frames members counts ends k choices own delay base from end x₀ x = end - x
 
 loop-holds : tie.Need-loop-holds Inv-loop μ-loop
 loop-holds c = refl
@@ -46,7 +45,7 @@ climb-requires c κs =
     let s = c .before .before .before .before .before .before .before .before in
     let t = s .pre .1 .1 .0 in
     let p = s .pre .1 .1 .1 in
-    (s .pre .0, (s .pre .1 .0, (t, (λ d. own-finer (accepted-valid _ (s .pre .0)) (t .inside) (t .is) (s .args .choices) (c .best-choices .result) (c .best-choices .ensures .0) _ (p .0 d), p .1, p .2))))
+    (s .pre .0, (s .pre .1 .0, (t, (λ d. own-finer (s .pre .0 .valid) (t .inside) (t .is) (s .args .choices) (c .best-choices .result) (c .best-choices .ensures .0) _ (p .0 d), p .1, p .2))))
 
 enum-known-found : tie.Need-enum-known-found Inv-loop μ-loop
 enum-known-found c = search needs
@@ -59,7 +58,7 @@ returns c =
     let b = c .before .before .before in
     let s = b .before .before .before .before .before .before .before .before in
     let l = b .before .before .before .loop in
-    settle-beyond (accepted-valid _ (s .pre .0)) (s .args .k) _ _ (b .best-choices .ensures .0) _ _ (s .args .end) (l .x) (c .before .before .climb .ensures) (c .enum-told .given .1) ∙ l .inv
+    settle-beyond (s .pre .0 .valid) (s .args .k) _ _ (b .best-choices .ensures .0) _ _ (s .args .end) (l .x) (c .before .before .climb .ensures) (c .enum-told .given .1) ∙ l .inv
 
 returns-2 : tie.Need-returns-2 Inv-loop μ-loop
 returns-2 c =
@@ -69,7 +68,7 @@ returns-2 c =
     let t = s .pre .1 .1 .0 in
     let l = b .before .before .before .loop in
     ap At (c .if2 .taken)
-    ∙ settle-here (accepted-valid _ (s .pre .0)) (t .inside) (t .is) _ _ (b .best-choices .ensures .0) _ _ _ (s .args .end) (l .x) (s .pre .1 .1 .1 .0) (ticks (b .before)) (b .best-choices .ensures .1)
+    ∙ settle-here (s .pre .0 .valid) (t .inside) (t .is) _ _ (b .best-choices .ensures .0) _ _ _ (s .args .end) (l .x) (s .pre .1 .1 .1 .0) (ticks (b .before)) (b .best-choices .ensures .1)
     (f .before .before .climb .ensures) (f .found .given .1) (c .if2 .taken) ∙ l .inv
 
 -- where y lies
@@ -87,7 +86,7 @@ loop-again c =
     let b = f .before .before .before in
     let s = b .before .before .before .before .before .before .before .before in
     let l = b .before .before .before .loop in
-    sym (settle-skip (accepted-valid _ (s .pre .0)) (s .args .k) _ _ (b .best-choices .ensures .0) _ _ (s .args .end) (l .x) (f .before .before .climb .ensures) (f .found .given .1)) ∙ l .inv
+    sym (settle-skip (s .pre .0 .valid) (s .args .k) _ _ (b .best-choices .ensures .0) _ _ (s .args .end) (l .x) (f .before .before .climb .ensures) (f .found .given .1)) ∙ l .inv
 
 returns-3 : tie.Need-returns-3 Inv-loop μ-loop
 returns-3 c = sym (least-end _ _ (c .before .loop .x) (c .loop-test .left)) ∙ c .before .loop .inv

@@ -1,0 +1,61 @@
+-- As the load of a start, from all work and k's own demand, which is a part of it.
+use Prim.Native.Nat.{_+_, _-_, _≤_}
+use mathlib.Core.Path.{_≡_}
+use mathlib.Core.Bool.{true}
+use native.Mathlib.Omega.{arith}
+use borrow.Author.Needs.{needs}
+use Rattle.workload.specs.Stored.{stored}
+use Rattle.workload.specs.laws.Fine.{in-table-fine}
+use Rattle.response_time.specs.Load.{loadOf}
+use Rattle.response_time.specs.laws.Searches.{start-load}
+use Rattle.response_time.proofs.search.load_kept.Statement.{statement}
+use Rattle.response_time.proofs.search.load_kept.Tie as tie
+
+add-whole-kept : tie.Need-add-whole-kept
+add-whole-kept c = search needs
+
+whole-kept-requires : tie.Need-whole-kept-requires
+whole-kept-requires c κs =
+    let s = c .before .before .before .before .before .before in (s .pre .0, (s .pre .1 .0, ((omega arith, omega (arith, s .pre .1 .1 .1 .0)), s .pre .1 .1 .1 .1)))
+
+add-frame-demand : tie.Need-add-frame-demand
+add-frame-demand c = search needs
+
+frame-demand-requires : tie.Need-frame-demand-requires
+frame-demand-requires c κs =
+    let s = c .before .before .before .before .before .before .before .before .before in (in-table-fine _ (s .pre .0) (s .pre .1 .1 .0), omega (arith, s .pre .1 .1 .1 .0))
+
+-- k's demand is a part of the work, and what is left gives the load.
+loads : (c : tie.After-frame-demand) →
+    let a = c .before .before .before .before .before .before .before .before .before .before .args in
+    (c .frame-demand .result ≤ c .before .before .before .whole-kept .result)
+    × (a .base + (c .before .before .before .whole-kept .result - c .frame-demand .result) ≡ loadOf (stored (a .frames .now)) (a .k) (a .choices) true (a .base) (a .x))
+loads c =
+    let s = c .before .before .before .before .before .before .before .before .before .before in
+    let t = s .pre .1 .1 .0 in
+    start-load (s .pre .0 .valid) (t .inside) (t .is) (s .args .choices) (s .args .own) (s .pre .1 .1 .1 .0 .0) (s .args .base) (s .args .x) (c .before .before .before .whole-kept .ensures .0) (c .frame-demand .ensures .0)
+
+sub-result : tie.Need-sub-result
+sub-result c = loads c .0
+
+add-result : tie.Need-add-result
+add-result c = search needs
+
+same-length : tie.Need-same-length
+same-length c = search needs
+
+returns : tie.Need-returns
+returns c = (loads c .1, c .before .before .before .whole-kept .ensures .1 .1)
+
+pub load-kept-spec : {M : Type 1} → statement M
+load-kept-spec =
+    tie.close
+    (tie.spec
+    add-whole-kept
+    whole-kept-requires
+    add-frame-demand
+    frame-demand-requires
+    sub-result
+    add-result
+    same-length
+    returns)

@@ -1,0 +1,64 @@
+-- Each way of trying tells for itself.
+use borrow.Author.Needs.{needs}
+use Rattle.response_time.proofs.within.served_by.Statement.{statement}
+use Rattle.response_time.proofs.within.served_by.Tie as tie
+
+climb-above-requires : tie.Need-climb-above-requires
+climb-above-requires c κs = let p = c .before .before .before .before .before .before .pre in (p .0, (p .1 .0, (p .1 .1 .0, p .1 .1 .1 .0)))
+
+returns : tie.Need-returns
+returns c =
+    (c .before .before .climb-above .ensures .0, (c .before .before .climb-above .ensures .1, c .before .before .before .before .before .before .before .before .before .pre .1 .1 .1 .1))
+
+served-like-requires : tie.Need-served-like-requires
+served-like-requires c κs = search needs
+
+same-length : tie.Need-same-length
+same-length c = search needs
+
+returns-2 : tie.Need-returns-2
+returns-2 c = c .before .before .served-like .ensures
+
+climb-above-requires-2 : tie.Need-climb-above-requires-2
+climb-above-requires-2 c κs = let p = c .before .before .before .before .before .before .before .before .before .before .pre in (p .0, (p .1 .0, (p .1 .1 .0, p .1 .1 .1 .0)))
+
+returns-3 : tie.Need-returns-3
+returns-3 c =
+    (c .before .before .climb-above2 .ensures .0, (c .before .before .climb-above2 .ensures .1, c .before .before .before .before .before .before .before .before .before .before .before .before .before .pre .1 .1 .1 .1))
+
+served-at-requires : tie.Need-served-at-requires
+served-at-requires c κs = search needs
+
+same-length-2 : tie.Need-same-length-2
+same-length-2 c = search needs
+
+returns-4 : tie.Need-returns-4
+returns-4 c = c .before .before .before .before .served-at .ensures
+
+served-like-requires-2 : tie.Need-served-like-requires-2
+served-like-requires-2 c κs =
+    let p = c .before .before .before .before .before .before .before .before .before .before .before .before .before .before .before .before .before .before .before .before .pre in (p .0, (p .1 .0, (p .1 .1 .0, (p .1 .1 .1 .0, c .before .before .before .before .before .served-at .ensures .1 .1))))
+
+same-length-3 : tie.Need-same-length-3
+same-length-3 c = search needs
+
+returns-5 : tie.Need-returns-5
+returns-5 c = c .before .before .served-like2 .ensures
+
+pub served-by-spec : {M : Type 1} → statement M
+served-by-spec =
+    tie.close
+    (tie.spec
+    climb-above-requires
+    returns
+    served-like-requires
+    same-length
+    returns-2
+    climb-above-requires-2
+    returns-3
+    served-at-requires
+    same-length-2
+    returns-4
+    served-like-requires-2
+    same-length-3
+    returns-5)

@@ -1,0 +1,429 @@
+// Whether no response of a scenario exceeds a number, by starts that are looked at once.
+use crate::hints::KEPT;
+use crate::hints::recall;
+use crate::search::WINDOW_LIMIT;
+use crate::search::is_held;
+use crate::search::load_above;
+use crate::search::load_kept;
+use arith::Found;
+use bus_model::Choice;
+use bus_model::Frame;
+use workload::distance_from;
+use workload::releases_before;
+ghost use mathlib.Core.Path.{_≡_};
+ghost use Prim.Native.Nat.{ℕ, _+_, _*_, _≤_, _<_};
+ghost use lib.Dec.{T};
+ghost use Rattle.arith.specs.declared.Found.the-variants.{At};
+ghost use Rattle.bus_model.specs.declared.Choice.the-variants.{Fixed};
+ghost use Rattle.bus_model.specs.Bounds.{choiceOf, blocking, busyWindow, scenarioResponse};
+ghost use Rattle.workload.specs.Stored.{stored};
+ghost use Rattle.workload.specs.Grouped.{FineTable, Grouped, InTable};
+ghost use Rattle.workload.specs.Kept.{Kept};
+ghost use Rattle.response_time.specs.Load.{latestStart, WindowWithin, Serves};
+
+// So many steps does a climb take that is only to save visits.
+const STEPS: usize = 16;
+
+// A start, and how many instances it serves: the one at hand and those after it.
+pub struct Served {
+    pub start: u32,
+    pub count: u32,
+}
+
+// The latest start below the window's limit with a response of `most` at the most, for a release at a tick.
+fn latest_start(most: u32, length: u32, released: u32) -> Found
+    requires { ⌜ released ≤ 1000000 ⌝ }
+    ensures { λ r. ⌜ r ≡ latestStart most length released ⌝ }
+{
+    let end = most as u64 + released as u64;
+    if end < length as u64 {
+        return Found::Nothing;
+    }
+    let start = end - length as u64;
+    if start < WINDOW_LIMIT as u64 {
+        Found::At(start as u32)
+    } else {
+        Found::At(WINDOW_LIMIT - 1)
+    }
+}
+
+// How many loads, each more than the one before by a length, are at most x.
+fn count_served(load: u64, length: u32, x: u32) -> u32
+    requires { ⌜ (1 ≤ length) × (x ≤ 1000000) ⌝ }
+    ensures { λ r. ⌜ ((i : ℕ) → i < r → load + i * length ≤ x) ⌝ }
+    ensures small { λ r. ⌜ r ≤ 1000001 ⌝ }
+{
+    if (x as u64) < load {
+        return 0;
+    }
+    (x as u64 - load) as u32 / length + 1
+}
+
+// Looks at a start by its load, unless it is after the latest.
+fn served_at(
+    frames: &[u32],
+    members: &[u8],
+    counts: &[usize],
+    ends: &[u32],
+    k: Frame,
+    choices: [Choice; 16],
+    own: u32,
+    base: u64,
+    x: u32,
+    latest: u32,
+    sums: &mut [u64],
+) -> Served
+    requires { ⌜ FineTable (stored (now frames)) ⌝ }
+    requires { ⌜ Grouped (stored (now frames)) k (now members) (now counts) (now ends) ⌝ }
+    requires { ⌜ InTable (stored (now frames)) k ⌝ }
+    requires { ⌜ (choiceOf choices (k .node) ≡ Fixed own) × (base ≤ 1000000000) × (latest ≤ 1000000) ⌝ }
+    requires { ⌜ Kept (stored (now frames)) k (now sums) ⌝ }
+    ensures { λ r. ⌜ Serves (stored (now (frames .entry))) k choices base latest (r .start) (r .count) ⌝ }
+    ensures small { λ r. ⌜ r .count ≤ 1000001 ⌝ }
+    ensures kept { λ _. ⌜ Kept (stored (now (frames .entry))) k (now (sums .exit)) ⌝ }
+{
+    if x > latest {
+        return Served { start: 0, count: 0 };
+    }
+    let needed = load_kept(
+        frames,
+        members,
+        counts,
+        ends,
+        k,
+        choices,
+        own,
+        base,
+        x,
+        sums,
+    );
+    Served {
+        start: x,
+        count: count_served(needed, k.length, x),
+    }
+}
+
+// Climbs from a number on with the bounds of the loads, which cost little: where a bound is held, so is the load.
+fn climb_above(
+    frames: &[u32],
+    members: &[u8],
+    counts: &[usize],
+    ends: &[u32],
+    k: Frame,
+    choices: [Choice; 16],
+    own: u32,
+    base: u64,
+    from: u32,
+    latest: u32,
+) -> Served
+    requires { ⌜ FineTable (stored (now frames)) ⌝ }
+    requires { ⌜ Grouped (stored (now frames)) k (now members) (now counts) (now ends) ⌝ }
+    requires { ⌜ InTable (stored (now frames)) k ⌝ }
+    requires { ⌜ (choiceOf choices (k .node) ≡ Fixed own) × (base ≤ 1000000000) × (latest ≤ 1000000) ⌝ }
+    ensures { λ r. ⌜ Serves (stored (now (frames .entry))) k choices base latest (r .start) (r .count) ⌝ }
+    ensures small { λ r. ⌜ r .count ≤ 1000001 ⌝ }
+{
+    let mut x = from;
+    let mut steps = 0;
+    while steps < STEPS {
+        if latest < x {
+            return Served { start: 0, count: 0 };
+        }
+        let needed = load_above(frames, members, counts, ends, k, choices, own, base, x);
+        if needed <= x as u64 {
+            return Served {
+                start: x,
+                count: count_served(needed, k.length, x),
+            };
+        }
+        if (latest as u64) < needed {
+            return Served { start: 0, count: 0 };
+        }
+        x = needed as u32;
+        steps += 1;
+    }
+    Served { start: 0, count: 0 }
+}
+
+// Looks at the starts kept for a place.
+fn served_like(
+    frames: &[u32],
+    members: &[u8],
+    counts: &[usize],
+    ends: &[u32],
+    k: Frame,
+    choices: [Choice; 16],
+    own: u32,
+    base: u64,
+    latest: u32,
+    hints: &[u32],
+    at: usize,
+    sums: &mut [u64],
+) -> Served
+    requires { ⌜ FineTable (stored (now frames)) ⌝ }
+    requires { ⌜ Grouped (stored (now frames)) k (now members) (now counts) (now ends) ⌝ }
+    requires { ⌜ InTable (stored (now frames)) k ⌝ }
+    requires { ⌜ (choiceOf choices (k .node) ≡ Fixed own) × (base ≤ 1000000000) × (latest ≤ 1000000) ⌝ }
+    requires { ⌜ Kept (stored (now frames)) k (now sums) ⌝ }
+    ensures { λ r. ⌜ Serves (stored (now (frames .entry))) k choices base latest (r .start) (r .count) ⌝ }
+    ensures small { λ r. ⌜ r .count ≤ 1000001 ⌝ }
+    ensures kept { λ _. ⌜ Kept (stored (now (frames .entry))) k (now (sums .exit)) ⌝ }
+{
+    let mut i = 0;
+    while i < KEPT {
+        let x = recall(hints, at, i);
+        if x == 0 {
+            return Served { start: 0, count: 0 };
+        }
+        let served = served_at(
+            frames,
+            members,
+            counts,
+            ends,
+            k,
+            choices,
+            own,
+            base,
+            x,
+            latest,
+            sums,
+        );
+        if 0 < served.count {
+            return served;
+        }
+        i += 1;
+    }
+    Served { start: 0, count: 0 }
+}
+
+// A start by `latest`, as far as some that are tried tell. Where a node is open, the bounds of the loads are tried before the
+// loads themselves, for which all alignments are visited.
+fn served_by(
+    frames: &[u32],
+    members: &[u8],
+    counts: &[usize],
+    ends: &[u32],
+    k: Frame,
+    choices: [Choice; 16],
+    own: u32,
+    base: u64,
+    from: u32,
+    latest: u32,
+    open: bool,
+    hints: &[u32],
+    at: usize,
+    sums: &mut [u64],
+) -> Served
+    requires { ⌜ FineTable (stored (now frames)) ⌝ }
+    requires { ⌜ Grouped (stored (now frames)) k (now members) (now counts) (now ends) ⌝ }
+    requires { ⌜ InTable (stored (now frames)) k ⌝ }
+    requires { ⌜ (choiceOf choices (k .node) ≡ Fixed own) × (base ≤ 1000000000) × (latest ≤ 1000000) ⌝ }
+    requires { ⌜ Kept (stored (now frames)) k (now sums) ⌝ }
+    ensures { λ r. ⌜ Serves (stored (now (frames .entry))) k choices base latest (r .start) (r .count) ⌝ }
+    ensures small { λ r. ⌜ r .count ≤ 1000001 ⌝ }
+    ensures kept { λ _. ⌜ Kept (stored (now (frames .entry))) k (now (sums .exit)) ⌝ }
+{
+    let last = climb_above(
+        frames,
+        members,
+        counts,
+        ends,
+        k,
+        choices,
+        own,
+        base,
+        latest,
+        latest,
+    );
+    if 0 < last.count {
+        return last;
+    }
+    if !open {
+        return served_like(
+            frames,
+            members,
+            counts,
+            ends,
+            k,
+            choices,
+            own,
+            base,
+            latest,
+            hints,
+            at,
+            sums,
+        );
+    }
+    let climbed = climb_above(
+        frames,
+        members,
+        counts,
+        ends,
+        k,
+        choices,
+        own,
+        base,
+        from,
+        latest,
+    );
+    if 0 < climbed.count {
+        return climbed;
+    }
+    let looked = served_at(
+        frames,
+        members,
+        counts,
+        ends,
+        k,
+        choices,
+        own,
+        base,
+        latest,
+        latest,
+        sums,
+    );
+    if 0 < looked.count {
+        return looked;
+    }
+    served_like(
+        frames,
+        members,
+        counts,
+        ends,
+        k,
+        choices,
+        own,
+        base,
+        latest,
+        hints,
+        at,
+        sums,
+    )
+}
+
+// A length that the scenario's window does not exceed, where `limit` is one: the last window, if it would do here and has fewer
+// releases.
+fn window_limit(
+    frames: &[u32],
+    members: &[u8],
+    counts: &[usize],
+    ends: &[u32],
+    k: Frame,
+    choices: [Choice; 16],
+    blocked: u32,
+    d: u32,
+    limit: u32,
+    hints: &[u32],
+) -> u32
+    requires { ⌜ FineTable (stored (now frames)) ⌝ }
+    requires { ⌜ Grouped (stored (now frames)) k (now members) (now counts) (now ends) ⌝ }
+    requires { ⌜ InTable (stored (now frames)) k ⌝ }
+    requires { ⌜ (blocked ≡ blocking (stored (now frames)) k) × (limit ≤ 1000000) ⌝ }
+    ensures { λ r. ⌜ ((l : ℕ) → busyWindow (stored (now (frames .entry))) k choices ≡ At l → l ≤ limit → l ≤ r) ⌝ }
+    ensures small { λ r. ⌜ r ≤ limit ⌝ }
+{
+    let last = recall(hints, 0, 0);
+    if last == 0 || limit <= last {
+        return limit;
+    }
+    if releases_before(d, k.period, limit, 0) <= releases_before(d, k.period, last, 0) {
+        return limit;
+    }
+    if is_held(
+        frames,
+        members,
+        counts,
+        ends,
+        k,
+        choices,
+        0,
+        false,
+        blocked as u64,
+        last,
+    ) {
+        last
+    } else {
+        limit
+    }
+}
+
+// Where to climb from for the next instance: from the last start that is not just the latest.
+fn next_from(from: u32, start: u32, latest: u32) -> u32 {
+    if start < latest { start } else { from }
+}
+
+// Whether no response of the scenario exceeds `most`, as far as the starts that are tried tell. If one does, they never do.
+pub fn is_within(
+    frames: &[u32],
+    members: &[u8],
+    counts: &[usize],
+    ends: &[u32],
+    k: Frame,
+    choices: [Choice; 16],
+    own: u32,
+    blocked: u32,
+    limit: u32,
+    most: u32,
+    open: bool,
+    hints: &[u32],
+    sums: &mut [u64],
+) -> bool
+    requires { ⌜ FineTable (stored (now frames)) ⌝ }
+    requires { ⌜ Grouped (stored (now frames)) k (now members) (now counts) (now ends) ⌝ }
+    requires { ⌜ InTable (stored (now frames)) k ⌝ }
+    requires { ⌜ (choiceOf choices (k .node) ≡ Fixed own) × (blocked ≡ blocking (stored (now frames)) k) ⌝ }
+    requires { ⌜ (limit ≤ 1000000) × WindowWithin (stored (now frames)) k choices limit ⌝ }
+    requires { ⌜ Kept (stored (now frames)) k (now sums) ⌝ }
+    ensures { λ r. ⌜ (T r → scenarioResponse (stored (now (frames .entry))) k choices ≤ most) ⌝ }
+    ensures kept { λ _. ⌜ Kept (stored (now (frames .entry))) k (now (sums .exit)) ⌝ }
+{
+    let d = distance_from(k, own, 0);
+    if limit <= d {
+        return true;
+    }
+    let l = window_limit(
+        frames,
+        members,
+        counts,
+        ends,
+        k,
+        choices,
+        blocked,
+        d,
+        limit,
+        hints,
+    );
+    let releases = releases_before(d, k.period, l, 0);
+    let mut from: u32 = 0;
+    let mut q: u32 = 0;
+    while q < releases {
+        let base = blocked as u64 + q as u64 * k.length as u64;
+        let found = latest_start(most, k.length, d + q * k.period);
+        let Found::At(latest) = found else {
+            return false;
+        };
+        let at = q as usize + 1;
+        let served = served_by(
+            frames,
+            members,
+            counts,
+            ends,
+            k,
+            choices,
+            own,
+            base,
+            from,
+            latest,
+            open,
+            hints,
+            at,
+            sums,
+        );
+        if served.count == 0 {
+            return false;
+        }
+        from = next_from(from, served.start, latest);
+        q += served.count;
+    }
+    true
+}

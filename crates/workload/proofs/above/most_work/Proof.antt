@@ -1,0 +1,92 @@
+-- The loop goes through the rows and adds up the demand of the frame in each, as if it were released at once; no alignment gives more.
+use Prim.Native.Nat.{ℕ, _+_, _-_, _*_, _≤_}
+use mathlib.Core.Path.{sym, ap, _∙_}
+use native.Mathlib.Omega.{arith}
+use native.Mathlib.Nat.{add-zero, zero-add}
+use borrow.Author.Needs.{needs}
+use lib.ListN.{length}
+use Rattle.arith.specs.Lists.{sum}
+use Rattle.arith.specs.laws.Walks.{Through, through-start, through-more, through-end, sum-more}
+use Rattle.bus_model.specs.Frame.{row}
+use Rattle.workload.specs.Stored.{stored}
+use Rattle.workload.specs.Grouped.{framesIn}
+use Rattle.workload.specs.laws.Parts.{part-fine}
+use Rattle.workload.specs.laws.Above.{fullDemand, fullWork, full-most}
+use Rattle.workload.proofs.above.most_work.Statement.{statement}
+use Rattle.workload.proofs.above.most_work.Tie as tie
+
+abbrev Inv-loop : tie.InvT-loop
+Inv-loop frames part n sum₀ i₀ sum i =
+    Through (λ ms. fullWork (framesIn (stored frames) ms) n) _+_ part (fullWork (framesIn (stored frames) part) n) sum i × (sum ≤ 400400400 * i)
+
+abbrev μ-loop : tie.MeasureT-loop
+μ-loop frames part n sum₀ i₀ sum i = length part - i
+
+loop-holds : tie.Need-loop-holds Inv-loop μ-loop
+loop-holds c = (through-start _ _ _ _ (zero-add _), omega arith)
+
+shared-slice-read-index : tie.Need-shared-slice-read-index Inv-loop μ-loop
+shared-slice-read-index c = search needs
+
+index-requires : tie.Need-index-requires Inv-loop μ-loop
+index-requires c κs = search needs
+
+frame-at-requires : tie.Need-frame-at-requires Inv-loop μ-loop
+frame-at-requires c κs = search needs
+
+inverse-at-requires : tie.Need-inverse-at-requires Inv-loop μ-loop
+inverse-at-requires c κs = search needs
+
+demand-from-requires : tie.Need-demand-from-requires Inv-loop μ-loop
+demand-from-requires c κs =
+    let s = c .before .before .before .before .before .before .before .before in
+    (part-fine (s .pre .0) (c .before .before .before .before .loop-test .taken) (c .before .frame-at .ensures ∙ ap (row (stored (s .args .frames .now))) (c .before .before .index .ensures)), s .pre .1)
+
+add-sum : tie.Need-add-sum Inv-loop μ-loop
+add-sum c =
+    let s = c .before .before .before .before .before .before .before .before .before in
+    let l = c .before .before .before .before .before .before .loop in
+    omega (arith, l .inv .1, l .inv .0 .inside, c .demand-from .ensures .1, s .pre .0 .few)
+
+add-i : tie.Need-add-i Inv-loop μ-loop
+add-i c = search needs
+
+loop-less : tie.Need-loop-less Inv-loop μ-loop
+loop-less c = search needs
+
+loop-again : tie.Need-loop-again Inv-loop μ-loop
+unfolding fullWork
+loop-again c =
+    let l = c .before .before .before .before .before .before .loop in
+    let a = c .before .before .before .before .before .before .before .before .before .args in
+    let read = c .before .before .frame-at .ensures ∙ ap (row (stored (a .frames .now))) (c .before .before .before .index .ensures) in (
+      through-more _ _ _ _ 0 (l .inv .0) (c .before .before .before .before .before .loop-test .taken)
+          (λ ms. sum-more (fullDemand (a .n)) (l .sum) _ (ap (λ (x : ℕ). l .sum + x) (c .demand-from .ensures .0 ∙ ap (fullDemand (a .n)) read)) (framesIn (stored (a .frames .now)) ms)),
+      omega (arith, l .inv .1, c .demand-from .ensures .1),
+    )
+
+returns : tie.Need-returns Inv-loop μ-loop
+unfolding fullWork sum
+returns c =
+    let s = c .before .before .before .before in
+    let l = c .before .loop in
+    let all = through-end _ _ _ _ (l .inv .0) (c .loop-test .left) in
+    (λ a. omega (arith, all, full-most _ (s .pre .0 .fine) a (s .args .n)), omega (arith, l .inv .1, l .inv .0 .inside, s .pre .0 .few))
+
+pub most-work-spec : {M : Type 1} → statement M
+most-work-spec =
+    tie.close
+    (tie.spec
+    Inv-loop
+    μ-loop
+    loop-holds
+    shared-slice-read-index
+    index-requires
+    frame-at-requires
+    inverse-at-requires
+    demand-from-requires
+    add-sum
+    add-i
+    loop-less
+    loop-again
+    returns)

@@ -1,0 +1,23 @@
+-- The demand is that at the distance from the alignment, as it is defined.
+use Prim.Native.Nat.{ℕ, _*_}
+use mathlib.Core.Path.{ap, _∙_}
+use borrow.Author.Needs.{needs}
+use Rattle.arith.specs.Releases.{releasesBefore}
+use Rattle.bus_model.specs.Bounds.{demand}
+use Rattle.workload.proofs.work.frame_demand.Statement.{statement}
+use Rattle.workload.proofs.work.frame_demand.Tie as tie
+
+distance-from-requires : tie.Need-distance-from-requires
+distance-from-requires c κs = search needs
+
+demand-from-requires : tie.Need-demand-from-requires
+demand-from-requires c κs = search needs
+
+returns : tie.Need-returns
+unfolding demand
+returns c =
+    let a = c .before .before .args in
+    (c .demand-from .ensures .0 ∙ ap (λ (d : ℕ). a .g .length * releasesBefore d (a .g .period) (a .n)) (c .before .distance-from .ensures .0), c .demand-from .ensures .1)
+
+pub frame-demand-spec : {M : Type 1} → statement M
+frame-demand-spec = tie.close (tie.spec distance-from-requires demand-from-requires returns)

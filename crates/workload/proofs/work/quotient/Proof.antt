@@ -1,0 +1,42 @@
+-- A number whose product with p is at most x, and less than p below it, is the quotient.
+use Prim.Native.Nat.{_*_, _/_, _≤_}
+use mathlib.Core.Path.{sym}
+use native.Mathlib.Nat.{mul-le-mul, div-eq-of-lt-le}
+use native.Mathlib.Omega.{arith}
+use borrow.Author.Needs.{needs}
+use Rattle.workload.proofs.work.quotient.Statement.{statement}
+use Rattle.workload.proofs.work.quotient.Tie as tie
+
+-- the products, by the limits of their factors
+whole : (s : tie.Start) → s .args .x * s .args .inverse ≤ 4294967295 * 4294967295
+whole s = mul-le-mul {n₂ = 4294967295} {m₂ = 4294967295} (search needs) (search needs)
+
+part : (s : tie.Start) → s .args .x * s .args .inverse / 4294967296 * s .args .p ≤ 4294967295 * 4294967295
+part s = mul-le-mul {n₂ = 4294967295} {m₂ = 4294967295} (omega (arith, whole s)) (search needs)
+
+mul-q : tie.Need-mul-q
+mul-q c = omega (arith, whole c)
+
+mul-part : tie.Need-mul-part
+mul-part c = omega (arith, part c)
+
+sub-if2 : tie.Need-sub-if2
+sub-if2 c = search needs
+
+cast-result : tie.Need-cast-result
+cast-result c = omega (arith, whole (c .before .before))
+
+returns : tie.Need-returns
+returns c =
+    let a = c .before .before .args in
+    sym (div-eq-of-lt-le (a .p) (c .before .if1 .taken) (omega (arith, c .before .if1 .taken, c .if2 .taken)))
+
+div-result : tie.Need-div-result
+div-result c = search needs
+
+returns-2 : tie.Need-returns-2
+returns-2 c = search needs
+
+pub quotient-spec : {M : Type 1} → statement M
+quotient-spec =
+    tie.close (tie.spec mul-q mul-part sub-if2 cast-result returns div-result returns-2)

@@ -1,0 +1,84 @@
+-- The frames ahead of k, found through row numbers that are grouped by node once for each k.
+use Prim.Native.Nat.{ℕ, _-_, _*_, _≤_, _<_}
+use mathlib.Core.Path.{_≡_}
+use mathlib.Core.List.{List, map, List·Memᴰ as Mem}
+use mathlib.Core.Bool.{Bool}
+use lib.ListN.{length, getD, take, drop}
+use Rattle.arith.specs.Lists.{keep, exists, greatest, range}
+use Rattle.arith.specs.declared.Found.{Found}
+use Rattle.arith.specs.declared.Found.the-variants.{At, Nothing}
+use Rattle.bus_model.specs.declared.Frame.{Frame}
+use Rattle.bus_model.specs.declared.Choice.{Choice}
+use Rattle.bus_model.specs.declared.Choice.the-variants.{Fixed, Any}
+use Rattle.bus_model.specs.Frame.{row}
+use Rattle.bus_model.specs.Pattern.{ofNode, hyperperiod}
+use Rattle.bus_model.specs.Valid.{Valid}
+use Rattle.bus_model.specs.Bounds.{ahead, isReleasedAt, workAt}
+
+-- the limits of a frame that keep the sums small
+pub record Fine (g : Frame) : Type 0 where
+  pub node-low : 1 ≤ g .node
+  pub node-high : g .node ≤ 16
+  pub length-low : 1 ≤ g .length
+  pub length-high : g .length ≤ 400
+  pub period-low : 1 ≤ g .period
+  pub period-high : g .period ≤ 1000000
+  pub offset : g .offset < g .period
+
+-- the frames of a table that was accepted
+pub record FineTable (fs : List Frame) : Type 0 where
+  pub few : length fs ≤ 64
+  pub valid : Valid fs
+  pub fine : (i : ℕ) → i < length fs → Fine (row fs i)
+  pub hyper : (j : ℕ) → 1 ≤ j → j ≤ 16 → hyperperiod (ofNode fs j) ≤ 1000000
+
+-- the frames in some rows
+abbrev pub framesIn : List Frame → List ℕ → List Frame
+framesIn fs part = map (row fs) part
+
+-- each of them is within those limits, and they are few
+pub record FinePart (fs : List Frame) (part : List ℕ) : Type 0 where
+  pub few : length part ≤ 64
+  pub fine : (g : Frame) → Mem g (framesIn fs part) → Fine g
+
+-- a is an instant at which one of the frames is released
+abbrev pub isInstant : List Frame → ℕ → Bool
+isInstant gs a = exists (isReleasedAt a) gs
+
+-- those instants below e, rising
+abbrev pub instantsIn : List Frame → ℕ → List ℕ
+instantsIn gs e = keep (isInstant gs) (range 0 e)
+
+-- what a search below e found, or e where it found nothing
+unfoldable pub orEnd : ℕ → Found → ℕ
+orEnd e (At m) = m
+orEnd e Nothing = e
+
+-- a choice that gives the greatest work in the first n ticks: an alignment, or none where that work is 0
+unfoldable pub Greatest : List Frame → List ℕ → ℕ → Choice → Type 0
+Greatest gs als n (Fixed a) = Mem a als × (workAt gs a n ≡ greatest (λ b. workAt gs b n) als)
+Greatest gs als n Any = greatest (λ b. workAt gs b n) als ≡ 0
+
+-- a fixed choice as it is, and one such in place of `Any`
+unfoldable pub BestChoice : List Frame → List ℕ → ℕ → Choice → Choice → Type 0
+BestChoice gs als n (Fixed a) c = c ≡ Fixed a
+BestChoice gs als n Any c = Greatest gs als n c
+
+-- the rows of node j
+abbrev pub partOf : List ℕ → List ℕ → ℕ → List ℕ
+partOf members counts j = take (getD counts (j - 1) 0) (drop (64 * (j - 1)) members)
+
+-- the rows of each node's frames ahead of k, and the nodes' hyperperiods
+pub record Grouped (fs : List Frame) (k : Frame) (members counts ends : List ℕ) : Type 0 where
+  pub members-size : length members ≡ 1024
+  pub counts-size : length counts ≡ 16
+  pub ends-size : length ends ≡ 16
+  pub few : (j : ℕ) → 1 ≤ j → j ≤ 16 → getD counts (j - 1) 0 ≤ 64
+  pub part : (j : ℕ) → 1 ≤ j → j ≤ 16 → framesIn fs (partOf members counts j) ≡ ofNode (ahead fs k) j
+  pub end : (j : ℕ) → 1 ≤ j → j ≤ 16 → getD ends (j - 1) 0 ≡ hyperperiod (ofNode fs j)
+
+-- k is the frame of a row
+pub record InTable (fs : List Frame) (k : Frame) : Type 0 where
+  pub at : ℕ
+  pub inside : at < length fs
+  pub is : k ≡ row fs at

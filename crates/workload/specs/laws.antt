@@ -1,0 +1,8 @@
+-- What is proved of these definitions, for the proofs of the code.
+pub mod Stored
+pub mod Fine
+pub mod Parts
+pub mod Groups
+pub mod Best
+pub mod Above
+pub mod Kept

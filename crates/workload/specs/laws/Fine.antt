@@ -1,0 +1,29 @@
+-- The frames of a table are within the limits that keep the sums small.
+use Prim.Native.Nat.{ℕ, _≤_}
+use mathlib.Core.Path.{sym, subst}
+use mathlib.Core.List.{List, List·Memᴰ as Mem}
+use native.Mathlib.Omega.{arith}
+use lib.ListN.{length-take}
+use Rattle.arith.specs.laws.Members.{place-of, of-keep}
+use Rattle.bus_model.specs.declared.Frame.{Frame}
+use Rattle.bus_model.specs.Frame.{noFrame}
+use Rattle.bus_model.specs.Pattern.{ofNode}
+use Rattle.bus_model.specs.Bounds.{ahead}
+use Rattle.workload.specs.Grouped.{Fine, FineTable, FinePart, partOf, Grouped, InTable}
+
+module _ (fs : List Frame) (table : FineTable fs) where
+  -- Each frame of the table is.
+  pub member-fine : {g : Frame} → Mem g fs → Fine g
+  member-fine m = let (i, l, e) = place-of noFrame m in subst Fine e (table .fine i l)
+
+  pub in-table-fine : {k : Frame} → InTable fs k → Fine k
+  in-table-fine t = subst Fine (sym (t .is)) (table .fine (t .at) (t .inside))
+
+  -- So are those of a group.
+  pub group-fine : {k : Frame} {members counts ends : List ℕ} → Grouped fs k members counts ends → (j : ℕ) → 1 ≤ j → j ≤ 16 → FinePart fs (partOf members counts j)
+  unfolding ofNode ahead
+  group-fine {k} {members} {counts} g j low high =
+      record {
+        few = simp length-take (omega (arith, g .few j low high));
+        fine = λ x m. member-fine (of-keep _ fs (of-keep _ (ahead fs k) (rw (g .part j low high) at m) .0) .0);
+      }

@@ -1,0 +1,242 @@
+-- The rows of each node's frames ahead of k, as they are found and then read; and the lengths below k.
+use Prim.Native.Nat.{ℕ, _+_, _-_, _*_, _/_, _≤_, _<_, max}
+use mathlib.Core.Path.{_≡_, refl, sym, ap, subst, _∙_}
+use mathlib.Core.Bool.{Bool, true, false, cond, _&&_}
+use mathlib.Core.List.{List, _∷_, _++_, append-nil}
+use native.Mathlib.Omega.{arith}
+use native.Mathlib.Numerals.{add-one}
+use lib.Dec.{eqb, leb}
+use lib.ListN.{length, getD, take, drop, set, length-set}
+use lib.Seq.{take-suc-set, getD-set-same, getD-set-other}
+use borrow.Author.Count.{below-more}
+use borrow.Rule.Slice.PartMut.{midOf, postOf, putMid, mid-len, same-len-mid}
+use Rattle.arith.specs.Lists.{greatest, keep, range}
+use Rattle.arith.specs.Least.{least}
+use Rattle.arith.specs.laws.Members.{of-keep, fold-keep, map-keep, keep-keep, list-places, part-before, part-written, getD-within}
+use Rattle.arith.specs.laws.Sums.{greatest-le}
+use Rattle.arith.specs.laws.Walks.{CountUp, count-start, count-more, count-end, keep-more, keep-less, Down, down-start, down-more}
+use Rattle.bus_model.specs.declared.Frame.{Frame}
+use Rattle.bus_model.specs.declared.Choice.{Choice}
+use Rattle.bus_model.specs.declared.Choice.the-variants.{Fixed, Any}
+use Rattle.bus_model.specs.Frame.{noFrame, row}
+use Rattle.bus_model.specs.Pattern.{ofNode, hyperperiod}
+use Rattle.bus_model.specs.Bounds.{isAhead, isBelow, ahead, below, blocking, alignments, choiceOf, nodeWork}
+use Rattle.bus_model.specs.theory.Visits.{isAlignment}
+use Rattle.workload.specs.Grouped.{FineTable, FinePart, framesIn, isInstant, instantsIn, BestChoice, partOf, Grouped}
+use Rattle.workload.specs.laws.Fine.{member-fine, group-fine}
+
+-- ---- blocking
+
+-- the greatest length of the frames below k among some
+abbrev pub longestBelow : Frame → List Frame → ℕ
+longestBelow k gs = greatest (λ g. g .length) (below gs k)
+
+-- what a frame more makes of it
+abbrev longerOf : Frame → Frame → ℕ → ℕ
+longerOf k g n = cond (isBelow k g) (max (g .length) n) n
+
+longest-cons : (k g : Frame) (gs : List Frame) → longestBelow k (g ∷ gs) ≡ longerOf k g (longestBelow k gs)
+unfolding below
+longest-cons k g gs = fold-keep (greatest (λ (x : Frame). x .length)) (λ (x : Frame). max (x .length)) (λ x xs. unfold greatest in refl) (isBelow k) g gs
+
+module _ (fs : List Frame) (k : Frame) where
+  -- A loop down through the frames starts at 0.
+  pub longest-none : Down (longestBelow k) fs 0 (length fs)
+  unfolding greatest below keep
+  longest-none = down-start (longestBelow k) fs refl
+
+  -- It takes one frame more.
+  pub longest-more : {i : ℕ} {g : Frame} {n r : ℕ} → Down (longestBelow k) fs n i → 0 < i → g ≡ row fs (i - 1) → r ≡ longerOf k g n
+      → Down (longestBelow k) fs r (i - 1)
+  longest-more = down-more (longestBelow k) fs (longerOf k) (longest-cons k) noFrame
+
+-- In an accepted table blocking is at most a frame's length.
+pub blocking-small : (fs : List Frame) → FineTable fs → (k : Frame) → blocking fs k ≤ 400
+unfolding blocking below
+blocking-small fs accepted k =
+    let most = greatest-le {f = λ g. g .length} {n = 400} (below fs k) (λ g m. member-fine fs accepted (of-keep _ fs m .0) .length-high) in
+    omega arith
+
+-- ---- the rows of a node
+
+-- whether a frame is of the node and ahead of k
+abbrev isMember : Frame → ℕ → Frame → Bool
+isMember k node g = eqb (g .node) node && leb (g .priority) (k .priority)
+
+-- whether that in row i is
+abbrev rowBelongs : List Frame → Frame → ℕ → ℕ → Bool
+rowBelongs fs k node i = isMember k node (row fs i)
+
+-- The rows that belong to the node have its frames ahead of k.
+rows-frames : (fs : List Frame) (k : Frame) (node : ℕ) → framesIn fs (keep (rowBelongs fs k node) (range 0 (length fs))) ≡ ofNode (ahead fs k) node
+unfolding ofNode ahead
+rows-frames fs k node =
+    map-keep (row fs) (isMember k node) (range 0 (length fs))
+    ∙ rw (list-places noFrame fs) (sym (keep-keep (isAhead k) (λ g. eqb (g .node) node) fs))
+
+-- the rows found before row i stand at the start of the area
+pub record Gathered (fs : List Frame) (k : Frame) (node : ℕ) (area : List ℕ) (count i : ℕ) : Type 0 where
+  pub size : length area ≡ 64
+  pub short : length fs ≤ 64
+  pub few : count ≤ i
+  pub found : CountUp (keep (rowBelongs fs k node)) _++_ (length fs) (keep (rowBelongs fs k node) (range 0 (length fs))) (take count area) i
+
+module _ {fs : List Frame} {k : Frame} {node : ℕ} {area : List ℕ} where
+  -- Before the first row there are none.
+  pub gathered-none : length fs ≤ 64 → length area ≡ 64 → Gathered fs k node area 0 0
+  gathered-none short size = record { size = size; short = short; few = omega arith; found = count-start _ _ _ _ refl }
+
+  module _ {count i : ℕ} (s : Gathered fs k node area count i) where
+    -- There is room for one more.
+    pub gathered-room : i < length fs → count < 64
+    gathered-room l = omega (arith, s .few, s .short)
+
+    module _ (l : i < length fs) (g : Frame) (b : Bool) (is : g ≡ row fs i) (test : b ≡ isMember k node g) where
+      tested : b ≡ rowBelongs fs k node i
+      tested = test ∙ ap (isMember k node) is
+
+      -- A row that belongs is put there.
+      pub gathered-put : {area′ : List ℕ} {count′ : ℕ} → b ≡ true → area′ ≡ set area count i → count′ ≡ count + 1 → Gathered fs k node area′ count′ (i + 1)
+      gathered-put t put more = rw (put, more) (record {
+        size = length-set area count i ∙ s .size;
+        short = s .short;
+        few = omega (arith, s .few);
+        found = count-more _ _ _ _ (s .found) l (keep-more _ (take count area) i {next = take (count + 1) (set area count i)} (sym tested ∙ t) (rw add-one (take-suc-set area count i (omega (arith, s .size, gathered-room l)))));
+      })
+
+      -- Any other is passed over.
+      pub gathered-skip : {area′ : List ℕ} {count′ : ℕ} → b ≡ false → area′ ≡ area → count′ ≡ count → Gathered fs k node area′ count′ (i + 1)
+      gathered-skip f same still = rw (same, still) (record {
+        size = s .size;
+        short = s .short;
+        few = omega (arith, s .few);
+        found = count-more _ _ _ _ (s .found) l (keep-less _ (take count area) i (sym tested ∙ f));
+      })
+
+    -- At the end all are found.
+    pub gathered-all : length fs ≤ i → (framesIn fs (take count area) ≡ ofNode (ahead fs k) node) × (count ≤ 64)
+    unfolding keep
+    gathered-all over =
+        let all = count-end _ _ _ _ (s .found) over in
+        (ap (framesIn fs) (sym (append-nil (take count area)) ∙ all) ∙ rows-frames fs k node, omega (arith, s .few, s .short, s .found .inside))
+
+-- ---- the groups of the first nodes
+
+-- the group of node i + 1 is filled
+pub record Filled (fs : List Frame) (k : Frame) (members counts ends : List ℕ) (i : ℕ) : Type 0 where
+  pub few : getD counts i 0 ≤ 64
+  pub part : framesIn fs (take (getD counts i 0) (drop (64 * i) members)) ≡ ofNode (ahead fs k) (i + 1)
+  pub end : getD ends i 0 ≡ hyperperiod (ofNode fs (i + 1))
+
+-- the groups of the first m nodes are
+pub record FilledTo (fs : List Frame) (k : Frame) (members counts ends : List ℕ) (m : ℕ) : Type 0 where
+  pub members-size : length members ≡ 1024
+  pub counts-size : length counts ≡ 16
+  pub ends-size : length ends ≡ 16
+  pub each : (i : ℕ) → i < m → Filled fs k members counts ends i
+
+module _ {fs : List Frame} {k : Frame} {members counts ends : List ℕ} where
+  -- One group more is filled, from an area of its size.
+  pub filled-more : (m c h from to : ℕ) (area : List ℕ) → FilledTo fs k members counts ends m → m < 16 → from ≡ 64 * m → to ≡ from + 64
+      → length area ≡ length (midOf from (to - from) members) → c ≤ 64
+      → framesIn fs (take c area) ≡ ofNode (ahead fs k) (m + 1) → h ≡ hyperperiod (ofNode fs (m + 1))
+      → FilledTo fs k (putMid from (to - from) members area) (set counts m c) (set ends m h) (m + 1)
+  filled-more m c h from to area f l at wide size small frames hyper = record {
+    members-size = same-len-mid from (to - from) members area size ∙ f .members-size;
+    counts-size = length-set counts m c ∙ f .counts-size;
+    ends-size = length-set ends m h ∙ f .ends-size;
+    each = below-more _ _ old new;
+  }
+    where
+      inside : from ≤ length members
+      inside = omega (arith, f .members-size)
+
+      whole : length area ≡ 64
+      whole = size ∙ mid-len from to members (omega (arith, f .members-size)) ∙ omega arith
+
+      old : (i : ℕ) → i < m → Filled fs k (putMid from (to - from) members area) (set counts m c) (set ends m h) i
+      old i less = let g = f .each i less in record {
+        few = rw (getD-set-other counts m i c 0 (omega arith)) (g .few);
+        part = rw (getD-set-other counts m i c 0 (omega arith), part-before (getD counts i 0) (64 * i) from members (area ++ postOf from (to - from) members) (omega (arith, g .few)) inside) (g .part);
+        end = rw (getD-set-other ends m i h 0 (omega arith)) (g .end);
+      }
+
+      new : Filled fs k (putMid from (to - from) members area) (set counts m c) (set ends m h) m
+      new = record {
+        few = rw (getD-set-same counts m c 0 (omega (arith, f .counts-size))) small;
+        part = rw (getD-set-same counts m c 0 (omega (arith, f .counts-size)), ← at, part-written c from members area (postOf from (to - from) members) inside (omega (arith, whole))) frames;
+        end = rw (getD-set-same ends m h 0 (omega (arith, f .ends-size))) hyper;
+      }
+
+  -- At the end all are.
+  pub filled-all : (m : ℕ) → FilledTo fs k members counts ends m → 16 ≤ m → Grouped fs k members counts ends
+  filled-all m f over = record {
+    members-size = f .members-size;
+    counts-size = f .counts-size;
+    ends-size = f .ends-size;
+    few = λ j low high. f .each (j - 1) (omega arith) .few;
+    part = λ j low high. let same : j - 1 + 1 ≡ j = omega arith in rw same at (f .each (j - 1) (omega arith) .part);
+    end = λ j low high. let same : j - 1 + 1 ≡ j = omega arith in rw same at (f .each (j - 1) (omega arith) .end);
+  }
+
+-- ---- the group of node i + 1
+
+-- its rows, as the code lends them
+abbrev pub lent : List ℕ → List ℕ → ℕ → List ℕ
+lent members counts i = take (64 * i + getD counts i 0 - 64 * i) (drop (64 * i) members)
+
+module _ {fs : List Frame} {k : Frame} {members counts ends : List ℕ} (g : Grouped fs k members counts ends) (i : ℕ) (l : i < 16) where
+  place : i + 1 - 1 ≡ i
+  place = omega arith
+
+  lent-part : lent members counts i ≡ partOf members counts (i + 1)
+  lent-part = let size : 64 * i + getD counts i 0 - 64 * i ≡ getD counts i 0 = omega arith in rw (place, size)
+
+  lent-frames : framesIn fs (lent members counts i) ≡ ofNode (ahead fs k) (i + 1)
+  lent-frames = ap (framesIn fs) lent-part ∙ g .part (i + 1) (omega arith) (omega arith)
+
+  lent-end : getD ends i 0 ≡ hyperperiod (ofNode fs (i + 1))
+  lent-end = rw place at (g .end (i + 1) (omega arith) (omega arith))
+
+  -- They are inside the members.
+  pub lent-inside : 64 * i + getD counts i 0 ≤ length members
+  lent-inside = let few : getD counts i 0 ≤ 64 = rw place at (g .few (i + 1) (omega arith) (omega arith)) in omega (arith, g .members-size)
+
+  -- They and the node's hyperperiod are within their limits.
+  pub lent-fine : FineTable fs → FinePart fs (lent members counts i) × (getD ends i 0 ≤ 1000000)
+  lent-fine accepted = (
+    subst (FinePart fs) (sym lent-part) (group-fine fs accepted g (i + 1) (omega arith) (omega arith)),
+    rw lent-end (accepted .hyper (i + 1) (omega arith) (omega arith)),
+  )
+
+  -- Their instants are the node's alignments,
+  pub lent-alignments : instantsIn (framesIn fs (lent members counts i)) (getD ends i 0) ≡ alignments fs k (i + 1)
+  unfolding alignments
+  lent-alignments = rw (lent-frames, lent-end)
+
+  -- also for a search.
+  pub lent-search : {j : ℕ} → j ≡ i + 1 → (after : ℕ) → least (isInstant (framesIn fs (lent members counts i))) (getD ends i 0 - after) after
+      ≡ least (isAlignment fs k j) (hyperperiod (ofNode fs j) - after) after
+  lent-search node after = rw (node, lent-frames, lent-end)
+
+  -- The choice that is read is the node's.
+  pub lent-choice : (cs : List Choice) → length cs ≡ 16 → getD cs i (Fixed 0) ≡ choiceOf cs (i + 1)
+  lent-choice cs all = rw place (getD-within cs i (Fixed 0) Any (omega arith))
+
+  -- They give the node's work by a choice,
+  pub lent-node : (choice : Choice) (n : ℕ) {r : ℕ}
+      → r ≡ nodeWork (framesIn fs (lent members counts i)) (instantsIn (framesIn fs (lent members counts i)) (getD ends i 0)) choice n
+      → r ≡ nodeWork (ofNode (ahead fs k) (i + 1)) (alignments fs k (i + 1)) choice n
+  lent-node choice n e = rw (lent-alignments, lent-frames) at e
+
+  -- and by that of a scenario.
+  pub lent-work : (cs : List Choice) (n : ℕ) {r : ℕ} → length cs ≡ 16
+      → r ≡ nodeWork (framesIn fs (lent members counts i)) (instantsIn (framesIn fs (lent members counts i)) (getD ends i 0)) (getD cs i (Fixed 0)) n
+      → r ≡ nodeWork (ofNode (ahead fs k) (i + 1)) (alignments fs k (i + 1)) (choiceOf cs (i + 1)) n
+  lent-work cs n all e = rw (lent-choice cs all) at (lent-node _ n e)
+
+  -- What is the best choice for them is so for the node.
+  pub lent-best : (cs best : List Choice) (n : ℕ) → length cs ≡ 16 → length best ≡ 16
+      → BestChoice (framesIn fs (lent members counts i)) (instantsIn (framesIn fs (lent members counts i)) (getD ends i 0)) n (getD cs i (Fixed 0)) (getD best i (Fixed 0))
+      → BestChoice (ofNode (ahead fs k) (i + 1)) (alignments fs k (i + 1)) n (choiceOf cs (i + 1)) (choiceOf best (i + 1))
+  lent-best cs best n all whole b = rw (lent-alignments, lent-frames, lent-choice cs all, lent-choice best whole) at b

@@ -1,0 +1,134 @@
+-- The frames in some rows: their next releases, and the instants that these give.
+use Prim.Native.Nat.{ℕ, _+_, _-_, _*_, _/_, _%_, _≤_, _<_, max}
+use mathlib.Core.Path.{_≡_, refl, sym, ap, _∙_}
+use mathlib.Core.List.{List, [], _∷_, Memᴰ·map}
+use mathlib.Core.Bool.{Bool}
+use native.Mathlib.Omega.{arith}
+use native.Mathlib.Decide.{decLe}
+use native.Mathlib.Nat.{add-zero, mul-le-mul-right, mod-add-div', add-mod-right, add-mul-mod-self-right, mod-eq-of-lt}
+use lib.Dec.{T}
+use lib.ListN.{length, getD}
+use Rattle.arith.specs.Lists.{greatest}
+use Rattle.arith.specs.Least.{least}
+use Rattle.arith.specs.Releases.{releasesBefore}
+use Rattle.arith.specs.laws.Members.{exists-mem, of-exists, mem-getD}
+use Rattle.arith.specs.laws.Sums.{le-greatest, greatest-exceeds}
+use Rattle.arith.specs.laws.Releases.{count-le, next-after}
+use Rattle.arith.specs.laws.Least.{least-here, least-skip, least-none, least-within}
+use Rattle.arith.specs.declared.Found.{Found}
+use Rattle.arith.specs.declared.Found.the-variants.{At, Nothing}
+use Rattle.bus_model.specs.declared.Frame.{Frame}
+use Rattle.bus_model.specs.Frame.{row}
+use Rattle.bus_model.specs.Valid.{ValidFrame}
+use Rattle.bus_model.specs.Bounds.{phase, isReleasedAt, distance, orEmpty}
+use Rattle.bus_model.specs.theory.Alignment.{released-at, released-turn, distance-lt, distance-reaches}
+use Rattle.workload.specs.Grouped.{Fine, FinePart, framesIn, isInstant, orEnd}
+
+-- What stands at a place of the rows is within the limits.
+pub part-fine : {fs : List Frame} {part : List ℕ} → FinePart fs part → {i : ℕ} → i < length part → {g : Frame} → g ≡ row fs (getD part i 0) → Fine g
+part-fine {fs} {part} all {i} inside is = all .fine _ (rw is (Memᴰ·map (row fs) (mem-getD part i 0 inside)))
+
+-- the first release of the frame at tick a or later, as the code computes it
+abbrev pub nextRelease : ℕ → Frame → ℕ
+nextRelease a g = phase g + releasesBefore (phase g) (g .period) a * g .period
+
+-- It is one.
+next-released : {g : Frame} → Fine g → (a : ℕ) → T (isReleasedAt (nextRelease a g) g)
+unfolding phase
+next-released {g} fine a = released-at g (nextRelease a g) (add-mul-mod-self-right (phase g) _ (g .period) ∙ mod-eq-of-lt (fine .offset))
+
+-- No release at a or later comes before it.
+next-first : {g : Frame} → Fine g → (a m : ℕ) → a ≤ m → T (isReleasedAt m g) → nextRelease a g ≤ m
+next-first {g} fine a m low t =
+    let (n, is) = released-turn g m t in
+    omega (arith, mul-le-mul-right (g .period) (count-le (phase g) (fine .period-low) a n (omega arith)))
+
+-- the limits that the definitions ask for
+pub of-fine : {g : Frame} → Fine g → ValidFrame g
+of-fine fine = record { period = fine .period-low; length = fine .length-low; node-low = fine .node-low; node-high = fine .node-high; offset = fine .offset }
+
+-- A release after a that comes within a period is the next one.
+next-within : {g : Frame} → Fine g → (a x : ℕ) → a < x → x ≤ a + g .period → x % g .period ≡ phase g → x ≡ nextRelease (a + 1) g
+next-within {g} fine a x after soon rest =
+    let p = g .period in
+    let c = releasesBefore (phase g) p (a + 1) in
+    let is : x ≡ phase g + x / p * p = omega (arith, mod-add-div' x p) in
+    let few : c ≤ x / p = count-le (phase g) (fine .period-low) (a + 1) (x / p) (omega arith) in
+    let late = next-after (phase g) (fine .period-low) (a + 1) in
+    let many : ¬ (c < x / p) = λ less. omega (arith, mul-le-mul-right p less) in
+    let same : x / p ≡ c = omega arith in
+    rw same at is
+
+-- After a release at a the next one is a period later,
+pub next-period : {g : Frame} → Fine g → (a : ℕ) → distance g a ≡ 0 → a + g .period ≡ nextRelease (a + 1) g
+next-period {g} fine a none =
+    let rest = rw (none, add-zero) at (distance-reaches (of-fine fine) a) in
+    next-within fine a (a + g .period) (omega (arith, fine .period-low)) (omega arith) (add-mod-right a (g .period) ∙ rest)
+
+-- and elsewhere it is at the distance from a.
+pub next-distance : {g : Frame} → Fine g → (a : ℕ) → ¬ (distance g a ≡ 0) → a + distance g a ≡ nextRelease (a + 1) g
+next-distance {g} fine a some =
+    let short = distance-lt (of-fine fine) a in
+    next-within fine a (a + distance g a) (omega arith) (omega arith) (distance-reaches (of-fine fine) a)
+
+-- how long before e that is, for the frame that is released first
+abbrev pub lead : ℕ → ℕ → List Frame → ℕ
+lead a e = greatest (λ g. e - nextRelease a g)
+
+module _ (fs : List Frame) (part : List ℕ) (fine : FinePart fs part) (a e : ℕ) where
+  -- No instant at a or later comes before that release.
+  none-before : {best m : ℕ} → e - best ≡ lead a e (framesIn fs part) → a ≤ m → m < best → m < e → ¬ T (isInstant (framesIn fs part) m)
+  none-before {best} {m} is low less inside t =
+      let (g, l, u) = of-exists (isReleasedAt m) (framesIn fs part) t in
+      omega (arith, next-first (fine .fine g l) a m low u, le-greatest (λ (h : Frame). e - nextRelease a h) l)
+
+  -- The search for an instant finds it, where it is below e.
+  pub next-is : {best : ℕ} → e - best ≡ lead a e (framesIn fs part) → best < e → At best ≡ least (isInstant (framesIn fs part)) (e - a) a
+  next-is {best} is inside =
+      let p = isInstant (framesIn fs part) in
+      let (g, l, less) = greatest-exceeds (λ (h : Frame). e - nextRelease a h) (e - best - 1) (framesIn fs part) (omega arith) in
+      let same : nextRelease a g ≡ best = omega (arith, le-greatest (λ (h : Frame). e - nextRelease a h) l) in
+      let late : a ≤ best = omega (arith, next-after (phase g) (fine .fine g l .period-low) a) in
+      let passes : T (p best) = rw same at (exists-mem (isReleasedAt (nextRelease a g)) l (next-released (fine .fine g l) a)) in
+      sym (least-skip p e a best late (omega arith) (λ m low less. none-before is low less (omega arith)) ∙ least-here p e best inside passes)
+
+  -- Elsewhere it finds none.
+  pub next-none : {best : ℕ} → e - best ≡ lead a e (framesIn fs part) → e ≤ best → Nothing ≡ least (isInstant (framesIn fs part)) (e - a) a
+  next-none {best} is over =
+      sym (least-none (isInstant (framesIn fs part)) (e - a) a (λ m low high. none-before is low (omega arith) (omega arith)))
+
+  -- So that release, cut at e, is what the search ends with.
+  pub next-or-end : {best : ℕ} → e - best ≡ lead a e (framesIn fs part) → best ≤ e → best ≡ orEnd e (least (isInstant (framesIn fs part)) (e - a) a)
+  unfolding orEnd
+  next-or-end {best} is low =
+      elim (decLe e best) [
+        | yes over ↦ rw (← next-none is over) (omega arith)
+        | no under ↦ rw (← next-is is (omega arith))
+      ]
+
+-- ---- a search below e that ended at m
+
+module _ (p : ℕ → Bool) (e n : ℕ) {m : ℕ} where
+  end-at : (found : Found) → m ≡ orEnd e found → m < e → found ≡ At m
+  unfolding orEnd
+  end-at (At l) is inside = ap At (sym is)
+  end-at Nothing is inside = absurd (omega arith)
+
+  -- Where that is below e, it found m.
+  pub ended-at : m ≡ orEnd e (least p (e - n) n) → m < e → least p (e - n) n ≡ At m
+  ended-at is inside = end-at (least p (e - n) n) is inside
+
+  end-none : (found : Found) → least p (e - n) n ≡ found → m ≡ orEnd e found → e ≤ m → found ≡ Nothing
+  unfolding orEnd
+  end-none (At l) at is over = let (low, high, t) = least-within p e at in absurd (omega arith)
+  end-none Nothing at is over = refl
+
+  -- Elsewhere it found none.
+  pub ended-none : m ≡ orEnd e (least p (e - n) n) → e ≤ m → least p (e - n) n ≡ Nothing
+  ended-none is over = end-none (least p (e - n) n) refl is over
+
+-- A node without alignments counts 1.
+pub length-or-empty : (als : List ℕ) → length (orEmpty als) ≡ max (length als) 1
+unfolding orEmpty
+length-or-empty [] = refl
+length-or-empty (a ∷ als) = omega arith

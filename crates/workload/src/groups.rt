@@ -1,0 +1,91 @@
+// The rows of the frames ahead of k, node by node, and the nodes' hyperperiods: found once for each k.
+use crate::stored::count;
+use crate::stored::frame_at;
+use bus_model::Frame;
+ghost use mathlib.Core.Path.{_≡_};
+ghost use mathlib.Core.Bool.{cond, _&&_};
+ghost use Prim.Native.Nat.{_*_, _≤_, _<_};
+ghost use lib.ListN.{length, take};
+ghost use lib.Dec.{eqb, leb};
+ghost use Rattle.arith.specs.Multiples.{lcm};
+ghost use Rattle.bus_model.specs.Pattern.{ofNode, hyperperiod};
+ghost use Rattle.bus_model.specs.Bounds.{ahead};
+ghost use Rattle.workload.specs.Stored.{stored};
+ghost use Rattle.workload.specs.Grouped.{framesIn, Grouped, FineTable};
+
+pub const NODES: usize = 16;
+
+// A node has at most so many rows; those of node j stand from GROUP * (j - 1) on.
+pub const GROUP: usize = 64;
+
+pub const MEMBERS: usize = 1024;
+
+// The least common multiple of h and the period of a frame, where it is the node's.
+fn joined(h: u32, node: u32, g: Frame) -> u32
+    requires { ⌜ (1 ≤ h) × (g .period ≤ 1000000) × (cond (eqb (g .node) node) (lcm (g .period) h) h ≤ 1000000) ⌝ }
+    ensures { λ r. ⌜ r ≡ cond (eqb (g .node) node) (lcm (g .period) h) h ⌝ }
+{
+    if g.node == node {
+        arith::lcm(g.period as u64, h as u64) as u32
+    } else {
+        h
+    }
+}
+
+// The hyperperiod of a node.
+fn node_hyperperiod(frames: &[u32], node: u32) -> u32
+    requires { ⌜ FineTable (stored (now frames)) ⌝ }
+    requires { ⌜ (1 ≤ node) × (node ≤ 16) ⌝ }
+    ensures { λ r. ⌜ r ≡ hyperperiod (ofNode (stored (now (frames .entry))) node) ⌝ }
+{
+    let mut h: u32 = 1;
+    let mut i = count(frames);
+    while 0 < i {
+        i -= 1;
+        h = joined(h, node, frame_at(frames, i));
+    }
+    h
+}
+
+// Whether a frame is the node's and ahead of k.
+fn belongs(g: Frame, k: Frame, node: u32) -> bool
+    ensures { λ r. ⌜ r ≡ (eqb (g .node) node && leb (g .priority) (k .priority)) ⌝ }
+{
+    g.node == node && g.priority <= k.priority
+}
+
+// Puts the rows of a node's frames ahead of k at the start of an area, and answers how many they are.
+fn gather(frames: &[u32], k: Frame, node: u32, area: &mut [u8]) -> usize
+    requires { ⌜ (length (stored (now frames)) ≤ 64) × (length (now area) ≡ 64) ⌝ }
+    ensures { λ r. ⌜ framesIn (stored (now (frames .entry))) (take r (now (area .exit))) ≡ ofNode (ahead (stored (now (frames .entry))) k) node ⌝ }
+    ensures few { λ r. ⌜ r ≤ 64 ⌝ }
+{
+    let all = count(frames);
+    let mut found = 0;
+    let mut i = 0;
+    while i < all {
+        if belongs(frame_at(frames, i), k, node) {
+            area[found] = i as u8;
+            found += 1;
+        }
+        i += 1;
+    }
+    found
+}
+
+// Groups the frames ahead of k by node.
+pub fn group(frames: &[u32], k: Frame, members: &mut [u8], counts: &mut [usize], ends: &mut [u32])
+    requires { ⌜ FineTable (stored (now frames)) ⌝ }
+    requires { ⌜ (length (now members) ≡ 1024) × (length (now counts) ≡ 16) × (length (now ends) ≡ 16) ⌝ }
+    ensures { λ _. ⌜ Grouped (stored (now (frames .entry))) k (now (members .exit)) (now (counts .exit)) (now (ends .exit)) ⌝ }
+{
+    let mut j = 0;
+    while j < NODES {
+        let node = (j + 1) as u32;
+        let from = GROUP * j;
+        let to = from + GROUP;
+        counts[j] = gather(frames, k, node, &mut members[from..to]);
+        ends[j] = node_hyperperiod(frames, node);
+        j += 1;
+    }
+}

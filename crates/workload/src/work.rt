@@ -1,0 +1,103 @@
+// The work that a node's frames bring in the first n ticks after one of its alignments.
+use crate::stored::frame_at;
+use crate::stored::inverse_at;
+use bus_model::Frame;
+ghost use mathlib.Core.Path.{_≡_};
+ghost use Prim.Native.Nat.{_*_, _/_, _≤_, _<_};
+ghost use Rattle.arith.specs.Releases.{releasesBefore};
+ghost use Rattle.bus_model.specs.Bounds.{distance, demand, workAt};
+ghost use Rattle.workload.specs.Stored.{stored};
+ghost use Rattle.workload.specs.Grouped.{Fine, FinePart, framesIn};
+
+// A place in the table as an index.
+pub fn index(row: u8) -> usize
+    ensures { λ r. ⌜ r ≡ row ⌝ }
+{
+    row as usize
+}
+
+// The quotient of x and p, by an inverse of p that may be off: the product is looked at, and where it does not fit, the
+// machine divides. Where no inverse is at hand, 0 will do.
+pub fn quotient(x: u32, p: u32, inverse: u32) -> u32
+    requires { ⌜ 1 ≤ p ⌝ }
+    ensures { λ r. ⌜ r ≡ x / p ⌝ }
+{
+    let q = x as u64 * inverse as u64 / 4294967296;
+    let part = q * p as u64;
+    if part <= x as u64 {
+        if x as u64 - part < p as u64 {
+            return q as u32;
+        }
+    }
+    x / p
+}
+
+// How many of d, d + p, d + 2p, .. are below n.
+pub fn releases_before(d: u32, p: u32, n: u32, inverse: u32) -> u32
+    requires { ⌜ (1 ≤ p) × (p ≤ 1000000) × (n ≤ 1000001) ⌝ }
+    ensures { λ r. ⌜ r ≡ releasesBefore d p n ⌝ }
+    ensures small { λ r. ⌜ r ≤ n ⌝ }
+{
+    if n <= d {
+        return 0;
+    }
+    if n - d <= p {
+        return 1;
+    }
+    quotient(n - d + (p - 1), p, inverse)
+}
+
+// How long after alignment a the frame is released.
+pub fn distance_from(g: Frame, a: u32, inverse: u32) -> u32
+    requires { ⌜ Fine g ⌝ }
+    ensures { λ r. ⌜ r ≡ distance g a ⌝ }
+    ensures small { λ r. ⌜ r < g .period ⌝ }
+{
+    let rest = a - quotient(a, g.period, inverse) * g.period;
+    let later = g.offset + (g.period - rest);
+    if later < g.period {
+        later
+    } else {
+        later - g.period
+    }
+}
+
+// The length of the frame's releases in the first n ticks, where d is its distance from the alignment.
+pub fn demand_from(g: Frame, d: u32, n: u32, inverse: u32) -> u64
+    requires { ⌜ Fine g ⌝ }
+    requires { ⌜ n ≤ 1000001 ⌝ }
+    ensures { λ r. ⌜ r ≡ g .length * releasesBefore d (g .period) n ⌝ }
+    ensures small { λ r. ⌜ r ≤ 400400400 ⌝ }
+{
+    let times = releases_before(d, g.period, n, inverse);
+    g.length as u64 * times as u64
+}
+
+// That at alignment a.
+pub fn frame_demand(g: Frame, a: u32, n: u32, inverse: u32) -> u64
+    requires { ⌜ Fine g ⌝ }
+    requires { ⌜ n ≤ 1000001 ⌝ }
+    ensures { λ r. ⌜ r ≡ demand g a n ⌝ }
+    ensures small { λ r. ⌜ r ≤ 400400400 ⌝ }
+{
+    let d = distance_from(g, a, inverse);
+    demand_from(g, d, n, inverse)
+}
+
+// That of the frames in some rows.
+pub fn work_in(frames: &[u32], part: &[u8], a: u32, n: u32) -> u64
+    requires { ⌜ FinePart (stored (now frames)) (now part) ⌝ }
+    requires { ⌜ n ≤ 1000001 ⌝ }
+    ensures { λ r. ⌜ r ≡ workAt (framesIn (stored (now (frames .entry))) (now (part .entry))) a n ⌝ }
+    ensures small { λ r. ⌜ r ≤ 64 * 400400400 ⌝ }
+{
+    let mut sum: u64 = 0;
+    let mut i = 0;
+    while i < part.len() {
+        let at = index(part[i]);
+        let g = frame_at(frames, at);
+        sum += frame_demand(g, a, n, inverse_at(frames, at));
+        i += 1;
+    }
+    sum
+}
