@@ -1,10 +1,11 @@
-//! The library's algorithm written for speed, with memory to spend: the benchmark's yardstick.
+//! The library's algorithm written for speed, under the library's rule that no list holds more than
+//! one of a node's alignments: the benchmark's yardstick.
 
 use analyser::bounds::{length, rank};
 use analyser::judgement::{Judgement, Verdict, LIMITS};
 use analyser::listing::judgement_columns;
 use analyser::table::{self, Row, CLAIM, IDENTIFIER, NODE, NODES, OFFSET, PERIOD};
-use std::slice::ChunksExact;
+use std::cell::RefCell;
 
 /// A line for each of accepted rows.
 pub fn list(rows: &[Row]) -> String {
@@ -34,72 +35,124 @@ fn judge(rows: &[Row], row: usize) -> Judgement {
 /// Numbers below 2^21 are divided by a period with its inverse times 2^41.
 const SHIFT: u32 = 41;
 
-/// A frame seen from an alignment of its node.
+/// A frame ahead.
 #[derive(Clone, Copy)]
-struct Source {
-    distance: u64,
+struct Frame {
+    offset: u64,
     period: u64,
     length: u64,
     inverse: u64,
 }
 
-impl Source {
-    fn new(row: &Row, instant: u64) -> Source {
+impl Frame {
+    fn new(row: &Row) -> Frame {
         let period = u64::from(row[PERIOD]);
-        let distance = (u64::from(row[OFFSET]) + period - instant % period) % period;
-        Source { distance, period, length: length(row), inverse: (1 << SHIFT) / period + 1 }
+        let inverse = (1 << SHIFT) / period + 1;
+        Frame { offset: row[OFFSET].into(), period, length: length(row), inverse }
     }
 
-    /// How often it is queued in the first n ticks.
-    fn count(&self, n: u64) -> u64 {
-        let ticks = n.wrapping_add(self.period).wrapping_sub(self.distance).wrapping_sub(1);
+    fn divide(&self, ticks: u64) -> u64 {
         ticks.wrapping_mul(self.inverse) >> SHIFT
     }
+
+    /// How long after an instant it is queued.
+    fn distance(&self, instant: u64) -> u64 {
+        let into = instant - self.divide(instant) * self.period;
+        let distance = self.offset + self.period - into;
+        if distance < self.period { distance } else { distance - self.period }
+    }
+
+    /// How often it is queued in the first n ticks, first at a distance.
+    fn count(&self, distance: u64, n: u64) -> u64 {
+        self.divide(n.wrapping_add(self.period).wrapping_sub(distance).wrapping_sub(1))
+    }
+
+    fn work(&self, distance: u64, n: u64) -> u64 {
+        self.count(distance, n).wrapping_mul(self.length)
+    }
 }
 
-/// The work of frames in the first n ticks.
-fn work(sources: &[Source], n: u64) -> u64 {
-    let each = sources.iter().map(|source| source.count(n).wrapping_mul(source.length));
-    each.fold(0, u64::wrapping_add)
+/// A frame seen from an alignment of its node.
+#[derive(Clone, Copy)]
+struct Placed {
+    frame: Frame,
+    distance: u64,
 }
 
-/// A node's frames ahead, as seen from each of its alignments.
+/// The work of placed frames in the first n ticks.
+fn work(placed: &[Placed], n: u64) -> u64 {
+    placed.iter().map(|each| each.frame.work(each.distance, n)).fold(0, u64::wrapping_add)
+}
+
+/// So many greatest works are kept for each node.
+const SLOTS: usize = 16;
+
+/// A node's frames ahead, and some of its greatest works behind their lengths.
 struct Node {
-    sources: Vec<Source>,
-    frames: usize,
+    frames: Vec<Frame>,
+    hyperperiod: u64,
+    kept: RefCell<[(u64, u64); SLOTS]>,
 }
 
 impl Node {
-    fn new(frames: &[&Row], hyperperiod: u64) -> Node {
-        let releases = |row: &&Row| (row[OFFSET].into()..hyperperiod).step_by(row[PERIOD] as usize);
-        let mut instants: Vec<u64> = frames.iter().flat_map(releases).collect();
-        instants.sort_unstable();
-        instants.dedup();
-        let mut sources = Vec::with_capacity(instants.len() * frames.len());
-        for instant in instants {
-            sources.extend(frames.iter().map(|row| Source::new(row, instant)));
+    /// The work in the first n ticks after an alignment, and the next alignment.
+    fn visit(&self, alignment: u64, n: u64) -> (u64, u64) {
+        let (mut work, mut next) = (0, self.hyperperiod);
+        for frame in &self.frames {
+            let distance = frame.distance(alignment);
+            work += frame.work(distance, n);
+            let gap = if distance == 0 { frame.period } else { distance };
+            next = next.min(alignment + gap);
         }
-        Node { sources, frames: frames.len() }
+        (work, next)
     }
 
-    fn alignments(&self) -> ChunksExact<'_, Source> {
-        self.sources.chunks_exact(self.frames)
+    /// Its alignments, rising.
+    fn alignments(&self) -> impl Iterator<Item = u64> + '_ {
+        let first = self.frames.iter().map(|frame| frame.offset).min();
+        let next = |alignment: &u64| Some(self.visit(*alignment, 0).1);
+        std::iter::successors(first, next).take_while(|next| *next < self.hyperperiod)
     }
 
+    /// The first alignment with the greatest work in the first n ticks, and that.
+    fn best(&self, n: u64) -> (u64, u64) {
+        let mut alignment = self.frames.iter().map(|frame| frame.offset).min().unwrap_or(0);
+        let mut best = (alignment, 0);
+        while alignment < self.hyperperiod {
+            let (work, next) = self.visit(alignment, n);
+            if work > best.1 {
+                best = (alignment, work);
+            }
+            alignment = next;
+        }
+        best
+    }
+
+    /// The greatest work in the first n ticks.
     fn greatest(&self, n: u64) -> u64 {
-        self.alignments().map(|alignment| work(alignment, n)).max().unwrap_or(0)
+        let slot = &mut self.kept.borrow_mut()[n as usize % SLOTS];
+        if slot.0 != n {
+            *slot = (n, self.best(n).1);
+        }
+        slot.1
     }
 
-    fn best(&self, n: u64) -> &[Source] {
-        self.alignments().rev().max_by_key(|alignment| work(alignment, n)).unwrap_or(&[])
+    /// At most so much work in the first n ticks, whatever the alignment.
+    fn above(&self, n: u64) -> u64 {
+        self.frames.iter().map(|frame| frame.work(0, n)).sum()
+    }
+
+    fn place(&self, alignment: u64, placed: &mut Vec<Placed>) {
+        let each = |frame: &Frame| Placed { frame: *frame, distance: frame.distance(alignment) };
+        placed.extend(self.frames.iter().map(each));
     }
 }
 
 /// The judged frame, then the other frames of nodes at one alignment; and nodes at any.
 #[derive(Clone, Copy)]
 struct Scenario<'a> {
-    fixed: &'a [Source],
-    open: &'a [Node],
+    fixed: &'a [Placed],
+    open: &'a [&'a Node],
 }
 
 /// A search for the least x that holds its load: the window, or the start behind so much work
@@ -118,26 +171,34 @@ impl Search {
         }
     }
 
-    fn load(self, fixed: &[Source], x: u64) -> u64 {
+    fn load(self, fixed: &[Placed], x: u64) -> u64 {
         match self {
             Search::Window(base) => base + work(fixed, x),
             Search::Start(base) => base + work(&fixed[1..], x + 1),
         }
     }
 
-    fn holds(self, scenario: Scenario, x: u64) -> bool {
+    /// The load with the open nodes at their greatest work, or above x.
+    fn full_load(self, scenario: Scenario, x: u64) -> u64 {
         let mut load = self.load(scenario.fixed, x);
         for node in scenario.open {
             if load > x {
-                return false;
+                break;
             }
             load += node.greatest(self.ticks(x));
         }
-        load <= x
+        load
+    }
+
+    /// The load with the open nodes' frames all queued at once.
+    fn load_above(self, scenario: Scenario, x: u64) -> u64 {
+        let ticks = self.ticks(x);
+        let above = scenario.open.iter().map(|node| node.above(ticks));
+        self.load(scenario.fixed, x) + above.sum::<u64>()
     }
 
     /// The least x from a number on, with all nodes fixed.
-    fn climb(self, fixed: &[Source], mut x: u64) -> Option<u64> {
+    fn climb(self, fixed: &[Placed], mut x: u64) -> Option<u64> {
         while x <= LIMITS.window {
             let load = self.load(fixed, x);
             if load <= x {
@@ -157,7 +218,7 @@ impl Search {
         loop {
             fixed.truncate(scenario.fixed.len());
             for node in scenario.open {
-                fixed.extend_from_slice(node.best(self.ticks(x)));
+                node.place(node.best(self.ticks(x)).0, &mut fixed);
             }
             let reached = self.climb(&fixed, x)?;
             if reached == x {
@@ -170,6 +231,9 @@ impl Search {
 
 /// So many starts are kept for each instance.
 const KEPT: usize = 8;
+
+/// So many steps climbs a look by the bounds of loads.
+const STEPS: usize = 16;
 
 /// The greatest response found, the last window, and the last starts of each instance.
 #[derive(Default)]
@@ -199,7 +263,7 @@ struct View {
     /// The frame's own node, which has the frame first, and the others with several alignments.
     nodes: Vec<Node>,
     /// The frames of other nodes with one alignment.
-    lone: Vec<Source>,
+    lone: Vec<Placed>,
 }
 
 impl View {
@@ -214,19 +278,22 @@ impl View {
             let mut ahead: Vec<&Row> = of_node.filter(|row| rank(row) <= rank(frame)).collect();
             ahead.sort_by_key(|row| rank(row) != rank(frame));
             if !ahead.is_empty() {
-                view.add(Node::new(&ahead, table::node_hyperperiod(rows, node)));
+                let frames = ahead.into_iter().map(Frame::new).collect();
+                let hyperperiod = table::node_hyperperiod(rows, node);
+                view.add(Node { frames, hyperperiod, kept: RefCell::default() });
             }
         }
         view
     }
 
     fn add(&mut self, node: Node) {
-        let count = node.alignments().len();
+        let count = node.alignments().count();
         self.scenarios = self.scenarios.saturating_mul(count as u64);
         if self.nodes.is_empty() || count > 1 {
             self.nodes.push(node);
         } else {
-            self.lone.extend(node.sources);
+            let alignment = node.alignments().next().expect("a node with frames has an alignment");
+            node.place(alignment, &mut self.lone);
         }
     }
 
@@ -234,12 +301,21 @@ impl View {
         Search::Window(self.blocking)
     }
 
+    /// The frames of the own node from an alignment, and those that have one alignment.
+    fn placed(&self, own: u64) -> Vec<Placed> {
+        let mut placed = Vec::new();
+        self.nodes[0].place(own, &mut placed);
+        placed.extend_from_slice(&self.lone);
+        placed
+    }
+
     /// The rough bound, or none if an alignment of the own node has no window.
     fn approximate(&self) -> Option<u64> {
-        let limit = self.window().settle(Scenario { fixed: &self.lone, open: &self.nodes }, 1);
+        let nodes: Vec<&Node> = self.nodes.iter().collect();
+        let limit = self.window().settle(Scenario { fixed: &self.lone, open: &nodes }, 1);
         let mut best = Best::default();
         for own in self.nodes[0].alignments() {
-            let scenario = Scenario { fixed: &[own, &self.lone].concat(), open: &self.nodes[1..] };
+            let scenario = Scenario { fixed: &self.placed(own), open: &nodes[1..] };
             if !limit.is_some_and(|limit| self.is_within(scenario, limit, &best)) {
                 self.raise(scenario, &mut best)?;
             }
@@ -251,74 +327,143 @@ impl View {
     fn precise(&self) -> Option<u64> {
         let mut best = Best::default();
         for own in self.nodes[0].alignments() {
-            let mut fixed = [own, &self.lone].concat();
-            let open = &self.nodes[1..];
-            let limit = self.window().settle(Scenario { fixed: &fixed, open }, 1)?;
-            self.improve(&mut fixed, open, limit, &mut best)?;
+            let mut fixed = self.placed(own);
+            let open: Vec<&Node> = self.nodes[1..].iter().collect();
+            let limit = self.window().settle(Scenario { fixed: &fixed, open: &open }, 1)?;
+            self.improve(&mut fixed, &open, limit, &mut best)?;
         }
         Some(best.response)
     }
 
-    /// Fixes the open nodes one after the other, unless nothing below can exceed the best.
+    /// Fixes the open nodes one after the other, unless nothing below can exceed the best: that
+    /// is asked anew where the best has risen.
     fn improve(
         &self,
-        fixed: &mut Vec<Source>,
-        open: &[Node],
+        fixed: &mut Vec<Placed>,
+        open: &[&Node],
         limit: u64,
         best: &mut Best,
     ) -> Option<()> {
-        let scenario = Scenario { fixed, open };
-        if self.is_within(scenario, limit, best) {
-            return Some(());
-        }
         let Some((node, rest)) = open.split_first() else {
-            return self.raise(scenario, best);
+            let scenario = Scenario { fixed, open };
+            let within = self.is_within(scenario, limit, best);
+            return if within { Some(()) } else { self.raise(scenario, best) };
         };
+        let mut asked = None;
         let kept = fixed.len();
         for alignment in node.alignments() {
-            fixed.extend_from_slice(alignment);
+            if asked != Some(best.response) && self.is_ruled_out(fixed, open, limit, best) {
+                return Some(());
+            }
+            asked = Some(best.response);
+            node.place(alignment, fixed);
             self.improve(fixed, rest, limit, best)?;
             fixed.truncate(kept);
         }
         Some(())
     }
 
-    /// Whether starts that are looked at once show that no response exceeds the best.
-    fn is_within(&self, scenario: Scenario, limit: u64, best: &Best) -> bool {
-        let frame = scenario.fixed[0];
-        if limit <= frame.distance {
+    /// Whether no response exceeds the best, with the open nodes at any alignment, or with each
+    /// alignment of the one whose frames are longest together.
+    fn is_ruled_out(
+        &self,
+        fixed: &mut Vec<Placed>,
+        open: &[&Node],
+        limit: u64,
+        best: &Best,
+    ) -> bool {
+        if self.is_within(Scenario { fixed, open }, limit, best) {
             return true;
         }
-        let shorter =
-            (1..limit).contains(&best.window) && self.window().holds(scenario, best.window);
-        let end = if shorter { best.window } else { limit };
-        (0..frame.count(end)).all(|instance| {
+        let heavy = (0..open.len()).rev().max_by_key(|at| open[*at].above(1));
+        let Some(heavy) = heavy.filter(|at| *at > 0) else {
+            return false;
+        };
+        let others = [&open[..heavy], &open[heavy + 1..]].concat();
+        let kept = fixed.len();
+        let out = open[heavy].alignments().all(|alignment| {
+            open[heavy].place(alignment, fixed);
+            let within = self.is_within(Scenario { fixed, open: &others }, limit, best);
+            fixed.truncate(kept);
+            within
+        });
+        out
+    }
+
+    /// Whether starts that are looked at once show that no response exceeds the best.
+    fn is_within(&self, scenario: Scenario, limit: u64, best: &Best) -> bool {
+        let Placed { frame, distance } = scenario.fixed[0];
+        if limit <= distance {
+            return true;
+        }
+        let fewer = (1..limit).contains(&best.window)
+            && frame.count(distance, best.window) < frame.count(distance, limit)
+            && self.window().full_load(scenario, best.window) <= best.window;
+        let releases = frame.count(distance, if fewer { best.window } else { limit });
+        let (mut instance, mut from) = (0, 0);
+        while instance < releases {
             let start = Search::Start(self.blocking + instance * frame.length);
-            let queued = frame.distance + instance * frame.period;
+            let queued = distance + instance * frame.period;
             let Some(latest) = (best.response + queued).checked_sub(frame.length) else {
                 return false;
             };
             let latest = latest.min(LIMITS.window - 1);
             let kept = best.starts.get(instance as usize).copied().unwrap_or_default();
-            let mut tried = kept.into_iter().take_while(|kept| *kept != 0);
-            start.holds(scenario, latest)
-                || tried.any(|kept| kept <= latest && start.holds(scenario, kept))
-        })
+            let Some((x, load)) = found_start(start, scenario, from, latest, kept) else {
+                return false;
+            };
+            if x < latest {
+                from = x;
+            }
+            instance += 1 + (x - load) / frame.length;
+        }
+        true
     }
 
     /// Takes the scenario's responses into the best, or answers none if it has no window.
     fn raise(&self, scenario: Scenario, best: &mut Best) -> Option<()> {
-        let frame = scenario.fixed[0];
+        let Placed { frame, distance } = scenario.fixed[0];
         best.window = self.window().settle(scenario, 1)?;
         let mut least = 0;
-        for instance in 0..frame.count(best.window) {
+        for instance in 0..frame.count(distance, best.window) {
             let search = Search::Start(self.blocking + instance * frame.length);
             let start = search.settle(scenario, least)?;
             best.remember(instance as usize, start);
             least = start + frame.length;
-            let queued = frame.distance + instance * frame.period;
+            let queued = distance + instance * frame.period;
             best.response = best.response.max(least.saturating_sub(queued));
         }
         Some(())
     }
+}
+
+/// A start up to the latest and its load or a bound of it, as far as some that are tried tell.
+fn found_start(
+    start: Search,
+    scenario: Scenario,
+    from: u64,
+    latest: u64,
+    kept: [u64; KEPT],
+) -> Option<(u64, u64)> {
+    let load = start.load_above(scenario, latest);
+    if load <= latest {
+        return Some((latest, load));
+    }
+    if !scenario.open.is_empty() {
+        let mut x = from;
+        for _ in 0..STEPS {
+            let load = if x <= latest { start.load_above(scenario, x) } else { break };
+            if load <= x {
+                return Some((x, load));
+            }
+            x = load;
+        }
+        let load = start.full_load(scenario, latest);
+        if load <= latest {
+            return Some((latest, load));
+        }
+    }
+    let tried = kept.into_iter().take_while(|kept| *kept != 0).filter(|kept| *kept <= latest);
+    let mut loads = tried.map(|kept| (kept, start.full_load(scenario, kept)));
+    loads.find(|(kept, load)| load <= kept)
 }
