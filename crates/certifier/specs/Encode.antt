@@ -7,13 +7,13 @@ use Rattle.frame_table.specs.declared.Checked.{Checked}
 use Rattle.frame_table.specs.declared.Checked.the-variants.{Passed, Failed}
 use Rattle.frame_table.specs.Text.{fieldsOf}
 use Rattle.frame_table.specs.Table.{readCheck}
-use Rattle.certifier.specs.declared.Refusal.{Refusal}
-use Rattle.certifier.specs.declared.Judged.{Judged}
-use Rattle.certifier.specs.declared.Judged.the-variants.{Verdict, NotJudged}
-use Rattle.certifier.specs.declared.Bounded.{Bounded}
-use Rattle.certifier.specs.declared.Bounded.the-variants.{Bound, NotBounded}
-use Rattle.certifier.specs.Refusal.{numberOf, ofTable}
-use Rattle.certifier.specs.Judge.{judgeRow, boundRow}
+use Rattle.row_judgement.specs.declared.Refusal.{Refusal}
+use Rattle.row_judgement.specs.declared.Judged.{Judged}
+use Rattle.row_judgement.specs.declared.Judged.the-variants.{Verdict, NotJudged}
+use Rattle.row_judgement.specs.declared.Bounded.{Bounded}
+use Rattle.row_judgement.specs.declared.Bounded.the-variants.{Bound, NotBounded}
+use Rattle.row_judgement.specs.Refusal.{numberOf, ofTable}
+use Rattle.row_judgement.specs.Judge.{judgeRow, boundRow}
 
 -- ---- the table as bytes: the checks on files, then those on rows
 

@@ -1,6 +1,4 @@
--- What the operations answer, in document 01's order; below `laws` what is proved of it.
-pub mod Refusal
-pub mod Judge
+-- The numbers and the listing that are answered; below `laws` what is proved of them.
 pub mod Encode
 pub mod Listing
 pub mod Steps

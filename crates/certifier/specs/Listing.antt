@@ -8,7 +8,7 @@ use Rattle.bus_model.specs.Frame.{row}
 use Rattle.bus_model.specs.Judgement.{verdict, judge}
 use Rattle.frame_table.specs.Columns.{field}
 use Rattle.frame_table.specs.Frames.{framesOf}
-use Rattle.certifier.specs.Judge.{claimOf}
+use Rattle.row_judgement.specs.Judge.{claimOf}
 
 -- identifier (10), verdict (3), bound (8), margin (9), and a line feed
 unfoldable pub listingLine : ℕ → Judgement → List ℕ

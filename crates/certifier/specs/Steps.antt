@@ -2,8 +2,8 @@
 use Prim.Native.Nat.{ℕ, _≤_}
 use mathlib.Core.Path.{_≡_}
 use lib.IntN.{pos, _+ℤ_}
-use Rattle.certifier.specs.declared.Judged.{Judged}
-use Rattle.certifier.specs.declared.Judged.the-variants.{Verdict, NotJudged}
+use Rattle.row_judgement.specs.declared.Judged.{Judged}
+use Rattle.row_judgement.specs.declared.Judged.the-variants.{Verdict, NotJudged}
 
 -- bound and margin are small enough for one number: the margin and a million are a number up to two million
 abbrev pub Encodable : Judged → Type 0

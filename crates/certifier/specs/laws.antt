@@ -1,6 +1,5 @@
 -- What is proved of these definitions.
-pub mod Stored
-pub mod Judged
 pub mod Reading
+pub mod Small
 pub mod Encoding
 pub mod Listing

@@ -1,17 +1,17 @@
 // The entries for C: a table as bytes and a row, and one signed number as the answer.
-use crate::Bounded;
-use crate::Judged;
-use crate::Refusal;
-use crate::rows::judge;
-use crate::rows::of_table;
-use crate::rows::precise_bound;
-use crate::rows::verdict;
 use bus_model::Judgement;
 use frame_table::Answer;
+use row_judgement::Bounded;
+use row_judgement::Judged;
+use row_judgement::Refusal;
+use row_judgement::judge;
+use row_judgement::of_table;
+use row_judgement::precise_bound;
+use row_judgement::verdict;
 ghost use mathlib.Core.Path.{_≡_};
 ghost use Prim.Native.Nat.{ℕ, _+_, _*_, _≤_};
 ghost use lib.IntN.{pos, _+ℤ_};
-ghost use Rattle.certifier.specs.declared.Judged.the-variants.{Verdict};
+ghost use Rattle.row_judgement.specs.declared.Judged.the-variants.{Verdict};
 ghost use Rattle.certifier.specs.Encode.{judgeFile, boundFile, encodeRefusal, encodeJudged, encodeBounded};
 ghost use Rattle.certifier.specs.Steps.{Encodable};
 
@@ -46,7 +46,7 @@ pub fn encode_refusal(refusal: Refusal) -> i64
     ensures { λ r. ⌜ r ≡ encodeRefusal refusal ⌝ }
 {
     let cause = refusal.cause;
-    let n = crate::number(cause) as u64 * 10_000 + refusal.place as u64;
+    let n = row_judgement::number(cause) as u64 * 10_000 + refusal.place as u64;
     -(n as i64)
 }
 

@@ -68,7 +68,7 @@ fn write_row(rows: &[u32], i: usize, line: &mut [u8])
     requires { ⌜ (i < length (now rows) / 7) × (length (now line) ≡ 31) ⌝ }
     ensures { λ _. ⌜ now (line .exit) ≡ lineOf (now (rows .entry)) i ⌝ }
 {
-    let judgement = crate::rows::judge_row(rows, i);
+    let judgement = row_judgement::judge_row(rows, i);
     write_line(rows[frame_table::ROW * i + 1], judgement, line);
 }
 
@@ -79,7 +79,7 @@ fn write_line(identifier: u32, judgement: Judgement, line: &mut [u8])
 {
     let outcome = judgement.outcome;
     decimal::write(&mut line[0..10], identifier as u64);
-    decimal::write(&mut line[10..13], crate::rows::verdict(outcome) as u64);
+    decimal::write(&mut line[10..13], row_judgement::verdict(outcome) as u64);
     decimal::write(&mut line[13..21], judgement.bound as u64);
     decimal::write_signed(&mut line[21..30], judgement.margin);
     line[LINE - 1] = LINE_FEED;

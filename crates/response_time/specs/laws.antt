@@ -1,4 +1,3 @@
 -- What is proved of these definitions, for the proofs of the code.
 pub mod Searches
-pub mod Levels
 pub mod Within

@@ -1,12 +1,11 @@
-// The bounds of a frame's response time, computed over the frames of an accepted table.
-mod bounds;
+// The response times of a frame in a scenario, computed over the frames of an accepted table.
 mod hints;
 mod response;
 mod search;
 mod within;
 
-pub use bounds::SCENARIO_LIMIT;
-pub use bounds::approximate;
-pub use bounds::precise;
-pub use bounds::scenario_count;
 pub use hints::HINTS;
+pub use response::busy_window;
+pub use response::or_zero;
+pub use response::raised;
+pub use within::is_within;

@@ -61,12 +61,15 @@ fn greatest_response(
     blocked: u32,
     l: u32,
     hints: &mut [u32],
+    sums: &mut [u64],
 ) -> u32
     requires { ⌜ FineTable (stored (now frames)) ⌝ }
     requires { ⌜ Grouped (stored (now frames)) k (now members) (now counts) (now ends) ⌝ }
     requires { ⌜ InTable (stored (now frames)) k ⌝ }
     requires { ⌜ (choiceOf choices (k .node) ≡ Fixed own) × (blocked ≡ blocking (stored (now frames)) k) × (busyWindow (stored (now frames)) k choices ≡ At l) ⌝ }
+    requires { ⌜ Kept (stored (now frames)) k (now sums) ⌝ }
     ensures { λ r. ⌜ r ≡ responseTime (stored (now (frames .entry))) k choices l ⌝ }
+    ensures kept { λ _. ⌜ Kept (stored (now (frames .entry))) k (now (sums .exit)) ⌝ }
 {
     let d = distance_from(k, own, 0);
     let instances = releases_before(d, k.period, l, 0);
@@ -87,6 +90,7 @@ fn greatest_response(
             base,
             from,
             WINDOW_LIMIT,
+            sums,
         );
         let delay = or_zero(found);
         remember(hints, q as usize + 1, delay);
@@ -106,12 +110,15 @@ pub fn busy_window(
     k: Frame,
     choices: [Choice; 16],
     blocked: u32,
+    sums: &mut [u64],
 ) -> Found
     requires { ⌜ FineTable (stored (now frames)) ⌝ }
     requires { ⌜ Grouped (stored (now frames)) k (now members) (now counts) (now ends) ⌝ }
     requires { ⌜ InTable (stored (now frames)) k ⌝ }
     requires { ⌜ blocked ≡ blocking (stored (now frames)) k ⌝ }
+    requires { ⌜ Kept (stored (now frames)) k (now sums) ⌝ }
     ensures { λ r. ⌜ r ≡ busyWindow (stored (now (frames .entry))) k choices ⌝ }
+    ensures kept { λ _. ⌜ Kept (stored (now (frames .entry))) k (now (sums .exit)) ⌝ }
 {
     settle(
         frames,
@@ -125,6 +132,7 @@ pub fn busy_window(
         blocked as u64,
         1,
         WINDOW_LIMIT + 1,
+        sums,
     )
 }
 
@@ -139,14 +147,17 @@ pub fn scenario_response(
     own: u32,
     blocked: u32,
     hints: &mut [u32],
+    sums: &mut [u64],
 ) -> Found
     requires { ⌜ FineTable (stored (now frames)) ⌝ }
     requires { ⌜ Grouped (stored (now frames)) k (now members) (now counts) (now ends) ⌝ }
     requires { ⌜ InTable (stored (now frames)) k ⌝ }
     requires { ⌜ (choiceOf choices (k .node) ≡ Fixed own) × (blocked ≡ blocking (stored (now frames)) k) ⌝ }
+    requires { ⌜ Kept (stored (now frames)) k (now sums) ⌝ }
     ensures { λ r. ⌜ r ≡ scenarioFound (stored (now (frames .entry))) k choices ⌝ }
+    ensures kept { λ _. ⌜ Kept (stored (now (frames .entry))) k (now (sums .exit)) ⌝ }
 {
-    let found = busy_window(frames, members, counts, ends, k, choices, blocked);
+    let found = busy_window(frames, members, counts, ends, k, choices, blocked, sums);
     let Found::At(l) = found else {
         return Found::Nothing;
     };
@@ -162,6 +173,7 @@ pub fn scenario_response(
         blocked,
         l,
         hints,
+        sums,
     ))
 }
 
@@ -263,6 +275,7 @@ pub fn raised(
         own,
         blocked,
         hints,
+        sums,
     );
     let Found::At(response) = found else {
         return Found::Nothing;

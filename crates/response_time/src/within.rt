@@ -3,8 +3,8 @@ use crate::hints::KEPT;
 use crate::hints::recall;
 use crate::search::WINDOW_LIMIT;
 use crate::search::is_held;
+use crate::search::load;
 use crate::search::load_above;
-use crate::search::load_kept;
 use arith::Found;
 use bus_model::Choice;
 use bus_model::Frame;
@@ -85,7 +85,7 @@ fn served_at(
     if x > latest {
         return Served { start: 0, count: 0 };
     }
-    let needed = load_kept(
+    let needed = load(
         frames,
         members,
         counts,
@@ -93,6 +93,7 @@ fn served_at(
         k,
         choices,
         own,
+        true,
         base,
         x,
         sums,
@@ -314,13 +315,16 @@ fn window_limit(
     d: u32,
     limit: u32,
     hints: &[u32],
+    sums: &mut [u64],
 ) -> u32
     requires { ⌜ FineTable (stored (now frames)) ⌝ }
     requires { ⌜ Grouped (stored (now frames)) k (now members) (now counts) (now ends) ⌝ }
     requires { ⌜ InTable (stored (now frames)) k ⌝ }
     requires { ⌜ (blocked ≡ blocking (stored (now frames)) k) × (limit ≤ 1000000) ⌝ }
+    requires { ⌜ Kept (stored (now frames)) k (now sums) ⌝ }
     ensures { λ r. ⌜ ((l : ℕ) → busyWindow (stored (now (frames .entry))) k choices ≡ At l → l ≤ limit → l ≤ r) ⌝ }
     ensures small { λ r. ⌜ r ≤ limit ⌝ }
+    ensures kept { λ _. ⌜ Kept (stored (now (frames .entry))) k (now (sums .exit)) ⌝ }
 {
     let last = recall(hints, 0, 0);
     if last == 0 || limit <= last {
@@ -340,6 +344,7 @@ fn window_limit(
         false,
         blocked as u64,
         last,
+        sums,
     ) {
         last
     } else {
@@ -392,6 +397,7 @@ pub fn is_within(
         d,
         limit,
         hints,
+        sums,
     );
     let releases = releases_before(d, k.period, l, 0);
     let mut from: u32 = 0;

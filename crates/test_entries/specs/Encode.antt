@@ -8,7 +8,7 @@ use Rattle.frame_table.specs.declared.Answer.{Answer}
 use Rattle.frame_table.specs.declared.Answer.the-variants.{Done, Refused}
 use Rattle.frame_table.specs.Text.{fieldsOf, textOf}
 use Rattle.frame_table.specs.Table.{readCheck, rowsCheck, answerFor}
-use Rattle.certifier.specs.Refusal.{ofTable}
+use Rattle.row_judgement.specs.Refusal.{ofTable}
 use Rattle.certifier.specs.Encode.{encodeRefusal}
 use Rattle.certifier.specs.Listing.{listingOf}
 

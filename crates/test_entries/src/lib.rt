@@ -6,7 +6,7 @@ use frame_table::Checked;
 ghost use mathlib.Core.Path.{_≡_};
 ghost use Rattle.frame_table.specs.Text.{fieldsOf, textOf};
 ghost use Rattle.frame_table.specs.Table.{rowsCheck, areaAfter};
-ghost use Rattle.certifier.specs.Judge.{judgeRow, boundRow};
+ghost use Rattle.row_judgement.specs.Judge.{judgeRow, boundRow};
 ghost use Rattle.certifier.specs.Encode.{encodeJudged, encodeBounded};
 ghost use Rattle.certifier.specs.Listing.{listingOf};
 ghost use Rattle.test_entries.specs.Encode.{readAnswer, writeAnswer, listAnswer, encodeChecked, encodeAnswer, Countable};

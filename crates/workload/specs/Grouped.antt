@@ -4,16 +4,14 @@ use mathlib.Core.Path.{_≡_}
 use mathlib.Core.List.{List, map, List·Memᴰ as Mem}
 use mathlib.Core.Bool.{Bool}
 use lib.ListN.{length, getD, take, drop}
-use Rattle.arith.specs.Lists.{keep, exists, greatest, range}
+use Rattle.arith.specs.Lists.{keep, exists, range}
 use Rattle.arith.specs.declared.Found.{Found}
 use Rattle.arith.specs.declared.Found.the-variants.{At, Nothing}
 use Rattle.bus_model.specs.declared.Frame.{Frame}
-use Rattle.bus_model.specs.declared.Choice.{Choice}
-use Rattle.bus_model.specs.declared.Choice.the-variants.{Fixed, Any}
 use Rattle.bus_model.specs.Frame.{row}
 use Rattle.bus_model.specs.Pattern.{ofNode, hyperperiod}
 use Rattle.bus_model.specs.Valid.{Valid}
-use Rattle.bus_model.specs.Bounds.{ahead, isReleasedAt, workAt}
+use Rattle.bus_model.specs.Bounds.{ahead, isReleasedAt}
 
 -- the limits of a frame that keep the sums small
 pub record Fine (g : Frame) : Type 0 where
@@ -53,16 +51,6 @@ instantsIn gs e = keep (isInstant gs) (range 0 e)
 unfoldable pub orEnd : ℕ → Found → ℕ
 orEnd e (At m) = m
 orEnd e Nothing = e
-
--- a choice that gives the greatest work in the first n ticks: an alignment, or none where that work is 0
-unfoldable pub Greatest : List Frame → List ℕ → ℕ → Choice → Type 0
-Greatest gs als n (Fixed a) = Mem a als × (workAt gs a n ≡ greatest (λ b. workAt gs b n) als)
-Greatest gs als n Any = greatest (λ b. workAt gs b n) als ≡ 0
-
--- a fixed choice as it is, and one such in place of `Any`
-unfoldable pub BestChoice : List Frame → List ℕ → ℕ → Choice → Choice → Type 0
-BestChoice gs als n (Fixed a) c = c ≡ Fixed a
-BestChoice gs als n Any c = Greatest gs als n c
 
 -- the rows of node j
 abbrev pub partOf : List ℕ → List ℕ → ℕ → List ℕ

@@ -2,7 +2,8 @@
 pub mod Stored
 pub mod Fine
 pub mod Parts
+pub mod Steps
 pub mod Groups
-pub mod Best
 pub mod Above
 pub mod Kept
+pub mod Guesses

@@ -1,22 +1,24 @@
 // A node's alignments, one after the other: no array holds them.
+use crate::groups::GROUP;
 use crate::stored::frame_at;
 use crate::stored::inverse_at;
-use crate::work::demand_from;
-use crate::work::distance_from;
 use crate::work::index;
+use crate::work::quotient;
 use crate::work::releases_before;
 use arith::Found;
-use bus_model::Choice;
 use bus_model::Frame;
 ghost use mathlib.Core.Path.{_≡_};
+ghost use mathlib.Core.Bool.{cond};
+ghost use mathlib.Core.List.{List·Memᴰ as Mem};
 ghost use Prim.Native.Nat.{_+_, _-_, _*_, _≤_, _<_, min, max};
+ghost use lib.Dec.{eqb, ltb};
 ghost use lib.ListN.{length};
-ghost use Rattle.arith.specs.Lists.{greatest};
+ghost use Rattle.arith.specs.Lists.{sum, greatest};
 ghost use Rattle.arith.specs.Least.{least};
-ghost use Rattle.arith.specs.Releases.{releasesBefore};
-ghost use Rattle.bus_model.specs.Bounds.{phase, distance, workAt, orEmpty};
+ghost use Rattle.bus_model.specs.Bounds.{workAt, orEmpty};
 ghost use Rattle.workload.specs.Stored.{stored};
-ghost use Rattle.workload.specs.Grouped.{Fine, FinePart, framesIn, isInstant, instantsIn, orEnd, Greatest};
+ghost use Rattle.workload.specs.Steps.{nextRelease, waitFrom, restOf, wholeDemand, Noted};
+ghost use Rattle.workload.specs.Grouped.{Fine, FinePart, framesIn, isInstant, instantsIn, orEnd};
 
 fn lesser(a: u32, b: u32) -> u32
     ensures { λ r. ⌜ r ≡ min a b ⌝ }
@@ -28,7 +30,7 @@ fn lesser(a: u32, b: u32) -> u32
 fn next_release(g: Frame, after: u32, inverse: u32) -> u32
     requires { ⌜ Fine g ⌝ }
     requires { ⌜ after ≤ 1000000 ⌝ }
-    ensures { λ r. ⌜ r ≡ phase g + releasesBefore (phase g) (g .period) after * g .period ⌝ }
+    ensures { λ r. ⌜ r ≡ nextRelease after g ⌝ }
 {
     g.offset + releases_before(g.offset, g.period, after, inverse) * g.period
 }
@@ -54,79 +56,169 @@ pub fn next_alignment(frames: &[u32], part: &[u8], after: u32, end: u32) -> Foun
     }
 }
 
-// What the visit of an alignment tells: the work in the first n ticks, and the next alignment, or `end` where there is none
-// below it.
-pub struct Visit {
-    pub work: u64,
-    pub next: u32,
+// What the visit of an alignment tells: the work in the first n ticks, and how long after it the next alignment is, or `end` where
+// there is none below it.
+struct Visited {
+    work: u64,
+    gap: u32,
 }
 
-// The frame's first release after alignment a, where d is its distance from it: a period later if it is released at a itself.
-fn release_after(g: Frame, a: u32, d: u32) -> u32
-    requires { ⌜ Fine g ⌝ }
-    requires { ⌜ (a ≤ 1000000) × (d ≡ distance g a) ⌝ }
-    ensures { λ r. ⌜ r ≡ phase g + releasesBefore (phase g) (g .period) (a + 1) * g .period ⌝ }
+// The length of a release that is waited for, where it comes in the rest.
+fn in_rest(wait: u32, rest: u32, length: u32) -> u32
+    ensures { λ r. ⌜ r ≡ cond (ltb wait rest) length 0 ⌝ }
 {
-    if d == 0 { a + g.period } else { a + d }
+    if wait < rest { length } else { 0 }
 }
 
-// The visit of alignment a. A frame's distance gives both its demand and its next release, so that it costs two quotients.
-fn visit_at(frames: &[u32], part: &[u8], a: u32, n: u32, end: u32) -> Visit
+// How long the next release is waited for: a period, where one is released now.
+fn wait_after(wait: u32, period: u32) -> u32
+    ensures { λ r. ⌜ r ≡ cond (eqb wait 0) period wait ⌝ }
+{
+    if wait == 0 { period } else { wait }
+}
+
+// The demand of the frames' whole periods in the first n ticks, which no alignment changes. Noted are each frame's length and
+// period, the rest that the periods leave, and how long after 0 its first release is.
+fn begin(
+    frames: &[u32],
+    part: &[u8],
+    n: u32,
+    lengths: &mut [u32; GROUP],
+    periods: &mut [u32; GROUP],
+    rests: &mut [u32; GROUP],
+    waits: &mut [u32; GROUP],
+) -> u64
     requires { ⌜ FinePart (stored (now frames)) (now part) ⌝ }
-    requires { ⌜ (a < end) × (end ≤ 1000000) × (n ≤ 1000001) ⌝ }
-    ensures { λ r. ⌜ r .work ≡ workAt (framesIn (stored (now (frames .entry))) (now (part .entry))) a n ⌝ }
-    ensures next { λ r. ⌜ r .next ≡ orEnd end (least (isInstant (framesIn (stored (now (frames .entry))) (now (part .entry)))) (end - (a + 1)) (a + 1)) ⌝ }
-    ensures small { λ r. ⌜ r .work ≤ 64 * 400400400 ⌝ }
+    requires { ⌜ n ≤ 1000001 ⌝ }
+    requires { ⌜ (length (now lengths) ≡ 64) × (length (now periods) ≡ 64) × (length (now rests) ≡ 64) × (length (now waits) ≡ 64) ⌝ }
+    ensures { λ r. ⌜ r ≡ sum (wholeDemand n) (framesIn (stored (now (frames .entry))) (now (part .entry))) ⌝ }
+    ensures small { λ r. ⌜ r ≤ 64 * 400000400 ⌝ }
+    ensures lengths { λ _. ⌜ Noted (λ g. g .length) (stored (now (frames .entry))) (now (part .entry)) (now (lengths .exit)) ⌝ }
+    ensures periods { λ _. ⌜ Noted (λ g. g .period) (stored (now (frames .entry))) (now (part .entry)) (now (periods .exit)) ⌝ }
+    ensures rests { λ _. ⌜ Noted (restOf n) (stored (now (frames .entry))) (now (part .entry)) (now (rests .exit)) ⌝ }
+    ensures waits { λ _. ⌜ Noted (waitFrom 0 0) (stored (now (frames .entry))) (now (part .entry)) (now (waits .exit)) ⌝ }
 {
-    let mut work: u64 = 0;
-    let mut next = end;
+    let mut whole: u64 = 0;
     let mut i = 0;
     while i < part.len() {
         let at = index(part[i]);
         let g = frame_at(frames, at);
-        let inverse = inverse_at(frames, at);
-        let d = distance_from(g, a, inverse);
-        work += demand_from(g, d, n, inverse);
-        next = lesser(next, release_after(g, a, d));
+        let times = quotient(n, g.period, inverse_at(frames, at));
+        lengths[i] = g.length;
+        periods[i] = g.period;
+        rests[i] = n - times * g.period;
+        waits[i] = g.offset;
+        whole += g.length as u64 * times as u64;
         i += 1;
     }
-    Visit { work, next }
+    whole
 }
 
-// A choice and the work that it gives.
+// The visit of alignment a, which is `gap` ticks after the last one. How long after that each frame is released at a or later is
+// noted, and how long after a it is released next takes its place: so the walk from one alignment to the next needs no quotient.
+fn visit(
+    frames: &[u32],
+    part: &[u8],
+    gap: u32,
+    a: u32,
+    n: u32,
+    end: u32,
+    whole: u64,
+    lengths: &[u32; GROUP],
+    periods: &[u32; GROUP],
+    rests: &[u32; GROUP],
+    waits: &mut [u32; GROUP],
+) -> Visited
+    requires { ⌜ FinePart (stored (now frames)) (now part) ⌝ }
+    requires { ⌜ (gap ≤ a) × (a < end) × (end ≤ 1000000) ⌝ }
+    requires { ⌜ (whole ≡ sum (wholeDemand n) (framesIn (stored (now frames)) (now part))) × (whole ≤ 64 * 400000400) ⌝ }
+    requires { ⌜ Noted (λ g. g .length) (stored (now frames)) (now part) (now lengths) ⌝ }
+    requires { ⌜ Noted (λ g. g .period) (stored (now frames)) (now part) (now periods) ⌝ }
+    requires { ⌜ Noted (restOf n) (stored (now frames)) (now part) (now rests) ⌝ }
+    requires { ⌜ Noted (waitFrom (a - gap) a) (stored (now frames)) (now part) (now waits) ⌝ }
+    ensures { λ r. ⌜ r .work ≡ workAt (framesIn (stored (now (frames .entry))) (now (part .entry))) a n ⌝ }
+    ensures next { λ r. ⌜ a + r .gap ≡ orEnd end (least (isInstant (framesIn (stored (now (frames .entry))) (now (part .entry)))) (end - (a + 1)) (a + 1)) ⌝ }
+    ensures small { λ r. ⌜ (r .work ≤ 64 * 400400400) × (r .gap ≤ end - a) ⌝ }
+    ensures waits { λ _. ⌜ Noted (waitFrom a (a + 1)) (stored (now (frames .entry))) (now (part .entry)) (now (waits .exit)) ⌝ }
+{
+    let mut extra: u32 = 0;
+    let mut least = end - a;
+    let mut i = 0;
+    while i < part.len() {
+        let wait = waits[i] - gap;
+        extra += in_rest(wait, rests[i], lengths[i]);
+        let later = wait_after(wait, periods[i]);
+        waits[i] = later;
+        least = lesser(least, later);
+        i += 1;
+    }
+    Visited {
+        work: whole + extra as u64,
+        gap: least,
+    }
+}
+
+// An alignment and its work.
 pub struct Best {
-    pub choice: Choice,
+    pub alignment: u32,
     pub work: u64,
 }
 
-// The first alignment that gives the greatest work in the first n ticks, if that is not 0, with that work.
+// The greatest work that an alignment gives in the first n ticks, and the first alignment that gives it; both 0 where there is none.
 pub fn best_alignment(frames: &[u32], part: &[u8], end: u32, n: u32) -> Best
     requires { ⌜ FinePart (stored (now frames)) (now part) ⌝ }
     requires { ⌜ (end ≤ 1000000) × (n ≤ 1000001) ⌝ }
-    ensures { λ r. ⌜ Greatest (framesIn (stored (now (frames .entry))) (now (part .entry))) (instantsIn (framesIn (stored (now (frames .entry))) (now (part .entry))) end) n (r .choice) ⌝ }
-    ensures work { λ r. ⌜ r .work ≡ greatest (λ a. workAt (framesIn (stored (now (frames .entry))) (now (part .entry))) a n) (instantsIn (framesIn (stored (now (frames .entry))) (now (part .entry))) end) ⌝ }
+    ensures among { λ r. ⌜ Mem (r .alignment) (orEmpty (instantsIn (framesIn (stored (now (frames .entry))) (now (part .entry))) end)) ⌝ }
+    ensures { λ r. ⌜ r .work ≡ greatest (λ a. workAt (framesIn (stored (now (frames .entry))) (now (part .entry))) a n) (instantsIn (framesIn (stored (now (frames .entry))) (now (part .entry))) end) ⌝ }
     ensures small { λ r. ⌜ r .work ≤ 64 * 400400400 ⌝ }
 {
     let found = next_alignment(frames, part, 0, end);
     let Found::At(first) = found else {
         return Best {
-            choice: Choice::Any,
+            alignment: 0,
             work: 0,
         };
     };
-    let mut choice = Choice::Any;
+    let mut lengths = [0u32; GROUP];
+    let mut periods = [0u32; GROUP];
+    let mut rests = [0u32; GROUP];
+    let mut waits = [0u32; GROUP];
+    let whole = begin(
+        frames,
+        part,
+        n,
+        &mut lengths,
+        &mut periods,
+        &mut rests,
+        &mut waits,
+    );
+    let mut alignment = first;
     let mut work: u64 = 0;
+    let mut gap = first;
     let mut a = first;
     loop {
-        let v = visit_at(frames, part, a, n, end);
+        let v = visit(
+            frames,
+            part,
+            gap,
+            a,
+            n,
+            end,
+            whole,
+            &lengths,
+            &periods,
+            &rests,
+            &mut waits,
+        );
         if work < v.work {
             work = v.work;
-            choice = Choice::Fixed(a);
+            alignment = a;
         }
-        if end <= v.next {
-            return Best { choice, work };
+        if end <= a + v.gap {
+            return Best { alignment, work };
         }
-        a = v.next;
+        gap = v.gap;
+        a += v.gap;
     }
 }
 

@@ -29,18 +29,18 @@ use Rattle.frame_table.specs.Table.{readCheck, rowsCheck}
 use Rattle.frame_table.specs.laws.Accepted.{accepted-size}
 use Rattle.frame_table.specs.laws.Layout.{length-fields}
 use Rattle.frame_table.specs.laws.Sizes.{file-size, rows-size}
-use Rattle.certifier.specs.declared.Cause.{Cause}
-use Rattle.certifier.specs.declared.Cause.the-variants.{Table, NoSuchRow, NoWindow as NoWindowCause, TooManyScenarios}
-use Rattle.certifier.specs.declared.Refusal.{Refusal}
-use Rattle.certifier.specs.declared.Judged.{Judged}
-use Rattle.certifier.specs.declared.Judged.the-variants.{Verdict, NotJudged}
-use Rattle.certifier.specs.declared.Bounded.{Bounded}
-use Rattle.certifier.specs.declared.Bounded.the-variants.{Bound, NotBounded}
-use Rattle.certifier.specs.Refusal.{numberOf}
-use Rattle.certifier.specs.Judge.{noRow, judgeChecked, judgeRow, boundFrame, boundChecked, boundRow}
+use Rattle.row_judgement.specs.declared.Cause.{Cause}
+use Rattle.row_judgement.specs.declared.Cause.the-variants.{Table, NoSuchRow, NoWindow as NoWindowCause, TooManyScenarios}
+use Rattle.row_judgement.specs.declared.Refusal.{Refusal}
+use Rattle.row_judgement.specs.declared.Judged.{Judged}
+use Rattle.row_judgement.specs.declared.Judged.the-variants.{Verdict, NotJudged}
+use Rattle.row_judgement.specs.declared.Bounded.{Bounded}
+use Rattle.row_judgement.specs.declared.Bounded.the-variants.{Bound, NotBounded}
+use Rattle.row_judgement.specs.Refusal.{numberOf}
+use Rattle.row_judgement.specs.Judge.{noRow, judgeChecked, judgeRow, boundFrame, boundChecked, boundRow}
 use Rattle.certifier.specs.Encode.{judgeRead, judgeFile, boundRead, boundFile, encodeRefusal, encodeJudged, encodeBounded}
 use Rattle.certifier.specs.Steps.{Encodable}
-use Rattle.certifier.specs.laws.Judged.{judged-encodable}
+use Rattle.certifier.specs.laws.Small.{judged-encodable}
 
 -- ---- the parts
 

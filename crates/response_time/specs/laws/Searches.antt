@@ -3,7 +3,7 @@
 use Prim.Native.Nat.{ℕ, suc, _+_, _-_, _*_, _≤_, _<_, max}
 use mathlib.Core.Path.{_≡_, refl, sym, ap, subst, _∙_}
 use mathlib.Core.List.{List}
-use mathlib.Core.Bool.{Bool, true, false, cond}
+use mathlib.Core.Bool.{Bool, true, false}
 use native.Mathlib.Omega.{arith}
 use native.Mathlib.Numerals.{add-one}
 use lib.Dec.{T, leb→le, le→leb}
@@ -13,7 +13,7 @@ use Rattle.arith.specs.Least.{least, orZero}
 use Rattle.arith.specs.Releases.{releasesBefore}
 use Rattle.arith.specs.laws.Walks.{CountUp, count-start, count-more, count-end, greatest-more}
 use Rattle.arith.specs.laws.Releases.{counted}
-use Rattle.arith.specs.laws.Least.{least-le, least-within, least-here, least-none, least-skip, least-from, least-neither}
+use Rattle.arith.specs.laws.Least.{least-le, least-here, least-none, least-skip, least-from, least-neither}
 use Rattle.arith.specs.declared.Found.{Found}
 use Rattle.arith.specs.declared.Found.the-variants.{At, Nothing}
 use Rattle.bus_model.specs.declared.Frame.{Frame}
@@ -152,24 +152,6 @@ module _ {fs : List Frame} (valid : Valid fs) {k : Frame} {at : ℕ} (inside : a
   -- It fixes the same alignment of k's own node.
   pub own-finer : choiceOf cs (k .node) ≡ Fixed own → choiceOf cs′ (k .node) ≡ Fixed own
   own-finer = own-kept fs k cs cs′ finer (subst ValidFrame (sym is) (valid .frame at inside))
-
-  -- Where it has the same work, it has the same load.
-  load-same : (delay : Bool) (base x : ℕ) → (T delay → choiceOf cs (k .node) ≡ Fixed own)
-      → work fs k (ahead fs k) cs′ (cond delay (x + 1) x) ≡ work fs k (ahead fs k) cs (cond delay (x + 1) x) → loadOf fs k cs′ delay base x ≡ loadOf fs k cs delay base x
-  unfolding loadOf
-  load-same true base x fixed same =
-      let f = fixed tt in
-      rw (← add-one x) (omega (arith, same, own-part valid inside is cs own f (x + 1), own-part valid inside is cs′ own (own-finer f) (x + 1)))
-  load-same false base x fixed same = ap (λ (w : ℕ). base + w) same
-
-  -- So where its search stops at x, the search at hand does.
-  pub settle-here : (delay : Bool) (base e x : ℕ) {n : ℕ} → (T delay → choiceOf cs (k .node) ≡ Fixed own) → n ≡ cond delay (x + 1) x
-      → work fs k (ahead fs k) cs′ n ≡ work fs k (ahead fs k) cs n
-      → {found : Found} {y : ℕ} → found ≡ least (holds fs k cs′ delay base) (e - x) x → found ≡ At y → y ≡ x → At x ≡ least (holds fs k cs delay base) (e - x) x
-  unfolding holds
-  settle-here delay base e x fixed ticks same search at here =
-      let (low, high, t) = least-within _ e (sym search ∙ at) in
-      sym (least-here _ e x (omega arith) (rw (here, load-same delay base x fixed (rw ticks at same)) at t))
 
 -- ---- the instances released in a busy window
 

@@ -4,7 +4,7 @@ use borrow.Author.Needs.{needs}
 use Rattle.arith.specs.laws.Signed.{kept}
 use Rattle.certifier.specs.Encode.{encodeJudged}
 use Rattle.certifier.specs.Steps.{Encodable}
-use Rattle.certifier.specs.laws.Judged.{judged-encodable}
+use Rattle.certifier.specs.laws.Small.{judged-encodable}
 use Rattle.test_entries.proofs.test_judge.Statement.{statement}
 use Rattle.test_entries.proofs.test_judge.Tie as tie
 

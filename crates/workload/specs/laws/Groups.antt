@@ -1,5 +1,5 @@
 -- The rows of each node's frames ahead of k, as they are found and then read; and the lengths below k.
-use Prim.Native.Nat.{ℕ, _+_, _-_, _*_, _/_, _≤_, _<_, max}
+use Prim.Native.Nat.{ℕ, _+_, _-_, _*_, _≤_, _<_, max}
 use mathlib.Core.Path.{_≡_, refl, sym, ap, subst, _∙_}
 use mathlib.Core.Bool.{Bool, true, false, cond, _&&_}
 use mathlib.Core.List.{List, _∷_, _++_, append-nil}
@@ -22,7 +22,7 @@ use Rattle.bus_model.specs.Frame.{noFrame, row}
 use Rattle.bus_model.specs.Pattern.{ofNode, hyperperiod}
 use Rattle.bus_model.specs.Bounds.{isAhead, isBelow, ahead, below, blocking, alignments, choiceOf, nodeWork}
 use Rattle.bus_model.specs.theory.Visits.{isAlignment}
-use Rattle.workload.specs.Grouped.{FineTable, FinePart, framesIn, isInstant, instantsIn, BestChoice, partOf, Grouped}
+use Rattle.workload.specs.Grouped.{FineTable, FinePart, framesIn, isInstant, instantsIn, partOf, Grouped}
 use Rattle.workload.specs.laws.Fine.{member-fine, group-fine}
 
 -- ---- blocking
@@ -234,9 +234,3 @@ module _ {fs : List Frame} {k : Frame} {members counts ends : List ℕ} (g : Gro
       → r ≡ nodeWork (framesIn fs (lent members counts i)) (instantsIn (framesIn fs (lent members counts i)) (getD ends i 0)) (getD cs i (Fixed 0)) n
       → r ≡ nodeWork (ofNode (ahead fs k) (i + 1)) (alignments fs k (i + 1)) (choiceOf cs (i + 1)) n
   lent-work cs n all e = rw (lent-choice cs all) at (lent-node _ n e)
-
-  -- What is the best choice for them is so for the node.
-  pub lent-best : (cs best : List Choice) (n : ℕ) → length cs ≡ 16 → length best ≡ 16
-      → BestChoice (framesIn fs (lent members counts i)) (instantsIn (framesIn fs (lent members counts i)) (getD ends i 0)) n (getD cs i (Fixed 0)) (getD best i (Fixed 0))
-      → BestChoice (ofNode (ahead fs k) (i + 1)) (alignments fs k (i + 1)) n (choiceOf cs (i + 1)) (choiceOf best (i + 1))
-  lent-best cs best n all whole b = rw (lent-alignments, lent-frames, lent-choice cs all, lent-choice best whole) at b

@@ -5,7 +5,7 @@ use mathlib.Core.List.{List, [], _∷_, Memᴰ·map}
 use mathlib.Core.Bool.{Bool}
 use native.Mathlib.Omega.{arith}
 use native.Mathlib.Decide.{decLe}
-use native.Mathlib.Nat.{add-zero, mul-le-mul-right, mod-add-div', add-mod-right, add-mul-mod-self-right, mod-eq-of-lt}
+use native.Mathlib.Nat.{mul-le-mul-right, mod-add-div', add-mod-right, add-mul-mod-self-right, mod-eq-of-lt}
 use lib.Dec.{T}
 use lib.ListN.{length, getD}
 use Rattle.arith.specs.Lists.{greatest}
@@ -23,17 +23,14 @@ use Rattle.bus_model.specs.Valid.{ValidFrame}
 use Rattle.bus_model.specs.Bounds.{phase, isReleasedAt, distance, orEmpty}
 use Rattle.bus_model.specs.theory.Alignment.{released-at, released-turn, distance-lt, distance-reaches}
 use Rattle.workload.specs.Grouped.{Fine, FinePart, framesIn, isInstant, orEnd}
+use Rattle.workload.specs.Steps.{nextRelease}
 
 -- What stands at a place of the rows is within the limits.
 pub part-fine : {fs : List Frame} {part : List ℕ} → FinePart fs part → {i : ℕ} → i < length part → {g : Frame} → g ≡ row fs (getD part i 0) → Fine g
 part-fine {fs} {part} all {i} inside is = all .fine _ (rw is (Memᴰ·map (row fs) (mem-getD part i 0 inside)))
 
--- the first release of the frame at tick a or later, as the code computes it
-abbrev pub nextRelease : ℕ → Frame → ℕ
-nextRelease a g = phase g + releasesBefore (phase g) (g .period) a * g .period
-
 -- It is one.
-next-released : {g : Frame} → Fine g → (a : ℕ) → T (isReleasedAt (nextRelease a g) g)
+pub next-released : {g : Frame} → Fine g → (a : ℕ) → T (isReleasedAt (nextRelease a g) g)
 unfolding phase
 next-released {g} fine a = released-at g (nextRelease a g) (add-mul-mod-self-right (phase g) _ (g .period) ∙ mod-eq-of-lt (fine .offset))
 
@@ -47,29 +44,43 @@ next-first {g} fine a m low t =
 pub of-fine : {g : Frame} → Fine g → ValidFrame g
 of-fine fine = record { period = fine .period-low; length = fine .length-low; node-low = fine .node-low; node-high = fine .node-high; offset = fine .offset }
 
--- A release after a that comes within a period is the next one.
-next-within : {g : Frame} → Fine g → (a x : ℕ) → a < x → x ≤ a + g .period → x % g .period ≡ phase g → x ≡ nextRelease (a + 1) g
-next-within {g} fine a x after soon rest =
-    let p = g .period in
-    let c = releasesBefore (phase g) p (a + 1) in
-    let is : x ≡ phase g + x / p * p = omega (arith, mod-add-div' x p) in
-    let few : c ≤ x / p = count-le (phase g) (fine .period-low) (a + 1) (x / p) (omega arith) in
-    let late = next-after (phase g) (fine .period-low) (a + 1) in
-    let many : ¬ (c < x / p) = λ less. omega (arith, mul-le-mul-right p less) in
-    let same : x / p ≡ c = omega arith in
-    rw same at is
+module _ {g : Frame} (fine : Fine g) where
+  -- A release at a or later that comes within a period is the first.
+  next-within : (a x : ℕ) → a ≤ x → x < a + g .period → x % g .period ≡ phase g → x ≡ nextRelease a g
+  next-within a x late soon rest =
+      let p = g .period in
+      let c = releasesBefore (phase g) p a in
+      let is : x ≡ phase g + x / p * p = omega (arith, mod-add-div' x p) in
+      let few : c ≤ x / p = count-le (phase g) (fine .period-low) a (x / p) (omega arith) in
+      let many : ¬ (c < x / p) = λ less. omega (arith, next-after (phase g) (fine .period-low) a, mul-le-mul-right p less) in
+      let same : x / p ≡ c = omega arith in
+      rw same at is
 
--- After a release at a the next one is a period later,
-pub next-period : {g : Frame} → Fine g → (a : ℕ) → distance g a ≡ 0 → a + g .period ≡ nextRelease (a + 1) g
-next-period {g} fine a none =
-    let rest = rw (none, add-zero) at (distance-reaches (of-fine fine) a) in
-    next-within fine a (a + g .period) (omega (arith, fine .period-low)) (omega arith) (add-mod-right a (g .period) ∙ rest)
+  -- The first is not before a,
+  pub next-late : (a : ℕ) → a ≤ nextRelease a g
+  next-late a = next-after (phase g) (fine .period-low) a
 
--- and elsewhere it is at the distance from a.
-pub next-distance : {g : Frame} → Fine g → (a : ℕ) → ¬ (distance g a ≡ 0) → a + distance g a ≡ nextRelease (a + 1) g
-next-distance {g} fine a some =
-    let short = distance-lt (of-fine fine) a in
-    next-within fine a (a + distance g a) (omega arith) (omega arith) (distance-reaches (of-fine fine) a)
+  -- and at the distance from it.
+  pub next-distance : (a : ℕ) → nextRelease a g ≡ a + distance g a
+  next-distance a = sym (next-within a (a + distance g a) (omega arith) (omega (arith, distance-lt (of-fine fine) a)) (distance-reaches (of-fine fine) a))
+
+  next-rest : (a : ℕ) → nextRelease a g % g .period ≡ phase g
+  next-rest a = ap (λ (x : ℕ). x % g .period) (next-distance a) ∙ distance-reaches (of-fine fine) a
+
+  -- It is the first after any tick up to it.
+  pub next-stays : (a b : ℕ) → a ≤ b → b ≤ nextRelease a g → nextRelease a g ≡ nextRelease b g
+  next-stays a b late inside = next-within b (nextRelease a g) inside (omega (arith, next-distance a, distance-lt (of-fine fine) a)) (next-rest a)
+
+  -- After a release at a the next one is a period later.
+  pub next-period : (a : ℕ) → nextRelease a g ≡ a → a + g .period ≡ nextRelease (a + 1) g
+  next-period a here =
+      let rest = rw here at (next-rest a) in
+      next-within (a + 1) (a + g .period) (omega (arith, fine .period-low)) (omega arith) (add-mod-right a (g .period) ∙ rest)
+
+  -- The very first is at the offset.
+  pub next-offset : g .offset ≡ nextRelease 0 g
+  unfolding phase
+  next-offset = next-within 0 (g .offset) (omega arith) (omega (arith, fine .offset)) (mod-eq-of-lt (fine .offset))
 
 -- how long before e that is, for the frame that is released first
 abbrev pub lead : ℕ → ℕ → List Frame → ℕ

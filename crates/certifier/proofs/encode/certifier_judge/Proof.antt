@@ -4,10 +4,10 @@ use mathlib.Core.Path.{refl, sym, ap, subst, _∙_}
 use mathlib.Core.List.{List}
 use borrow.Author.Needs.{needs}
 use Rattle.arith.specs.laws.Signed.{kept}
-use Rattle.certifier.specs.Judge.{judgeRow}
+use Rattle.row_judgement.specs.Judge.{judgeRow}
 use Rattle.certifier.specs.Encode.{judgeFile, judgeRead, encodeJudged, encodeRefusal}
 use Rattle.certifier.specs.Steps.{Encodable}
-use Rattle.certifier.specs.laws.Judged.{judged-encodable}
+use Rattle.certifier.specs.laws.Small.{judged-encodable}
 use Rattle.certifier.specs.laws.Reading.{ReadRows, read-refused, read-rows}
 use Rattle.certifier.proofs.encode.certifier_judge.Statement.{statement}
 use Rattle.certifier.proofs.encode.certifier_judge.Tie as tie

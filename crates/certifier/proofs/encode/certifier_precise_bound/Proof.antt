@@ -4,7 +4,7 @@ use mathlib.Core.Path.{refl, ap, _∙_}
 use mathlib.Core.List.{List}
 use borrow.Author.Needs.{needs}
 use Rattle.arith.specs.laws.Signed.{kept}
-use Rattle.certifier.specs.Judge.{boundRow}
+use Rattle.row_judgement.specs.Judge.{boundRow}
 use Rattle.certifier.specs.Encode.{boundFile, boundRead, encodeBounded, encodeRefusal}
 use Rattle.certifier.specs.laws.Reading.{ReadRows, read-refused, read-rows}
 use Rattle.certifier.proofs.encode.certifier_precise_bound.Statement.{statement}

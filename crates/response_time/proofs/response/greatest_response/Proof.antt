@@ -1,59 +1,60 @@
 -- The loop goes through the instances released in the window; each starts in the window, and no delay of the next one is below the end of this one,
 -- so its search starts there. The measure is how many instances are left.
 use Prim.Native.Nat.{_-_, _+_, _*_, _≤_, _<_}
-use mathlib.Core.Path.{_≡_, refl}
+use mathlib.Core.Path.{_≡_, refl, sym, _∙_}
 use native.Mathlib.Omega.{arith}
 use borrow.Author.Needs.{needs}
 use lib.ListN.{length}
 use Rattle.workload.specs.Stored.{stored}
+use Rattle.workload.specs.Kept.{Kept}
 use Rattle.workload.specs.laws.Fine.{in-table-fine}
 use Rattle.response_time.specs.laws.Searches.{window-small, Windowed, Turn, turn-start, turn-fits, turn-ends, turn-more, turn-end}
 use Rattle.response_time.proofs.response.greatest_response.Statement.{statement}
 use Rattle.response_time.proofs.response.greatest_response.Tie as tie
 
 abbrev Inv-loop : tie.InvT-loop
-Inv-loop frames members counts ends k choices own blocked l hints₀ d instances best₀ from₀ q₀ hints best from q =
-    (length hints ≡ length hints₀) × Turn (stored frames) k choices l instances best from q
+Inv-loop frames members counts ends k choices own blocked l hints₀ sums₀ d instances best₀ from₀ q₀ hints sums best from q = (length hints ≡ length hints₀) × Kept (stored frames) k sums × Turn (stored frames) k choices l instances best from q
 
 abbrev μ-loop : tie.MeasureT-loop
-μ-loop frames members counts ends k choices own blocked l hints₀ d instances best₀ from₀ q₀ hints best from q = instances - q
+μ-loop frames members counts ends k choices own blocked l hints₀ sums₀ d instances best₀ from₀ q₀ hints sums best from q = instances - q
 
 distance-from-requires : tie.Need-distance-from-requires Inv-loop μ-loop
-distance-from-requires c κs = let s = c .before .before .before .before .before in in-table-fine _ (s .pre .0) (s .pre .1 .1 .0)
+distance-from-requires c κs =
+    let s = c .before .before .before .before .before .before in
+    in-table-fine _ (s .pre .0) (s .pre .1 .1 .0)
 
 releases-before-requires : tie.Need-releases-before-requires Inv-loop μ-loop
 releases-before-requires c κs =
-    let s = c .before .before .before .before .before .before in
+    let s = c .before .before .before .before .before .before .before in
     let f = in-table-fine _ (s .pre .0) (s .pre .1 .1 .0) in
-    (f .period-low, f .period-high, omega (arith, window-small _ _ _ (s .pre .1 .1 .1 .2)))
+    (f .period-low, f .period-high, omega (arith, window-small _ _ _ (s .pre .1 .1 .1 .0 .2)))
 
 -- what the calls before the loop tell of the window
 window : (c : tie.After-releases-before Inv-loop μ-loop) →
-    let a = c .before .before .before .before .before .before .before .args in Windowed (stored (a .frames .now)) (a .k) (a .choices) (a .own) (a .l) (c .before .distance-from .result) (c .releases-before .result)
+    let a = c .before .before .before .before .before .before .before .before .args in Windowed (stored (a .frames .now)) (a .k) (a .choices) (a .own) (a .l) (c .before .distance-from .result) (c .releases-before .result)
 window c =
-    let s = c .before .before .before .before .before .before .before in
+    let s = c .before .before .before .before .before .before .before .before in
     record {
       accepted = s .pre .0;
       listed = s .pre .1 .1 .0;
-      fixed = s .pre .1 .1 .1 .0;
-      window = s .pre .1 .1 .1 .2;
+      fixed = s .pre .1 .1 .1 .0 .0;
+      window = s .pre .1 .1 .1 .0 .2;
       away = c .before .distance-from .ensures .0;
       number = c .releases-before .ensures .0;
     }
 
 loop-holds : tie.Need-loop-holds Inv-loop μ-loop
-loop-holds c = (refl, turn-start (window c))
+loop-holds c = (refl, c .before .before .before .before .before .before .before .before .pre .1 .1 .1 .1, turn-start (window c))
 
 -- what an instance waits for and its release are small
 fits : (c : tie.In-loop Inv-loop μ-loop) →
-    let a = c .before .before .before .before .before .before .before .before .before .args in
+    let a = c .before .before .before .before .before .before .before .before .before .before .args in
     (a .blocked + c .before .loop .q * a .k .length ≤ 1000000) × (c .before .before .before .distance-from .result + c .before .loop .q * a .k .period < 1000000)
-fits c = rw (c .before .before .before .before .before .before .before .before .before .pre .1 .1 .1 .1) (turn-fits (window (c .before .before)) (c .before .loop .inv .1) (c .loop-test .taken))
+fits c = rw (c .before .before .before .before .before .before .before .before .before .before .pre .1 .1 .1 .0 .1) (turn-fits (window (c .before .before)) (c .before .loop .inv .2) (c .loop-test .taken))
 
 -- and so is its end
-ends : (c : tie.After-or-zero Inv-loop μ-loop) → c .or-zero .result + c .before .before .before .before .before .before .before .before .before .before .before .before .args .k .length ≤ 1000000
-ends c =
-    turn-ends (window (c .before .before .before .before .before)) (c .before .before .before .before .loop .inv .1) (c .before .before .before .loop-test .taken) (c .before .before .before .before .before .before .before .before .before .before .before .before .pre .1 .1 .1 .1) (c .before .settle .ensures) (c .or-zero .ensures)
+ends : (c : tie.After-or-zero Inv-loop μ-loop) → c .or-zero .result + c .before .before .before .before .before .before .before .before .before .before .before .before .before .before .before .before .args .k .length ≤ 1000000
+ends c = turn-ends (window (c .before .before .before .before .before .before .before .before)) (c .before .before .before .before .before .before .before .loop .inv .2) (c .before .before .before .before .before .before .loop-test .taken) (c .before .before .before .before .before .before .before .before .before .before .before .before .before .before .before .before .pre .1 .1 .1 .0 .1) (c .before .before .before .settle .ensures .0) (c .or-zero .ensures)
 
 cast-base : tie.Need-cast-base Inv-loop μ-loop
 cast-base c = search needs
@@ -69,8 +70,8 @@ add-base c = omega (arith, fits (c .before) .0)
 
 settle-requires : tie.Need-settle-requires Inv-loop μ-loop
 settle-requires c κs =
-    let s = c .before .before .before .before .before .before .before .before .before .before in
-    (s .pre .0, (s .pre .1 .0, (s .pre .1 .1 .0, (λ t. s .pre .1 .1 .1 .0, omega (arith, fits (c .before) .0), omega arith))))
+    let s = c .before .before .before .before .before .before .before .before .before .before .before .before in
+    (s .pre .0, (s .pre .1 .0, (s .pre .1 .1 .0, ((λ t. s .pre .1 .1 .1 .0 .0, omega (arith, fits (c .before .before) .0), omega arith), c .before .before .before .loop .inv .1))))
 
 or-zero-requires : tie.Need-or-zero-requires Inv-loop μ-loop
 or-zero-requires c κs = search needs
@@ -85,14 +86,14 @@ remember-requires : tie.Need-remember-requires Inv-loop μ-loop
 remember-requires c κs = search needs
 
 mul-response : tie.Need-mul-response Inv-loop μ-loop
-mul-response c = omega (arith, fits (c .before .before .before .before .before .before .before .before) .1)
+mul-response c = omega (arith, fits (c .before .before .before .before .before .before .before .before .before .before .before) .1)
 
 add-response : tie.Need-add-response Inv-loop μ-loop
-add-response c = omega (arith, fits (c .before .before .before .before .before .before .before .before) .1)
+add-response c = omega (arith, fits (c .before .before .before .before .before .before .before .before .before .before .before) .1)
 
 response-requires : tie.Need-response-requires Inv-loop μ-loop
 response-requires c κs =
-    let s = c .before .before .before .before .before .before .before .before .before .before .before .before .before .before .before .before .before in
+    let s = c .before .before .before .before .before .before .before .before .before .before .before .before .before .before .before .before .before .before .before .before .before in
     (omega (arith, ends (c .before .before .before .before .before)), in-table-fine _ (s .pre .0) (s .pre .1 .1 .0) .length-high)
 
 bigger-requires : tie.Need-bigger-requires Inv-loop μ-loop
@@ -109,14 +110,18 @@ loop-less c = search needs
 
 loop-again : tie.Need-loop-again Inv-loop μ-loop
 loop-again c =
-    let l = c .before .before .before .before .before .before .before .before .before .before .before .before in
-    (omega (arith, c .before .before .before .before .before .before .remember .kept .0, l .loop .inv .0), turn-more (window (l .before)) (l .loop .inv .1) (c .before .before .before .before .before .before .before .before .before .before .before .loop-test .taken) (l .before .before .before .before .before .before .before .before .pre .1 .1 .1 .1) (c .before .before .before .before .before .before .before .before .before .settle .ensures) (c .before .before .before .before .before .before .before .before .or-zero .ensures) (c .before .before .response .ensures) (c .before .bigger .ensures))
+    let l = c .before .before .before .before .before .before .before .before .before .before .before .before .before .before .before .loop in
+    let turn = turn-more (window (c .before .before .before .before .before .before .before .before .before .before .before .before .before .before .before .before)) (l .inv .2) (c .before .before .before .before .before .before .before .before .before .before .before .before .before .before .loop-test .taken) (c .before .before .before .before .before .before .before .before .before .before .before .before .before .before .before .before .before .before .before .before .before .before .before .before .pre .1 .1 .1 .0 .1) (c .before .before .before .before .before .before .before .before .before .before .before .settle .ensures .0) (c .before .before .before .before .before .before .before .before .or-zero .ensures) (c .before .before .response .ensures) (c .before .bigger .ensures) in
+    (omega (arith, c .before .before .before .before .before .before .remember .kept .0, l .inv .0), c .before .before .before .before .before .before .before .before .before .before .before .settle .ensures .1, turn)
 
 same-length : tie.Need-same-length Inv-loop μ-loop
 same-length c = search needs
 
+same-length-2 : tie.Need-same-length-2 Inv-loop μ-loop
+same-length-2 c = c .before .loop .inv .1 .size ∙ sym (c .before .before .before .before .before .before .before .before .before .before .pre .1 .1 .1 .1 .size)
+
 returns : tie.Need-returns Inv-loop μ-loop
-returns c = turn-end (c .before .loop .inv .1) (c .loop-test .left)
+returns c = (turn-end (c .before .loop .inv .2) (c .loop-test .left), c .before .loop .inv .1)
 
 pub greatest-response-spec : {M : Type 1} → statement M
 greatest-response-spec =
@@ -145,4 +150,5 @@ greatest-response-spec =
     loop-less
     loop-again
     same-length
+    same-length-2
     returns)

@@ -7,7 +7,9 @@ use Rattle.response_time.proofs.response.scenario_response.Statement.{s
 use Rattle.response_time.proofs.response.scenario_response.Tie as tie
 
 busy-window-requires : tie.Need-busy-window-requires
-busy-window-requires c κs = search needs
+busy-window-requires c κs =
+    let p = c .before .before .before .before .before .before .before .pre in
+    (p .0, (p .1 .0, (p .1 .1 .0, (p .1 .1 .1 .0 .1, p .1 .1 .1 .1))))
 
 enum-known-found : tie.Need-enum-known-found
 enum-known-found c = search needs
@@ -15,22 +17,29 @@ enum-known-found c = search needs
 enum-told : tie.Need-enum-told
 enum-told c = search needs
 
+same-length : tie.Need-same-length
+same-length c = c .before .before .before .before .busy-window .ensures .1 .size ∙ sym (c .before .before .before .before .before .before .before .before .before .before .before .before .pre .1 .1 .1 .1 .size)
+
 returns : tie.Need-returns
-returns c = sym (found-none _ _ _ (sym (c .before .before .busy-window .ensures) ∙ c .enum-told .given .1))
+returns c = (sym (found-none _ _ _ (sym (c .before .before .before .before .busy-window .ensures .0) ∙ c .enum-told .given .1)), c .before .before .before .before .busy-window .ensures .1)
 
 remember-requires : tie.Need-remember-requires
 remember-requires c κs = search needs
 
 greatest-response-requires : tie.Need-greatest-response-requires
 greatest-response-requires c κs =
-    let s = c .before .before .before .before .before .before .before .before .before .before .before .before .before .before in
-    (s .pre .0, (s .pre .1 .0, (s .pre .1 .1 .0, (s .pre .1 .1 .1 .0, s .pre .1 .1 .1 .1, sym (c .before .before .before .before .before .before .before .before .busy-window .ensures) ∙ c .before .before .before .before .before .before .found .given .1))))
+    let p = c .before .before .before .before .before .before .before .before .before .before .before .before .before .before .before .before .before .before .before .pre in
+    let q = p .1 .1 .1 .0 in
+    (p .0, (p .1 .0, (p .1 .1 .0, ((q .0, q .1, sym (c .before .before .before .before .before .before .before .before .before .before .before .busy-window .ensures .0) ∙ c .before .before .before .before .before .before .before .found .given .1), c .before .before .before .before .before .before .before .before .before .before .before .busy-window .ensures .1))))
 
-same-length : tie.Need-same-length
-same-length c = search needs
+same-length-2 : tie.Need-same-length-2
+same-length-2 c = search needs
+
+same-length-3 : tie.Need-same-length-3
+same-length-3 c = c .before .before .before .before .greatest-response .ensures .1 .size ∙ sym (c .before .before .before .before .before .before .before .before .before .before .before .before .before .before .before .before .before .before .before .before .before .before .before .before .pre .1 .1 .1 .1 .size)
 
 returns-2 : tie.Need-returns-2
-returns-2 c = ap At (c .before .before .greatest-response .ensures) ∙ sym (found-at _ _ _ _ (sym (c .before .before .before .before .before .before .before .before .before .before .before .busy-window .ensures) ∙ c .before .before .before .before .before .before .before .before .before .found .given .1))
+returns-2 c = (ap At (c .before .before .before .before .greatest-response .ensures .0) ∙ sym (found-at _ _ _ _ (sym (c .before .before .before .before .before .before .before .before .before .before .before .before .before .before .before .before .busy-window .ensures .0) ∙ c .before .before .before .before .before .before .before .before .before .before .before .before .found .given .1)), c .before .before .before .before .greatest-response .ensures .1)
 
 pub scenario-response-spec : {M : Type 1} → statement M
 scenario-response-spec =
@@ -39,8 +48,10 @@ scenario-response-spec =
     busy-window-requires
     enum-known-found
     enum-told
+    same-length
     returns
     remember-requires
     greatest-response-requires
-    same-length
+    same-length-2
+    same-length-3
     returns-2)

@@ -1,51 +1,39 @@
--- The loop keeps what the search finds: the scenario with the best alignments at x holds its load wherever the one at hand does, and at x just where that does. The measure is what is left up to the end.
-use Prim.Native.Nat.{_+_, _-_, _≤_, _<_}
-use mathlib.Core.Path.{_≡_, refl, sym, ap, _∙_}
-use mathlib.Core.Bool.{cond}
-use mathlib.Core.Logic.{⊎-elim}
+-- The loop keeps what the search finds: in the scenario with guesses nothing holds its load before it does in the one at hand, and where the number found there does not hold the load, nothing below that load does. The measure is what is left up to the end.
+use Prim.Native.Nat.{_-_, _≤_, _<_}
+use mathlib.Core.Path.{_≡_, refl, sym, _∙_}
 use native.Mathlib.Omega.{arith}
 use borrow.Author.Needs.{needs}
 use Rattle.arith.specs.laws.Least.{least-within, least-end}
 use Rattle.arith.specs.Least.{least}
-use Rattle.arith.specs.declared.Found.the-variants.{At}
 use Rattle.workload.specs.Stored.{stored}
-use Rattle.response_time.specs.laws.Searches.{settle-skip, settle-beyond, own-finer, settle-here}
+use Rattle.workload.specs.Kept.{Kept}
+use Rattle.response_time.specs.laws.Searches.{climb-here, climb-skip, climb-beyond, settle-skip, settle-beyond, own-finer}
 use Rattle.response_time.specs.Load.{holds}
 use Rattle.response_time.proofs.search.settle.Statement.{statement}
 use Rattle.response_time.proofs.search.settle.Tie as tie
 
 abbrev Inv-loop : tie.InvT-loop
-Inv-loop frames members counts ends k choices own delay base from end x₀ x =
-    least (holds (stored frames) k choices delay base) (end - x) x ≡ least (holds (stored frames) k choices delay base) (end - from) from
+Inv-loop frames members counts ends k choices own delay base from end sums₀ x₀ sums x =
+    (least (holds (stored frames) k choices delay base) (end - x) x ≡ least (holds (stored frames) k choices delay base) (end - from) from)
+    × Kept (stored frames) k sums
 
 abbrev μ-loop : tie.MeasureT-loop
-μ-loop frames members counts ends k choices own delay base from end x₀ x = end - x
+μ-loop frames members counts ends k choices own delay base from end sums₀ x₀ sums x = end - x
 
 loop-holds : tie.Need-loop-holds Inv-loop μ-loop
-loop-holds c = refl
+loop-holds c = (refl, c .before .before .before .before .before .pre .1 .1 .1 .1)
 
-add-n : tie.Need-add-n Inv-loop μ-loop
-add-n c = search needs
-
--- n is so many ticks
-ticks : (c : tie.Joined1 Inv-loop μ-loop) → let x = c .before .before .loop .x in c .if1 .n ≡ cond (c .before .before .before .before .before .before .before .args .delay) (x + 1) x
-ticks c = ⊎-elim (λ w. rw (w .0 .taken) (w .1)) (λ w. rw (w .0 .left) (w .1)) (c .if1 .came)
-
--- at most one more than x
-few : (c : tie.Joined1 Inv-loop μ-loop) → c .if1 .n ≤ c .before .before .loop .x + 1
-few c = ⊎-elim (λ w. omega (arith, w .1)) (λ w. omega (arith, w .1)) (c .if1 .came)
-
-best-choices-requires : tie.Need-best-choices-requires Inv-loop μ-loop
-best-choices-requires c κs =
-    let s = c .before .before .before .before .before .before .before in
-    (s .pre .0, (s .pre .1 .0, omega (arith, few c, c .before .loop-test .taken, s .pre .1 .1 .1)))
+guessed-requires : tie.Need-guessed-requires Inv-loop μ-loop
+guessed-requires c κs =
+    let s = c .before .before .before .before .before .before .before .before in
+    (s .pre .0, (s .pre .1 .0, c .before .before .loop .inv .1))
 
 climb-requires : tie.Need-climb-requires Inv-loop μ-loop
 climb-requires c κs =
-    let s = c .before .before .before .before .before .before .before .before in
+    let s = c .before .before .before .before .before .before .before .before .before .before in
     let t = s .pre .1 .1 .0 in
-    let p = s .pre .1 .1 .1 in
-    (s .pre .0, (s .pre .1 .0, (t, (λ d. own-finer (s .pre .0 .valid) (t .inside) (t .is) (s .args .choices) (c .best-choices .result) (c .best-choices .ensures .0) _ (p .0 d), p .1, p .2))))
+    let p = s .pre .1 .1 .1 .0 in
+    (s .pre .0, (s .pre .1 .0, (t, ((λ d. own-finer (s .pre .0 .valid) (t .inside) (t .is) (s .args .choices) (c .before .guessed .result) (c .before .guessed .ensures) _ (p .0 d), p .1, p .2), c .before .before .before .before .loop .inv .1))))
 
 enum-known-found : tie.Need-enum-known-found Inv-loop μ-loop
 enum-known-found c = search needs
@@ -53,43 +41,74 @@ enum-known-found c = search needs
 enum-told : tie.Need-enum-told Inv-loop μ-loop
 enum-told c = search needs
 
+same-length : tie.Need-same-length Inv-loop μ-loop
+same-length c = c .before .before .before .before .climb .ensures .1 .size ∙ sym (c .before .before .before .before .before .before .before .before .before .before .before .before .before .before .before .pre .1 .1 .1 .1 .size)
+
 returns : tie.Need-returns Inv-loop μ-loop
 returns c =
-    let b = c .before .before .before in
-    let s = b .before .before .before .before .before .before .before .before in
-    let l = b .before .before .before .loop in
-    settle-beyond (s .pre .0 .valid) (s .args .k) _ _ (b .best-choices .ensures .0) _ _ (s .args .end) (l .x) (c .before .before .climb .ensures) (c .enum-told .given .1) ∙ l .inv
+    let s = c .before .before .before .before .before .before .before .before .before .before .before .before .before .before .before in
+    let l = c .before .before .before .before .before .before .before .before .before .loop in
+    (settle-beyond (s .pre .0 .valid) (s .args .k) _ _ (c .before .before .before .before .before .before .guessed .ensures) _ _ (s .args .end) (l .x) (c .before .before .before .before .climb .ensures .0) (c .enum-told .given .1) ∙ l .inv .0, c .before .before .before .before .climb .ensures .1)
+
+-- where the number lies that is found with guesses
+within : (c : tie.After-found Inv-loop μ-loop) → (c .before .before .before .before .before .before .before .before .before .loop .x ≤ c .found .given .0 .0) × (c .found .given .0 .0 < c .before .before .before .before .before .before .before .before .before .before .before .before .before .before .before .args .end)
+within c = let (low, high, t) = least-within _ _ (sym (c .before .before .before .before .climb .ensures .0) ∙ c .found .given .1) in (low, high)
+
+-- what is found from there on is what is found
+goes-on : (c : tie.After-found Inv-loop μ-loop) →
+    let a = c .before .before .before .before .before .before .before .before .before .before .before .before .before .before .before .args in
+    let p = holds (stored (a .frames .now)) (a .k) (a .choices) (a .delay) (a .base) in
+    let y = c .found .given .0 .0 in
+    least p (a .end - y) y ≡ least p (a .end - a .from) (a .from)
+goes-on c =
+    let s = c .before .before .before .before .before .before .before .before .before .before .before .before .before .before .before in
+    let l = c .before .before .before .before .before .before .before .before .before .loop in
+    sym (settle-skip (s .pre .0 .valid) (s .args .k) _ _ (c .before .before .before .before .before .before .guessed .ensures) _ _ (s .args .end) (l .x) (c .before .before .before .before .climb .ensures .0) (c .found .given .1)) ∙ l .inv .0
+
+load-requires : tie.Need-load-requires Inv-loop μ-loop
+load-requires c κs =
+    let s = c .before .before .before .before .before .before .before .before .before .before .before .before .before .before .before .before .before in
+    let p = s .pre .1 .1 .1 .0 in
+    (s .pre .0, (s .pre .1 .0, (s .pre .1 .1 .0, ((p .0, p .1, omega (arith, p .2, within (c .before .before))), c .before .before .before .before .before .before .climb .ensures .1))))
+
+cast-if1 : tie.Need-cast-if1 Inv-loop μ-loop
+cast-if1 c = search needs
+
+same-length-2 : tie.Need-same-length-2 Inv-loop μ-loop
+same-length-2 c = c .before .before .before .load .ensures .1 .size ∙ sym (c .before .before .before .before .before .before .before .before .before .before .before .before .before .before .before .before .before .before .before .before .before .pre .1 .1 .1 .1 .size)
 
 returns-2 : tie.Need-returns-2 Inv-loop μ-loop
 returns-2 c =
-    let f = c .before .before in
-    let b = f .before .before .before in
-    let s = b .before .before .before .before .before .before .before .before in
-    let t = s .pre .1 .1 .0 in
-    let l = b .before .before .before .loop in
-    ap At (c .if2 .taken)
-    ∙ settle-here (s .pre .0 .valid) (t .inside) (t .is) _ _ (b .best-choices .ensures .0) _ _ _ (s .args .end) (l .x) (s .pre .1 .1 .1 .0) (ticks (b .before)) (b .best-choices .ensures .1)
-    (f .before .before .climb .ensures) (f .found .given .1) (c .if2 .taken) ∙ l .inv
+    let s = c .before .before .before .before .before .before .before .before .before .before .before .before .before .before .before .before .before .before .before .before .before in
+    let f = c .before .before .before .before .before .before in
+    (climb-here (s .pre .0 .valid) _ _ _ _ (s .args .end) (c .before .before .before .before .before .before .found .given .0 .0) (c .before .before .before .load .ensures .0) (within f .1) (c .if1 .taken) ∙ goes-on f, c .before .before .before .load .ensures .1)
 
--- where y lies
-within : (c : tie.After-found Inv-loop μ-loop) →
-    let l = c .before .before .before .before .before .before in
-    (l .loop .x ≤ c .found .given .0 .0) × (c .found .given .0 .0 < l .before .before .before .before .before .args .end)
-within c = let (low, high, t) = least-within _ _ (sym (c .before .before .climb .ensures) ∙ c .found .given .1) in (low, high)
+same-length-3 : tie.Need-same-length-3 Inv-loop μ-loop
+same-length-3 c = c .before .before .before .before .load .ensures .1 .size ∙ sym (c .before .before .before .before .before .before .before .before .before .before .before .before .before .before .before .before .before .before .before .before .before .before .pre .1 .1 .1 .1 .size)
+
+returns-3 : tie.Need-returns-3 Inv-loop μ-loop
+returns-3 c =
+    let s = c .before .before .before .before .before .before .before .before .before .before .before .before .before .before .before .before .before .before .before .before .before .before in
+    let f = c .before .before .before .before .before .before .before in
+    (climb-beyond (s .pre .0 .valid) _ _ _ _ (s .args .end) (c .before .before .before .before .before .before .before .found .given .0 .0) (c .before .before .before .before .load .ensures .0) (c .if2 .taken) ∙ goes-on f, c .before .before .before .before .load .ensures .1)
+
+cast-x : tie.Need-cast-x Inv-loop μ-loop
+cast-x c = omega (arith, c .before .before .before .before .before .before .before .before .before .before .before .before .before .before .before .before .before .before .before .before .before .before .pre .1 .1 .1 .0 .2, c .if2 .left)
 
 loop-less : tie.Need-loop-less Inv-loop μ-loop
-loop-less c = omega (arith, within (c .before .before), c .if2 .left)
+loop-less c = omega (arith, within (c .before .before .before .before .before .before .before), c .before .if1 .left, c .if2 .left)
 
 loop-again : tie.Need-loop-again Inv-loop μ-loop
 loop-again c =
-    let f = c .before .before in
-    let b = f .before .before .before in
-    let s = b .before .before .before .before .before .before .before .before in
-    let l = b .before .before .before .loop in
-    sym (settle-skip (s .pre .0 .valid) (s .args .k) _ _ (b .best-choices .ensures .0) _ _ (s .args .end) (l .x) (f .before .before .climb .ensures) (f .found .given .1)) ∙ l .inv
+    let s = c .before .before .before .before .before .before .before .before .before .before .before .before .before .before .before .before .before .before .before .before .before .before in
+    let f = c .before .before .before .before .before .before .before in
+    (sym (climb-skip (s .pre .0 .valid) _ _ _ _ (s .args .end) (c .before .before .before .before .before .before .before .found .given .0 .0) (c .before .before .before .before .load .ensures .0) (c .before .if1 .left) (omega (arith, c .if2 .left))) ∙ goes-on f, c .before .before .before .before .load .ensures .1)
 
-returns-3 : tie.Need-returns-3 Inv-loop μ-loop
-returns-3 c = sym (least-end _ _ (c .before .loop .x) (c .loop-test .left)) ∙ c .before .loop .inv
+same-length-4 : tie.Need-same-length-4 Inv-loop μ-loop
+same-length-4 c = c .before .loop .inv .1 .size ∙ sym (c .before .before .before .before .before .before .before .pre .1 .1 .1 .1 .size)
+
+returns-4 : tie.Need-returns-4 Inv-loop μ-loop
+returns-4 c = (sym (least-end _ _ (c .before .loop .x) (c .loop-test .left)) ∙ c .before .loop .inv .0, c .before .loop .inv .1)
 
 pub settle-spec : {M : Type 1} → statement M
 settle-spec =
@@ -98,13 +117,20 @@ settle-spec =
     Inv-loop
     μ-loop
     loop-holds
-    add-n
-    best-choices-requires
+    guessed-requires
     climb-requires
     enum-known-found
     enum-told
+    same-length
     returns
+    load-requires
+    cast-if1
+    same-length-2
     returns-2
+    same-length-3
+    returns-3
+    cast-x
     loop-less
     loop-again
-    returns-3)
+    same-length-4
+    returns-4)

@@ -1,5 +1,5 @@
 -- As often as the length goes into what is left beside the first load, another may follow.
-use Prim.Native.Nat.{ℕ, _-_, _*_, _/_, _≤_}
+use Prim.Native.Nat.{ℕ, _-_, _/_, _≤_}
 use native.Mathlib.Omega.{arith}
 use native.Mathlib.Nat.{mul-le-mul-right, mul-comm, div-add-mod, div-le-self}
 use borrow.Author.Needs.{needs}

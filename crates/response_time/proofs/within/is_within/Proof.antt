@@ -1,10 +1,9 @@
 -- The loop goes through the releases up to the window's limit. Each is served by a start that leaves it a response of `most` at the
 -- most; those of the window are among them. The measure is how many releases are left.
 use Prim.Native.Nat.{ℕ, _-_, _+_, _*_, _≤_, _<_}
-use mathlib.Core.Path.{_≡_, refl, sym, _∙_}
+use mathlib.Core.Path.{sym, _∙_}
 use native.Mathlib.Omega.{arith}
 use borrow.Author.Needs.{needs}
-use lib.ListN.{length}
 use Rattle.arith.specs.laws.Releases.{count-le, count-mono}
 use Rattle.bus_model.specs.Bounds.{instanceResponse}
 use Rattle.workload.specs.Stored.{stored}
@@ -16,7 +15,7 @@ use Rattle.response_time.proofs.within.is_within.Tie as tie
 
 abbrev Inv-loop : tie.InvT-loop
 Inv-loop frames members counts ends k choices own blocked limit most isOpen hints sums₀ d l releases from₀ q₀ sums from q =
-    ((i : ℕ) → i < q → instanceResponse (stored frames) k choices i ≤ most) × Kept (stored frames) k sums × (length sums ≡ length sums₀)
+    ((i : ℕ) → i < q → instanceResponse (stored frames) k choices i ≤ most) × Kept (stored frames) k sums
 
 abbrev μ-loop : tie.MeasureT-loop
 μ-loop frames members counts ends k choices own blocked limit most isOpen hints sums₀ d l releases from₀ q₀ sums from q = releases - q
@@ -37,26 +36,26 @@ returns c =
 
 window-limit-requires : tie.Need-window-limit-requires Inv-loop μ-loop
 window-limit-requires c κs =
-    let s = c .before .before .before .before .before .before .before .before in
-    (s .pre .0, (s .pre .1 .0, (s .pre .1 .1 .0, (s .pre .1 .1 .1 .0 .1, s .pre .1 .1 .1 .1 .0 .0))))
+    let s = c .before .before .before .before .before .before .before .before .before in
+    (s .pre .0, (s .pre .1 .0, (s .pre .1 .1 .0, ((s .pre .1 .1 .1 .0 .1, s .pre .1 .1 .1 .1 .0 .0), s .pre .1 .1 .1 .1 .1))))
 
 releases-before-requires : tie.Need-releases-before-requires Inv-loop μ-loop
 releases-before-requires c κs =
-    let s = c .before .before .before .before .before .before .before .before .before in
+    let s = c .before .before .before .before .before .before .before .before .before .before .before .before in
     let f = in-table-fine _ (s .pre .0) (s .pre .1 .1 .0) in
-    (f .period-low, f .period-high, omega (arith, c .window-limit .ensures .1, s .pre .1 .1 .1 .1 .0 .0))
+    (f .period-low, f .period-high, omega (arith, c .before .before .window-limit .ensures .1 .0, s .pre .1 .1 .1 .1 .0 .0))
 
 loop-holds : tie.Need-loop-holds Inv-loop μ-loop
-loop-holds c = (λ i less. absurd (omega arith), c .before .before .before .before .before .before .before .before .before .before .pre .1 .1 .1 .1 .1, refl)
+loop-holds c = (λ i less. absurd (omega arith), c .before .before .before .window-limit .ensures .1 .1)
 
 -- what an instance waits for, its release and its number are small
 fits : (c : tie.In-loop Inv-loop μ-loop) →
-    let a = c .before .before .before .before .before .before .before .before .before .before .before .before .args in
-    (a .blocked + c .before .loop .q * a .k .length ≤ 1000000000) × (c .before .before .before .before .before .distance-from .result + c .before .loop .q * a .k .period < 1000000) × (c .before .loop .q < 1000000)
+    let a = c .before .before .before .before .before .before .before .before .before .before .before .before .before .before .before .args in
+    (a .blocked + c .before .loop .q * a .k .length ≤ 1000000000) × (c .before .before .before .before .before .before .before .before .distance-from .result + c .before .loop .q * a .k .period < 1000000) × (c .before .loop .q < 1000000)
 fits c =
-    let s = c .before .before .before .before .before .before .before .before .before .before .before .before in
-    instance-fits (s .pre .0) (s .pre .1 .1 .0) (c .before .before .before .before .before .distance-from .result) (s .pre .1 .1 .1 .0 .1) (c .before .before .releases-before .ensures .0)
-    (omega (arith, c .before .before .before .window-limit .ensures .1, s .pre .1 .1 .1 .1 .0 .0)) (c .loop-test .taken)
+    let s = c .before .before .before .before .before .before .before .before .before .before .before .before .before .before .before in
+    instance-fits (s .pre .0) (s .pre .1 .1 .0) (c .before .before .before .before .before .before .before .before .distance-from .result) (s .pre .1 .1 .1 .0 .1) (c .before .before .releases-before .ensures .0)
+    (omega (arith, c .before .before .before .before .before .window-limit .ensures .1 .0, s .pre .1 .1 .1 .1 .0 .0)) (c .loop-test .taken)
 
 cast-base : tie.Need-cast-base Inv-loop μ-loop
 cast-base c = search needs
@@ -86,7 +85,7 @@ enum-told : tie.Need-enum-told Inv-loop μ-loop
 enum-told c = search needs
 
 same-length : tie.Need-same-length Inv-loop μ-loop
-same-length c = c .before .before .before .before .before .before .loop .inv .2
+same-length c = c .before .before .before .before .before .before .loop .inv .1 .size ∙ sym (c .before .before .before .before .before .before .before .before .before .before .before .before .before .before .before .before .before .before .before .before .pre .1 .1 .1 .1 .1 .size)
 
 returns-2 : tie.Need-returns-2 Inv-loop μ-loop
 returns-2 c = (λ t. absurd t, c .before .before .before .before .before .before .loop .inv .1)
@@ -99,13 +98,12 @@ add-at c = search needs
 
 served-by-requires : tie.Need-served-by-requires Inv-loop μ-loop
 served-by-requires c κs =
-    let s = c .before .before .before .before .before .before .before .before .before .before .before .before .before .before .before .before .before .before .before in
+    let s = c .before .before .before .before .before .before .before .before .before .before .before .before .before .before .before .before .before .before .before .before .before .before in
     let latest = latest-start-fits _ _ _ (sym (c .before .before .before .before .latest-start .ensures) ∙ c .before .before .found .given .1) in
     (s .pre .0, (s .pre .1 .0, (s .pre .1 .1 .0, ((s .pre .1 .1 .1 .0 .0, fits (c .before .before .before .before .before .before .before) .0, omega (arith, latest .1)), c .before .before .before .before .before .before .before .before .loop .inv .1))))
 
 same-length-2 : tie.Need-same-length-2 Inv-loop μ-loop
-same-length-2 c =
-    c .before .before .before .before .served-by .kept .1 .1 .1 .1 .1 .1 .1 .1 .1 .1 .1 .1 .1 .0 ∙ c .before .before .before .before .before .before .before .before .before .before .before .before .before .loop .inv .2
+same-length-2 c = c .before .before .before .before .served-by .ensures .1 .1 .size ∙ sym (c .before .before .before .before .before .before .before .before .before .before .before .before .before .before .before .before .before .before .before .before .before .before .before .before .before .before .before .pre .1 .1 .1 .1 .1 .size)
 
 returns-3 : tie.Need-returns-3 Inv-loop μ-loop
 returns-3 c = (λ t. absurd t, c .before .before .before .before .served-by .ensures .1 .1)
@@ -123,26 +121,25 @@ loop-less c =
 
 loop-again : tie.Need-loop-again Inv-loop μ-loop
 loop-again c =
-    let s = c .before .before .before .before .before .before .before .before .before .before .before .before .before .before .before .before .before .before .before .before .before .before .before .before .before .before in (
-      next-within _ _ _ (s .pre .1 .1 .1 .0 .0) (c .before .before .before .before .before .before .before .before .before .before .before .before .before .before .before .before .before .before .before .distance-from .ensures .0) (c .before .before .before .before .before .before .before .before .before .before .before .before .before .before .before .loop .q) (s .args .most) (s .pre .1 .1 .1 .0 .1)
+    let s = c .before .before .before .before .before .before .before .before .before .before .before .before .before .before .before .before .before .before .before .before .before .before .before .before .before .before .before .before .before in (
+      next-within _ _ _ (s .pre .1 .1 .1 .0 .0) (c .before .before .before .before .before .before .before .before .before .before .before .before .before .before .before .before .before .before .before .before .before .before .distance-from .ensures .0) (c .before .before .before .before .before .before .before .before .before .before .before .before .before .before .before .loop .q) (s .args .most) (s .pre .1 .1 .1 .0 .1)
           (sym (c .before .before .before .before .before .before .before .before .before .before .before .latest-start .ensures) ∙ c .before .before .before .before .before .before .before .before .before .found .given .1) (c .before .before .before .before .before .before .served-by .ensures .0) (c .before .before .before .before .before .before .before .before .before .before .before .before .before .before .before .loop .inv .0),
       c .before .before .before .before .before .before .served-by .ensures .1 .1,
-      c .before .before .before .before .before .before .served-by .kept .1 .1 .1 .1 .1 .1 .1 .1 .1 .1 .1 .1 .1 .0 ∙ c .before .before .before .before .before .before .before .before .before .before .before .before .before .before .before .loop .inv .2,
     )
 
 same-length-3 : tie.Need-same-length-3 Inv-loop μ-loop
-same-length-3 c = c .before .loop .inv .2
+same-length-3 c = c .before .loop .inv .1 .size ∙ sym (c .before .before .before .before .before .before .before .before .before .before .before .before .before .before .before .pre .1 .1 .1 .1 .1 .size)
 
 returns-4 : tie.Need-returns-4 Inv-loop μ-loop
 returns-4 c =
-    let s = c .before .before .before .before .before .before .before .before .before .before .before .before in
+    let s = c .before .before .before .before .before .before .before .before .before .before .before .before .before .before .before in
     let window = s .pre .1 .1 .1 .1 .0 .1 in (
-      λ t. all-within _ _ _ (s .pre .1 .1 .1 .0 .0) (c .before .before .before .before .before .distance-from .ensures .0) window
+      λ t. all-within _ _ _ (s .pre .1 .1 .1 .0 .0) (c .before .before .before .before .before .before .before .before .distance-from .ensures .0) window
           (omega (
             arith,
             c .before .before .releases-before .ensures .0,
             c .loop-test .left,
-            count-mono (c .before .before .before .before .before .distance-from .result) (in-table-fine _ (s .pre .0) (s .pre .1 .1 .0) .period-low) (c .before .before .before .window-limit .ensures .0 (window .window) (window .is) (window .within)),
+            count-mono (c .before .before .before .before .before .before .before .before .distance-from .result) (in-table-fine _ (s .pre .0) (s .pre .1 .1 .0) .period-low) (c .before .before .before .before .before .window-limit .ensures .0 (window .window) (window .is) (window .within)),
           ))
           (c .before .loop .inv .0),
       c .before .loop .inv .1,

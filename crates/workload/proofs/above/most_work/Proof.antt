@@ -1,8 +1,8 @@
 -- The loop goes through the rows and adds up the demand of the frame in each, as if it were released at once; no alignment gives more.
 use Prim.Native.Nat.{ℕ, _+_, _-_, _*_, _≤_}
-use mathlib.Core.Path.{sym, ap, _∙_}
+use mathlib.Core.Path.{ap, _∙_}
 use native.Mathlib.Omega.{arith}
-use native.Mathlib.Nat.{add-zero, zero-add}
+use native.Mathlib.Nat.{zero-add}
 use borrow.Author.Needs.{needs}
 use lib.ListN.{length}
 use Rattle.arith.specs.Lists.{sum}

@@ -10,7 +10,8 @@ use Rattle.arith.specs.laws.Walks.{Through, through-start, through-more, throug
 use Rattle.bus_model.specs.Frame.{row}
 use Rattle.workload.specs.Stored.{stored}
 use Rattle.workload.specs.Grouped.{framesIn}
-use Rattle.workload.specs.laws.Parts.{part-fine, nextRelease, lead, next-is, next-none}
+use Rattle.workload.specs.Steps.{nextRelease}
+use Rattle.workload.specs.laws.Parts.{part-fine, lead, next-is, next-none}
 use Rattle.workload.proofs.alignments.next_alignment.Statement.{statement}
 use Rattle.workload.proofs.alignments.next_alignment.Tie as tie
 

@@ -1,0 +1,112 @@
+-- `response_time::bounds::scenario_count` meets its contract: the invariant has the product over the nodes that are passed, cut after each. Assumes nothing.
+use Prim.Native.Nat.{ℕ, _+_, _-_, _*_, _≤_, min}
+use mathlib.Core.Path.{refl, ap, _∙_}
+use native.Mathlib.Omega.{arith}
+use borrow.Author.Needs.{needs}
+use lib.ListN.{length, getD}
+use Rattle.arith.specs.Lists.{range, product}
+use Rattle.arith.specs.laws.Walks.{CountUp, count-start, count-more, count-end, product-more}
+use Rattle.workload.specs.Stored.{stored}
+use Rattle.workload.specs.laws.Groups.{lent-inside, lent-fine}
+use Rattle.bounds.specs.laws.Levels.{countAt, counts-product}
+use Rattle.bounds.proofs.count.scenario_count.Statement.{statement}
+use Rattle.bounds.proofs.count.scenario_count.Tie as tie
+
+-- a product, cut
+abbrev cut : ℕ → ℕ → ℕ
+cut done more = min 65537 (done * more)
+
+abbrev Inv-loop : tie.InvT-loop
+Inv-loop frames members counts ends product₀ j₀ done j =
+    (done ≤ 65537)
+    × CountUp (product (countAt (stored frames) members counts ends)) cut 16 (cut 1 (product (countAt (stored frames) members counts ends) (range 0 16))) done j
+
+abbrev μ-loop : tie.MeasureT-loop
+μ-loop frames members counts ends product₀ j₀ done j = 16 - j
+
+-- the rows of the node that the loop stands at are inside the group
+inside : (c : tie.In-loop Inv-loop μ-loop) → let a = c .before .before .before .before .before .before .args in let j = c .before .loop .j in 64 * j + getD (a .counts .now) j 0 ≤ length (a .members .now)
+inside c = lent-inside (c .before .before .before .before .before .before .pre .1) (c .before .loop .j) (c .loop-test .taken)
+
+loop-holds : tie.Need-loop-holds Inv-loop μ-loop
+loop-holds c = (omega arith, count-start _ cut _ _ refl)
+
+mul-from : tie.Need-mul-from Inv-loop μ-loop
+mul-from c = search needs
+
+mul-to : tie.Need-mul-to Inv-loop μ-loop
+mul-to c = search needs
+
+shared-slice-read-to : tie.Need-shared-slice-read-to Inv-loop μ-loop
+shared-slice-read-to c = search needs
+
+add-to : tie.Need-add-to Inv-loop μ-loop
+add-to c = omega (arith, inside (c .before), c .before .before .before .before .before .before .before .pre .1 .members-size)
+
+sub-count-alignments : tie.Need-sub-count-alignments Inv-loop μ-loop
+sub-count-alignments c = search needs
+
+part-count-alignments-start : tie.Need-part-count-alignments-start Inv-loop μ-loop
+part-count-alignments-start c = search needs
+
+part-count-alignments-end : tie.Need-part-count-alignments-end Inv-loop μ-loop
+part-count-alignments-end c = inside (c .before)
+
+mul-count-alignments : tie.Need-mul-count-alignments Inv-loop μ-loop
+mul-count-alignments c = search needs
+
+shared-slice-read-count-alignments : tie.Need-shared-slice-read-count-alignments Inv-loop μ-loop
+shared-slice-read-count-alignments c = search needs
+
+count-alignments-requires : tie.Need-count-alignments-requires Inv-loop μ-loop
+count-alignments-requires c κs =
+    let s = c .before .before .before .before .before .before .before .before .before in
+    lent-fine (s .pre .1) (c .before .before .before .before .loop .j) (c .before .before .before .loop-test .taken) (s .pre .0)
+
+cut-product-requires : tie.Need-cut-product-requires Inv-loop μ-loop
+cut-product-requires c κs = search needs
+
+add-j : tie.Need-add-j Inv-loop μ-loop
+add-j c = search needs
+
+loop-less : tie.Need-loop-less Inv-loop μ-loop
+loop-less c = search needs
+
+loop-again : tie.Need-loop-again Inv-loop μ-loop
+loop-again c =
+    let l = c .before .before .before .before .before .before .loop in
+    let count = c .before .count-alignments .ensures .0 in
+    let next = c .cut-product .ensures in (
+      omega arith,
+      count-more _ cut _ _ (l .inv .1) (c .before .before .before .before .before .loop-test .taken) (product-more _ 65537 (l .product) (l .j) (next ∙ ap (cut (l .product)) count)),
+    )
+
+returns : tie.Need-returns Inv-loop μ-loop
+unfolding product
+returns c =
+    let s = c .before .before .before .before .before .before in
+    let l = c .before .loop in
+    omega (arith, l .inv .0, count-end _ cut _ _ (l .inv .1) (omega (arith, c .loop-test .left)), counts-product (s .pre .1))
+
+pub scenario-count-spec : {M : Type 1} → statement M
+scenario-count-spec =
+    tie.close
+    (tie.spec
+    Inv-loop
+    μ-loop
+    loop-holds
+    mul-from
+    mul-to
+    shared-slice-read-to
+    add-to
+    sub-count-alignments
+    part-count-alignments-start
+    part-count-alignments-end
+    mul-count-alignments
+    shared-slice-read-count-alignments
+    count-alignments-requires
+    cut-product-requires
+    add-j
+    loop-less
+    loop-again
+    returns)

@@ -1,0 +1,219 @@
+-- What the searches for the bounds need: the number of scenarios, the greatest value over a node's alignments as a loop finds it,
+-- and the choices of a search that goes one level on.
+use Prim.Native.Nat.{ℕ, _+_, _-_, _≤_, _<_, max}
+use mathlib.Core.Path.{_≡_, refl, sym, ap, subst, _∙_}
+use mathlib.Core.List.{List, [], List·Memᴰ as Mem}
+use mathlib.Core.Bool.{Bool, false}
+use native.Mathlib.Omega.{arith}
+use native.Mathlib.Nat.{le-refl}
+use native.Mathlib.Numerals.{add-one}
+use lib.Dec.{T, lit<}
+use lib.ListN.{length, getD, set}
+use Rattle.arith.specs.declared.Found.{Found}
+use Rattle.arith.specs.declared.Found.the-variants.{At, Nothing}
+use Rattle.arith.specs.Lists.{product, greatest, range}
+use Rattle.arith.specs.Least.{least, orZero}
+use Rattle.arith.specs.laws.Members.{of-range}
+use Rattle.arith.specs.laws.Sums.{product-shift, le-greatest}
+use Rattle.arith.specs.laws.Walks.{Walk, greatest-more, walk-more, walk-end}
+use Rattle.bus_model.specs.declared.Frame.{Frame}
+use Rattle.bus_model.specs.declared.Choice.{Choice}
+use Rattle.bus_model.specs.declared.Choice.the-variants.{Fixed, Any}
+use Rattle.bus_model.specs.Frame.{row}
+use Rattle.bus_model.specs.Pattern.{ofNode, hyperperiod}
+use Rattle.bus_model.specs.Valid.{ValidFrame, Valid}
+use Rattle.bus_model.specs.Bounds.{nodes, alignments, orEmpty, choiceOf, busyWindow, scenarioResponse, preciseBound, scenarioCount}
+use Rattle.bus_model.specs.Judgement.{lacksWindow}
+use Rattle.bus_model.specs.theory.Frames.{node-listed}
+use Rattle.bus_model.specs.theory.Work.{RefinedBy}
+use Rattle.bus_model.specs.theory.Response.{window-refine}
+use Rattle.bus_model.specs.theory.Judged.{has-windows}
+use Rattle.bus_model.specs.theory.Visits.{isAlignment, visit-first, found-listed, first-listed}
+use Rattle.bus_model.specs.theory.Refine.{refined, free, set-same, nodeAt, levels, node-first, level-node, own-scenarios, precise-refined, refined-step, Level, level-start, level-more, own-kept, refines-node, pruned, split-pruned}
+use Rattle.bus_model.specs.theory.Approximate.{both, greatestFound, scenarioFound, found-at, found-counts}
+use Rattle.workload.specs.Grouped.{FineTable, framesIn, instantsIn, Grouped, InTable}
+use Rattle.response_time.specs.Load.{WindowWithin}
+use Rattle.workload.specs.laws.Groups.{lent, lent-alignments}
+
+-- ---- the number of scenarios
+
+-- how many alignments the rows of node i + 1 give, an empty one counting 1
+abbrev pub countAt : List Frame → List ℕ → List ℕ → List ℕ → ℕ → ℕ
+countAt fs members counts ends i = length (orEmpty (instantsIn (framesIn fs (lent members counts i)) (getD ends i 0)))
+
+-- Their product is the scenario count.
+pub counts-product : {fs : List Frame} {k : Frame} {members counts ends : List ℕ} → Grouped fs k members counts ends
+    → product (countAt fs members counts ends) (range 0 16) ≡ scenarioCount fs k
+unfolding scenarioCount
+counts-product {fs} {k} grouped =
+    product-shift _ (λ j. length (orEmpty (alignments fs k j))) 0 16
+    (λ i low high. ap (λ (instants : List ℕ). length (orEmpty instants)) (rw add-one at (lent-alignments grouped i (omega arith))))
+
+-- ---- the approximate bound, as a loop finds it
+
+-- the response of its scenario in which k's own node has alignment a
+abbrev pub ownFound : List Frame → Frame → ℕ → Found
+ownFound fs k a = scenarioFound fs k (set free (k .node - 1) (Fixed a))
+
+-- The loop ends with what it has found.
+pub found-end : (f : ℕ → Found) (done : ℕ) → At done ≡ both (At done) (greatestFound f [])
+unfolding both greatestFound
+found-end f done = ap At (omega arith)
+
+-- ---- the greatest value over a node's alignments, as a loop finds it
+
+-- The loop stands at a: `most` is the greatest of `from` and the values f of the alignments before a.
+pub record Best (fs : List Frame) (k : Frame) (j : ℕ) (f : ℕ → ℕ) (from most a : ℕ) : Type 0 where
+  pub walk : Walk (greatest f) max (isAlignment fs k j) (hyperperiod (ofNode fs j)) (max from (greatest f (orEmpty (alignments fs k j)))) most a
+  pub listed : Mem a (orEmpty (alignments fs k j))
+
+module _ (fs : List Frame) (k : Frame) (j : ℕ) (f : ℕ → ℕ) where
+  abbrev passes : ℕ → Bool
+  passes = isAlignment fs k j
+
+  abbrev end : ℕ
+  end = hyperperiod (ofNode fs j)
+
+  abbrev goal : ℕ → ℕ
+  goal from = max from (greatest f (orEmpty (alignments fs k j)))
+
+  -- It starts at the first.
+  pub best-first : Valid fs → {from a : ℕ} (first : Found) → first ≡ least passes (end - 0) 0 → a ≡ orZero first → Best fs k j f from from a
+  best-first valid {from} first is at = rw at (record { walk = visit-first (greatest f) max (goal from) valid k j first is refl; listed = first-listed valid k j first is })
+
+  module _ {from most next a : ℕ} (best : Best fs k j f from most a) (more : next ≡ max most (f a)) where
+    -- It goes on to the next.
+    pub best-more : {b : ℕ} → least passes (end - (a + 1)) (a + 1) ≡ At b → Best fs k j f from next b
+    best-more is = record { walk = walk-more (greatest f) max passes end (goal from) (best .walk) (greatest-more f most a more) is; listed = found-listed fs k j (a + 1) is }
+
+    -- It ends after the last.
+    pub best-end : least passes (end - (a + 1)) (a + 1) ≡ Nothing → next ≡ max from (greatest f (orEmpty (alignments fs k j)))
+    unfolding greatest
+    best-end none = let ended = walk-end (greatest f) max passes end (goal from) (best .walk) (greatest-more f most a more) none in omega arith
+
+  -- It may end where none of the values exceeds what it has.
+  pub best-over : {from most a all : ℕ} → Best fs k j f from most a → from ≤ most → greatest f (orEmpty (alignments fs k j)) ≡ all → all ≤ most → most ≡ max from all
+  best-over best low whole le = omega (arith, best .walk .is)
+
+  -- If it ends with what it started from, no value is greater.
+  pub best-stays : {most a : ℕ} → Best fs k j f most most a → f a ≤ most → least passes (end - (a + 1)) (a + 1) ≡ Nothing → (b : ℕ) → Mem b (orEmpty (alignments fs k j)) → f b ≤ most
+  best-stays {most} best le none b m = omega (arith, best-end {next = most} best (omega arith) none, le-greatest f m)
+
+-- ---- one scenario
+
+module _ {fs : List Frame} {k : Frame} {cs : List Choice} {limit : ℕ} where
+  -- The limit as a search that may find none has it.
+  pub at-within : (limit ≤ 1000000) × WindowWithin fs k cs limit → (l : ℕ) → At limit ≡ At l → (l ≤ 1000000) × WindowWithin fs k cs l
+  unfolding orZero
+  at-within has l e = subst (λ (m : ℕ). (m ≤ 1000000) × WindowWithin fs k cs m) (ap orZero e) has
+
+  -- Its response counts, where it has a window.
+  pub raised-counts : WindowWithin fs k cs limit → (most : ℕ) → orZero (both (At most) (scenarioFound fs k cs)) ≡ max most (scenarioResponse fs k cs)
+  unfolding both orZero
+  raised-counts w most = let found = found-at fs k cs (w .window) (w .is) in rw (found, sym (found-counts fs k cs) ∙ ap orZero found)
+
+-- ---- one level on
+
+-- the greatest response from level i on, where its node j takes alignment a
+abbrev pub nextLevel : List Frame → Frame → List Choice → ℕ → ℕ → ℕ → ℕ
+nextLevel fs k cs i j a = refined fs k (levels k (i + 1) nodes) (set cs (j - 1) (Fixed a))
+
+-- The greatest over its alignments is that from level i on.
+pub next-levels : (fs : List Frame) (k : Frame) (cs : List Choice) {i j : ℕ} → j ≡ nodeAt k i → i < nodes
+    → greatest (nextLevel fs k cs i j) (orEmpty (alignments fs k j)) ≡ refined fs k (levels k i nodes) cs
+next-levels fs k cs {i} at less = rw at (sym (refined-step fs k cs i nodes less))
+
+-- the response where node j takes alignment a
+abbrev pub splitResponse : List Frame → Frame → List Choice → ℕ → ℕ → ℕ
+splitResponse fs k cs j a = scenarioResponse fs k (set cs (j - 1) (Fixed a))
+
+-- A search has come to level i with the choices cs: k's own node has alignment own, and there is a window within the limit.
+abbrev pub Reached : List Frame → Frame → ℕ → ℕ → ℕ → List Choice → Type 0
+Reached fs k i own limit cs = (choiceOf cs (k .node) ≡ Fixed own) × Level k i cs × WindowWithin fs k cs limit
+
+module _ {fs : List Frame} (valid : Valid fs) {n : ℕ} (inside : n < length fs) where
+  abbrev f : Frame
+  f = row fs n
+
+  self : ValidFrame f
+  self = valid .frame n inside
+
+  -- A window stays within the limit where the scenario is refined.
+  within-refined : {cs cs′ : List Choice} → RefinedBy fs f cs cs′ → {limit : ℕ} → WindowWithin fs f cs limit → WindowWithin fs f cs′ limit
+  within-refined {cs} {cs′} refines w =
+      let (l, is, le) = window-refine valid inside cs cs′ refines (w .window) (w .is) in
+      record { window = l; is = is; within = omega (arith, w .within) }
+
+  row-free : {a : ℕ} → Mem a (orEmpty (alignments fs f (f .node))) → {l : ℕ} → busyWindow fs f free ≡ At l → {cs : List Choice} → cs ≡ set free (f .node - 1) (Fixed a) → WindowWithin fs f cs l
+  row-free {a} m {l} is e =
+      rw e (within-refined (refines-node fs f free (node-listed self) refl (rw (node-first f) at (level-start self .left 0 (omega arith) (omega arith))) m) (record { window = l; is = is; within = omega arith }))
+
+  row-first : lacksWindow fs f ≡ false → {a : ℕ} → Mem a (orEmpty (alignments fs f (f .node))) → {cs : List Choice} → cs ≡ set free (f .node - 1) (Fixed a)
+      → {limit : ℕ} → limit ≡ orZero (busyWindow fs f cs) → Reached fs f 1 a limit cs
+  unfolding orZero
+  row-first has {a} m e {limit} is =
+      let (l, window) = has-windows fs f (λ t. subst T has t) _ (own-scenarios fs self .1 (a, m, refl)) in
+      let long : limit ≡ l = rw (e, window) at is in
+      rw e (
+        set-same free (node-listed self) a refl,
+        level-more self (level-start self) (omega arith) (f .node) a (sym (node-first f)),
+        record { window = l; is = window; within = omega arith },
+      )
+
+  row-split : {i own limit : ℕ} {cs : List Choice} → i < nodes → length cs ≡ nodes → choiceOf cs (nodeAt f i) ≡ Any → choiceOf cs (f .node) ≡ Fixed own → WindowWithin fs f cs limit
+      → {j : ℕ} → j ≡ nodeAt f i → {a : ℕ} → Mem a (orEmpty (alignments fs f j)) → {cs′ : List Choice} → cs′ ≡ set cs (j - 1) (Fixed a)
+      → (choiceOf cs′ (f .node) ≡ Fixed own) × WindowWithin fs f cs′ limit
+  row-split {i} {cs = cs} less long left fixed within at {a} m e =
+      let refines = refines-node fs f cs (level-node f self i less) long left (rw at at m) in
+      rw (e, at) (own-kept fs f cs (set cs (nodeAt f i - 1) (Fixed a)) refines self fixed, within-refined refines within)
+
+  row-next : {i own limit : ℕ} {cs : List Choice} → Reached fs f i own limit cs → i < nodes → {j : ℕ} → j ≡ nodeAt f i → {a : ℕ} → Mem a (orEmpty (alignments fs f j))
+      → {cs′ : List Choice} → cs′ ≡ set cs (j - 1) (Fixed a) → Reached fs f (i + 1) own limit cs′
+  row-next {i} (fixed, level, within) less {j} at {a} m e =
+      let (own, window) = row-split less (level .long) (level .left i (omega arith) less) fixed within at m e in
+      (own, rw e (level-more self level less j a at), window)
+
+module _ {fs : List Frame} (accepted : FineTable fs) {k : Frame} (table : InTable fs k) where
+  valid-self : ValidFrame k
+  valid-self = subst ValidFrame (sym (table .is)) (accepted .valid .frame (table .at) (table .inside))
+
+  -- A level's node is one of the nodes.
+  pub reached-node : {i j : ℕ} → j ≡ nodeAt k i → i < nodes → (1 ≤ j) × (j ≤ 16)
+  reached-node {i} at less = rw at (let (low, high) = of-range 1 nodes (level-node k valid-self i less) in (low, omega arith))
+
+  pub own-node : (1 ≤ k .node) × (k .node ≤ 16)
+  own-node = reached-node (sym (node-first k)) (lit< tt)
+
+  -- Where the scenario with no node fixed has a window, it is not exceeded where k's own is.
+  pub free-within : {a : ℕ} → Mem a (orEmpty (alignments fs k (k .node))) → {l : ℕ} → busyWindow fs k free ≡ At l
+      → {cs : List Choice} → cs ≡ set free (k .node - 1) (Fixed a) → WindowWithin fs k cs l
+  free-within = rw (table .is) (row-free (accepted .valid) (table .inside))
+
+  -- The search starts with an alignment of k's own node, if none of these lacks a window.
+  pub reached-first : lacksWindow fs k ≡ false → {a : ℕ} → Mem a (orEmpty (alignments fs k (k .node)))
+      → {cs : List Choice} → cs ≡ set free (k .node - 1) (Fixed a) → {limit : ℕ} → limit ≡ orZero (busyWindow fs k cs) → Reached fs k 1 a limit cs
+  reached-first = rw (table .is) (row-first (accepted .valid) (table .inside))
+
+  -- An alignment of a node that is open leaves k's own as it is, and the window within the limit.
+  pub split-next : {i own limit : ℕ} {cs : List Choice} → i < nodes → length cs ≡ nodes → choiceOf cs (nodeAt k i) ≡ Any → choiceOf cs (k .node) ≡ Fixed own → WindowWithin fs k cs limit
+      → {j : ℕ} → j ≡ nodeAt k i → {a : ℕ} → Mem a (orEmpty (alignments fs k j)) → {cs′ : List Choice} → cs′ ≡ set cs (j - 1) (Fixed a)
+      → (choiceOf cs′ (k .node) ≡ Fixed own) × WindowWithin fs k cs′ limit
+  split-next = rw (table .is) (row-split (accepted .valid) (table .inside))
+
+  -- It goes on with an alignment of the level's node.
+  pub reached-next : {i own limit : ℕ} {cs : List Choice} → Reached fs k i own limit cs → i < nodes → {j : ℕ} → j ≡ nodeAt k i
+      → {a : ℕ} → Mem a (orEmpty (alignments fs k j)) → {cs′ : List Choice} → cs′ ≡ set cs (j - 1) (Fixed a) → Reached fs k (i + 1) own limit cs′
+  reached-next = rw (table .is) (row-next (accepted .valid) (table .inside))
+
+  -- No scenario further on has a greater response.
+  pub reached-most : {i own limit : ℕ} {cs : List Choice} → Reached fs k i own limit cs → 1 ≤ i → refined fs k (levels k i nodes) cs ≤ scenarioResponse fs k cs
+  reached-most = rw (table .is) (λ (fixed, level, w) some. pruned (accepted .valid) (table .inside) level some nodes (le-refl nodes) (w .window) (w .is))
+
+  -- Nor has one a response above `most`, where none has with an alignment of the node of a level that is left.
+  pub reached-split : {i own limit : ℕ} {cs : List Choice} → Reached fs k i own limit cs → 1 ≤ i → {m : ℕ} → i ≤ m → m < nodes → {most : ℕ}
+      → ((a : ℕ) → Mem a (orEmpty (alignments fs k (nodeAt k m))) → splitResponse fs k cs (nodeAt k m) a ≤ most) → refined fs k (levels k i nodes) cs ≤ most
+  reached-split = rw (table .is) (λ (fixed, level, w) some m. split-pruned (accepted .valid) (table .inside) level some nodes (le-refl nodes) (w .window) (w .is) {m = m})
+
+  -- From the first level on it finds the precise bound.
+  pub precise-levels : {most : ℕ} → most ≡ max 0 (greatest (nextLevel fs k free 0 (k .node)) (orEmpty (alignments fs k (k .node)))) → most ≡ preciseBound fs k
+  precise-levels is = omega (arith, next-levels fs k free (sym (node-first k)) (lit< tt), precise-refined fs valid-self)

@@ -1,0 +1,76 @@
+// The approximate bound.
+use crate::levels::next_of;
+use crate::levels::with_choice;
+use arith::Found;
+use bus_model::Choice;
+use bus_model::Frame;
+use response_time::busy_window;
+use response_time::or_zero;
+use response_time::raised;
+ghost use mathlib.Core.Path.{_≡_};
+ghost use Rattle.bus_model.specs.Bounds.{blocking};
+ghost use Rattle.bus_model.specs.theory.Approximate.{approximateFound};
+ghost use Rattle.workload.specs.Stored.{stored};
+ghost use Rattle.workload.specs.Grouped.{Grouped, InTable, FineTable};
+ghost use Rattle.workload.specs.Kept.{Kept};
+
+// The approximate bound, or nothing where some alignment of k's node has no busy window.
+pub fn approximate(
+    frames: &[u32],
+    members: &[u8],
+    counts: &[usize],
+    ends: &[u32],
+    k: Frame,
+    blocked: u32,
+    hints: &mut [u32],
+    sums: &mut [u64],
+) -> Found
+    requires { ⌜ FineTable (stored (now frames)) ⌝ }
+    requires { ⌜ Grouped (stored (now frames)) k (now members) (now counts) (now ends) ⌝ }
+    requires { ⌜ InTable (stored (now frames)) k ⌝ }
+    requires { ⌜ blocked ≡ blocking (stored (now frames)) k ⌝ }
+    requires { ⌜ Kept (stored (now frames)) k (now sums) ⌝ }
+    ensures { λ r. ⌜ r ≡ approximateFound (stored (now (frames .entry))) k ⌝ }
+    ensures kept { λ _. ⌜ Kept (stored (now (frames .entry))) k (now (sums .exit)) ⌝ }
+{
+    let j = k.node as usize;
+    let limit = busy_window(
+        frames,
+        members,
+        counts,
+        ends,
+        k,
+        [Choice::Any; 16],
+        blocked,
+        sums,
+    );
+    let mut most: u32 = 0;
+    let mut a = or_zero(next_of(frames, members, counts, ends, k, j, 0));
+    loop {
+        let choices = with_choice([Choice::Any; 16], j, a);
+        let more = raised(
+            frames,
+            members,
+            counts,
+            ends,
+            k,
+            choices,
+            a,
+            blocked,
+            limit,
+            most,
+            true,
+            hints,
+            sums,
+        );
+        let Found::At(r) = more else {
+            return Found::Nothing;
+        };
+        most = r;
+        let found = next_of(frames, members, counts, ends, k, j, a + 1);
+        let Found::At(b) = found else {
+            return Found::At(most);
+        };
+        a = b;
+    }
+}

@@ -1,0 +1,50 @@
+// How many scenarios there are.
+use bus_model::Frame;
+use workload::GROUP;
+use workload::NODES;
+use workload::count_alignments;
+ghost use mathlib.Core.Path.{_≡_};
+ghost use Prim.Native.Nat.{_*_, _≤_, min};
+ghost use Rattle.bus_model.specs.Bounds.{scenarioCount};
+ghost use Rattle.workload.specs.Stored.{stored};
+ghost use Rattle.workload.specs.Grouped.{Grouped, FineTable};
+
+// No more scenarios are looked at.
+pub const SCENARIO_LIMIT: u32 = 65_536;
+
+// The product of two numbers, cut at one more than the limit.
+fn cut_product(a: u32, b: u32) -> u32
+    requires { ⌜ (a ≤ 65537) × (b ≤ 1000000) ⌝ }
+    ensures { λ r. ⌜ r ≡ min 65537 (a * b) ⌝ }
+{
+    let product = a as u64 * b as u64;
+    if (SCENARIO_LIMIT as u64) < product {
+        SCENARIO_LIMIT + 1
+    } else {
+        product as u32
+    }
+}
+
+// The number of scenarios, cut at one more than the limit.
+pub fn scenario_count(
+    frames: &[u32],
+    members: &[u8],
+    counts: &[usize],
+    ends: &[u32],
+    k: Frame,
+) -> u32
+    requires { ⌜ FineTable (stored (now frames)) ⌝ }
+    requires { ⌜ Grouped (stored (now frames)) k (now members) (now counts) (now ends) ⌝ }
+    ensures { λ r. ⌜ r ≡ min 65537 (scenarioCount (stored (now (frames .entry))) k) ⌝ }
+{
+    let mut product: u32 = 1;
+    let mut j = 0;
+    while j < NODES {
+        let from = GROUP * j;
+        let to = from + counts[j];
+        let count = count_alignments(frames, &members[from..to], ends[j]);
+        product = cut_product(product, count);
+        j += 1;
+    }
+    product
+}

@@ -1,0 +1,89 @@
+// The levels of a search: which node takes its alignments at each, and these one after the other.
+use arith::Found;
+use bus_model::Choice;
+use bus_model::Frame;
+use workload::GROUP;
+use workload::NODES;
+use workload::most_work;
+use workload::next_alignment;
+ghost use mathlib.Core.Path.{_≡_};
+ghost use Prim.Native.Nat.{_-_, _≤_, _<_};
+ghost use lib.ListN.{set};
+ghost use Rattle.arith.specs.Least.{least};
+ghost use Rattle.bus_model.specs.declared.Choice.the-variants.{Fixed};
+ghost use Rattle.bus_model.specs.Pattern.{ofNode, hyperperiod};
+ghost use Rattle.bus_model.specs.theory.Refine.{nodeAt};
+ghost use Rattle.bus_model.specs.theory.Visits.{isAlignment};
+ghost use Rattle.workload.specs.Stored.{stored};
+ghost use Rattle.workload.specs.Grouped.{Grouped, InTable, FineTable};
+
+// The choices with the alignment of one node more.
+pub fn with_choice(choices: [Choice; 16], node: usize, a: u32) -> [Choice; 16]
+    requires { ⌜ (1 ≤ node) × (node ≤ 16) ⌝ }
+    ensures { λ r. ⌜ r ≡ set choices (node - 1) (Fixed a) ⌝ }
+{
+    let at = node - 1;
+    let mut next = choices;
+    next[at] = Choice::Fixed(a);
+    next
+}
+
+// The node that takes its alignments at level i: k's own, then the others, rising.
+pub fn node_at(k: Frame, i: usize) -> usize
+    requires { ⌜ i < 16 ⌝ }
+    ensures { λ r. ⌜ r ≡ nodeAt k i ⌝ }
+{
+    let own = k.node as usize;
+    if i == 0 {
+        return own;
+    }
+    if i < own {
+        return i;
+    }
+    i + 1
+}
+
+// The first alignment of node j at or after a tick.
+pub fn next_of(
+    frames: &[u32],
+    members: &[u8],
+    counts: &[usize],
+    ends: &[u32],
+    k: Frame,
+    j: usize,
+    after: u32,
+) -> Found
+    requires { ⌜ FineTable (stored (now frames)) ⌝ }
+    requires { ⌜ Grouped (stored (now frames)) k (now members) (now counts) (now ends) ⌝ }
+    requires { ⌜ (1 ≤ j) × (j ≤ 16) × (after ≤ hyperperiod (ofNode (stored (now frames)) j)) ⌝ }
+    ensures { λ r. ⌜ r ≡ least (isAlignment (stored (now (frames .entry))) k j) (hyperperiod (ofNode (stored (now (frames .entry))) j) - after) after ⌝ }
+{
+    let at = j - 1;
+    let from = GROUP * at;
+    let to = from + counts[at];
+    next_alignment(frames, &members[from..to], after, ends[at])
+}
+
+// The level whose node has frames ahead with the greatest lengths together: left open, it may be bounded worst. Nothing depends
+// on which it is.
+pub fn heaviest(frames: &[u32], members: &[u8], counts: &[usize], ends: &[u32], k: Frame) -> usize
+    requires { ⌜ FineTable (stored (now frames)) ⌝ }
+    requires { ⌜ Grouped (stored (now frames)) k (now members) (now counts) (now ends) ⌝ }
+    requires { ⌜ InTable (stored (now frames)) k ⌝ }
+{
+    let mut best = 0;
+    let mut most: u64 = 0;
+    let mut i = 1;
+    while i < NODES {
+        let at = node_at(k, i) - 1;
+        let from = GROUP * at;
+        let to = from + counts[at];
+        let lengths = most_work(frames, &members[from..to], 1);
+        if most < lengths {
+            best = i;
+            most = lengths;
+        }
+        i += 1;
+    }
+    best
+}

@@ -1,0 +1,301 @@
+// The precise bound: the greatest response over scenarios, and which of them need not be searched.
+use crate::levels::heaviest;
+use crate::levels::next_of;
+use crate::levels::node_at;
+use crate::levels::with_choice;
+use arith::Found;
+use bus_model::Choice;
+use bus_model::Frame;
+use response_time::busy_window;
+use response_time::is_within;
+use response_time::or_zero;
+use response_time::raised;
+use workload::NODES;
+ghost use mathlib.Core.Path.{_≡_};
+ghost use mathlib.Core.Bool.{false};
+ghost use mathlib.Core.List.{List·Memᴰ as Mem};
+ghost use Prim.Native.Nat.{ℕ, _-_, _≤_, _<_, max};
+ghost use lib.Dec.{T};
+ghost use lib.ListN.{length, set};
+ghost use Rattle.bus_model.specs.declared.Choice.the-variants.{Fixed, Any};
+ghost use Rattle.bus_model.specs.Bounds.{nodes, blocking, alignments, orEmpty, choiceOf, scenarioResponse, preciseBound};
+ghost use Rattle.bus_model.specs.Judgement.{lacksWindow};
+ghost use Rattle.bus_model.specs.theory.Refine.{nodeAt, levels, refined, Level};
+ghost use Rattle.workload.specs.Stored.{stored};
+ghost use Rattle.workload.specs.Grouped.{Grouped, InTable, FineTable};
+ghost use Rattle.workload.specs.Kept.{Kept};
+ghost use Rattle.response_time.specs.Load.{WindowWithin};
+
+// Whether no response exceeds `most` in any scenario with one of the alignments of a level's node.
+fn is_split_within(
+    frames: &[u32],
+    members: &[u8],
+    counts: &[usize],
+    ends: &[u32],
+    k: Frame,
+    choices: [Choice; 16],
+    own: u32,
+    blocked: u32,
+    limit: u32,
+    level: usize,
+    most: u32,
+    hints: &[u32],
+    sums: &mut [u64],
+) -> bool
+    requires { ⌜ FineTable (stored (now frames)) ⌝ }
+    requires { ⌜ Grouped (stored (now frames)) k (now members) (now counts) (now ends) ⌝ }
+    requires { ⌜ InTable (stored (now frames)) k ⌝ }
+    requires { ⌜ (choiceOf choices (k .node) ≡ Fixed own) × (blocked ≡ blocking (stored (now frames)) k) ⌝ }
+    requires { ⌜ (1 ≤ level) × (level < 16) × (length choices ≡ 16) × (choiceOf choices (nodeAt k level) ≡ Any) ⌝ }
+    requires { ⌜ (limit ≤ 1000000) × WindowWithin (stored (now frames)) k choices limit ⌝ }
+    requires { ⌜ Kept (stored (now frames)) k (now sums) ⌝ }
+    ensures { λ r. ⌜ (T r → (a : ℕ) → Mem a (orEmpty (alignments (stored (now (frames .entry))) k (nodeAt k level))) → scenarioResponse (stored (now (frames .entry))) k (set choices (nodeAt k level - 1) (Fixed a)) ≤ most) ⌝ }
+    ensures kept { λ _. ⌜ Kept (stored (now (frames .entry))) k (now (sums .exit)) ⌝ }
+{
+    let j = node_at(k, level);
+    let mut a = or_zero(next_of(frames, members, counts, ends, k, j, 0));
+    loop {
+        let finer = with_choice(choices, j, a);
+        let within = is_within(
+            frames,
+            members,
+            counts,
+            ends,
+            k,
+            finer,
+            own,
+            blocked,
+            limit,
+            most,
+            true,
+            hints,
+            sums,
+        );
+        if !within {
+            return false;
+        }
+        let found = next_of(frames, members, counts, ends, k, j, a + 1);
+        let Found::At(b) = found else {
+            return true;
+        };
+        a = b;
+    }
+}
+
+// Whether no scenario from a level on has a response above `most`: the one with the open nodes at `Any` has none, or none of
+// those in which the node of the level `heavy` has one of its alignments besides. Where it is not asked, it does not look.
+fn is_ruled_out(
+    frames: &[u32],
+    members: &[u8],
+    counts: &[usize],
+    ends: &[u32],
+    k: Frame,
+    choices: [Choice; 16],
+    own: u32,
+    blocked: u32,
+    limit: u32,
+    level: usize,
+    most: u32,
+    heavy: usize,
+    asked: bool,
+    hints: &[u32],
+    sums: &mut [u64],
+) -> bool
+    requires { ⌜ FineTable (stored (now frames)) ⌝ }
+    requires { ⌜ Grouped (stored (now frames)) k (now members) (now counts) (now ends) ⌝ }
+    requires { ⌜ InTable (stored (now frames)) k ⌝ }
+    requires { ⌜ (choiceOf choices (k .node) ≡ Fixed own) × (blocked ≡ blocking (stored (now frames)) k) ⌝ }
+    requires { ⌜ (1 ≤ level) × (level ≤ 16) × Level k level choices ⌝ }
+    requires { ⌜ (limit ≤ 1000000) × WindowWithin (stored (now frames)) k choices limit ⌝ }
+    requires { ⌜ Kept (stored (now frames)) k (now sums) ⌝ }
+    ensures { λ r. ⌜ (T r → refined (stored (now (frames .entry))) k (levels k level nodes) choices ≤ most) ⌝ }
+    ensures kept { λ _. ⌜ Kept (stored (now (frames .entry))) k (now (sums .exit)) ⌝ }
+{
+    if !asked {
+        return false;
+    }
+    if is_within(
+        frames,
+        members,
+        counts,
+        ends,
+        k,
+        choices,
+        own,
+        blocked,
+        limit,
+        most,
+        true,
+        hints,
+        sums,
+    ) {
+        return true;
+    }
+    if heavy <= level {
+        return false;
+    }
+    if NODES <= heavy {
+        return false;
+    }
+    is_split_within(
+        frames,
+        members,
+        counts,
+        ends,
+        k,
+        choices,
+        own,
+        blocked,
+        limit,
+        heavy,
+        most,
+        hints,
+        sums,
+    )
+}
+
+// The greatest of `best` and the responses where the nodes of the levels from `level` on take each of their
+// alignments. What is ruled out by the greatest so far is not refined further; where that has risen, it is asked again.
+fn improve(
+    frames: &[u32],
+    members: &[u8],
+    counts: &[usize],
+    ends: &[u32],
+    k: Frame,
+    choices: [Choice; 16],
+    own: u32,
+    blocked: u32,
+    limit: u32,
+    level: usize,
+    best: u32,
+    heavy: usize,
+    hints: &mut [u32],
+    sums: &mut [u64],
+) -> u32
+    requires { ⌜ FineTable (stored (now frames)) ⌝ }
+    requires { ⌜ Grouped (stored (now frames)) k (now members) (now counts) (now ends) ⌝ }
+    requires { ⌜ InTable (stored (now frames)) k ⌝ }
+    requires { ⌜ (choiceOf choices (k .node) ≡ Fixed own) × (blocked ≡ blocking (stored (now frames)) k) ⌝ }
+    requires { ⌜ (1 ≤ level) × (level ≤ 16) × Level k level choices ⌝ }
+    requires { ⌜ (limit ≤ 1000000) × WindowWithin (stored (now frames)) k choices limit ⌝ }
+    requires { ⌜ Kept (stored (now frames)) k (now sums) ⌝ }
+    ensures { λ r. ⌜ r ≡ max best (refined (stored (now (frames .entry))) k (levels k level nodes) choices) ⌝ }
+    ensures kept { λ _. ⌜ Kept (stored (now (frames .entry))) k (now (sums .exit)) ⌝ }
+{
+    if level == NODES {
+        return or_zero(raised(
+            frames,
+            members,
+            counts,
+            ends,
+            k,
+            choices,
+            own,
+            blocked,
+            Found::At(limit),
+            best,
+            false,
+            hints,
+            sums,
+        ));
+    }
+    let j = node_at(k, level);
+    let mut most = best;
+    let mut risen = true;
+    let mut a = or_zero(next_of(frames, members, counts, ends, k, j, 0));
+    loop {
+        if is_ruled_out(
+            frames,
+            members,
+            counts,
+            ends,
+            k,
+            choices,
+            own,
+            blocked,
+            limit,
+            level,
+            most,
+            heavy,
+            risen,
+            hints,
+            sums,
+        ) {
+            return most;
+        }
+        let finer = with_choice(choices, j, a);
+        let more = improve(
+            frames,
+            members,
+            counts,
+            ends,
+            k,
+            finer,
+            own,
+            blocked,
+            limit,
+            level + 1,
+            most,
+            heavy,
+            hints,
+            sums,
+        );
+        risen = most < more;
+        most = more;
+        let found = next_of(frames, members, counts, ends, k, j, a + 1);
+        let Found::At(b) = found else {
+            return most;
+        };
+        a = b;
+    }
+}
+
+// The precise bound, where each alignment of k's node has a busy window.
+pub fn precise(
+    frames: &[u32],
+    members: &[u8],
+    counts: &[usize],
+    ends: &[u32],
+    k: Frame,
+    blocked: u32,
+    hints: &mut [u32],
+    sums: &mut [u64],
+) -> u32
+    requires { ⌜ FineTable (stored (now frames)) ⌝ }
+    requires { ⌜ Grouped (stored (now frames)) k (now members) (now counts) (now ends) ⌝ }
+    requires { ⌜ InTable (stored (now frames)) k ⌝ }
+    requires { ⌜ (blocked ≡ blocking (stored (now frames)) k) × (lacksWindow (stored (now frames)) k ≡ false) ⌝ }
+    requires { ⌜ Kept (stored (now frames)) k (now sums) ⌝ }
+    ensures { λ r. ⌜ r ≡ preciseBound (stored (now (frames .entry))) k ⌝ }
+    ensures kept { λ _. ⌜ Kept (stored (now (frames .entry))) k (now (sums .exit)) ⌝ }
+{
+    let j = k.node as usize;
+    let heavy = heaviest(frames, members, counts, ends, k);
+    let mut most: u32 = 0;
+    let mut a = or_zero(next_of(frames, members, counts, ends, k, j, 0));
+    loop {
+        let choices = with_choice([Choice::Any; 16], j, a);
+        let limit = or_zero(busy_window(frames, members, counts, ends, k, choices, blocked, sums));
+        most = improve(
+            frames,
+            members,
+            counts,
+            ends,
+            k,
+            choices,
+            a,
+            blocked,
+            limit,
+            1,
+            most,
+            heavy,
+            hints,
+            sums,
+        );
+        let found = next_of(frames, members, counts, ends, k, j, a + 1);
+        let Found::At(b) = found else {
+            return most;
+        };
+        a = b;
+    }
+}

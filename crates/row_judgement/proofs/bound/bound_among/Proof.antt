@@ -1,0 +1,56 @@
+-- The frames ahead are grouped, and nothing is kept yet.
+use borrow.Author.Needs.{needs}
+use mathlib.Core.Path.{refl}
+use Rattle.workload.specs.laws.Kept.{kept-zeros}
+use Rattle.row_judgement.proofs.bound.bound_among.Statement.{statement}
+use Rattle.row_judgement.proofs.bound.bound_among.Tie as tie
+
+slice-aggregate-group : tie.Need-slice-aggregate-group
+slice-aggregate-group c = search needs
+
+slice-aggregate-group-2 : tie.Need-slice-aggregate-group-2
+slice-aggregate-group-2 c = search needs
+
+slice-aggregate-group-3 : tie.Need-slice-aggregate-group-3
+slice-aggregate-group-3 c = search needs
+
+group-requires : tie.Need-group-requires
+group-requires c κs = search needs
+
+slice-aggregate-bound-frame : tie.Need-slice-aggregate-bound-frame
+slice-aggregate-bound-frame c = search needs
+
+slice-aggregate-bound-frame-2 : tie.Need-slice-aggregate-bound-frame-2
+slice-aggregate-bound-frame-2 c = search needs
+
+slice-aggregate-bound-frame-3 : tie.Need-slice-aggregate-bound-frame-3
+slice-aggregate-bound-frame-3 c = search needs
+
+slice-aggregate-bound-frame-4 : tie.Need-slice-aggregate-bound-frame-4
+slice-aggregate-bound-frame-4 c = search needs
+
+slice-aggregate-bound-frame-5 : tie.Need-slice-aggregate-bound-frame-5
+slice-aggregate-bound-frame-5 c = search needs
+
+bound-frame-requires : tie.Need-bound-frame-requires
+bound-frame-requires c κs =
+    let s = c .before .before .before .before .before .before .before .before .before .before .before .before .before in (s .pre .0, (c .before .before .before .before .before .before .before .before .group .ensures, (s .pre .1, kept-zeros (s .pre .0) _ {n = 2048} refl refl)))
+
+returns : tie.Need-returns
+returns c = search needs
+
+pub bound-among-spec : {M : Type 1} → statement M
+bound-among-spec =
+    tie.close
+    (tie.spec
+    slice-aggregate-group
+    slice-aggregate-group-2
+    slice-aggregate-group-3
+    group-requires
+    slice-aggregate-bound-frame
+    slice-aggregate-bound-frame-2
+    slice-aggregate-bound-frame-3
+    slice-aggregate-bound-frame-4
+    slice-aggregate-bound-frame-5
+    bound-frame-requires
+    returns)

@@ -1,0 +1,65 @@
+-- A table that a check turns back is refused with its cause, then a missing row; in every case the answer is the row's judgement,
+-- and the theory says of the judgement that a certified frame meets its claim.
+use borrow.Author.Needs.{needs}
+use mathlib.Core.Path.{sym, _∙_}
+use borrow.Author.Tests.{lt-leb, le-leb}
+use Rattle.frame_table.specs.Table.{Accepted}
+use Rattle.row_judgement.specs.Judge.{judgeRow, judgeChecked}
+use Rattle.row_judgement.specs.laws.Judged.{row-inside, answered}
+use Rattle.row_judgement.proofs.judgement.judge.Statement.{statement}
+use Rattle.row_judgement.proofs.judgement.judge.Tie as tie
+
+check-requires : tie.Need-check-requires
+check-requires c κs = search needs
+
+enum-known-checked : tie.Need-enum-known-checked
+enum-known-checked c = search needs
+
+of-table-requires : tie.Need-of-table-requires
+of-table-requires c κs = search needs
+
+enum-told : tie.Need-enum-told
+enum-told c = search needs
+
+abbrev start : tie.After-check → tie.Start
+start c = c .before .before
+
+-- the table passed
+passed : (c : tie.After-enum-told) → Accepted (start (c .before .before) .args .rows .now)
+passed c = sym (c .before .before .check .ensures) ∙ c .enum-told .given .1
+
+returns : tie.Need-returns
+unfolding judgeRow judgeChecked
+returns c =
+    let s = start (c .before .before .before) in
+    answered (s .args .rows .now) (s .args .row) (rw (passed (c .before), le-leb _ _ (c .if1 .taken)))
+
+judge-row-requires : tie.Need-judge-row-requires
+judge-row-requires c κs =
+    let s = start (c .before .before .before) in
+    (passed (c .before), row-inside (s .args .rows .now) (c .if1 .left))
+
+returns-2 : tie.Need-returns-2
+unfolding judgeRow judgeChecked
+returns-2 c =
+    let s = start (c .before .before .before .before) in
+    answered (s .args .rows .now) (s .args .row) (rw (sym (c .before .before .before .before .check .ensures) ∙ c .before .before .checked .given .1, c .of-table .ensures))
+
+returns-3 : tie.Need-returns-3
+unfolding judgeRow judgeChecked
+returns-3 c =
+    let s = start (c .before .before .before .before) in
+    answered (s .args .rows .now) (s .args .row) (rw (passed (c .before .before), lt-leb _ _ (c .before .if1 .left), c .judge-row .ensures))
+
+pub judge-spec : {M : Type 1} → statement M
+judge-spec =
+    tie.close
+    (tie.spec
+    check-requires
+    enum-known-checked
+    of-table-requires
+    enum-told
+    returns
+    judge-row-requires
+    returns-2
+    returns-3)

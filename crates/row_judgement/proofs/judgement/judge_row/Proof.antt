@@ -1,0 +1,75 @@
+-- The frames are put into an area of their own; that of the row is judged among them, with the claim in the row's last column.
+use borrow.Author.Needs.{needs}
+use Prim.Native.Nat.{_+_, _*_, _≤_, _<_}
+use mathlib.Core.Path.{_≡_, sym, ap, subst, _∙_}
+use native.Mathlib.Omega.{arith}
+use lib.ListN.{length}
+use Rattle.bus_model.specs.Judgement.{judge}
+use Rattle.frame_table.specs.Frames.{framesOf}
+use Rattle.frame_table.specs.laws.Accepted.{accepted-size}
+use Rattle.workload.specs.Grouped.{FineTable, InTable}
+use Rattle.row_judgement.specs.Judge.{claimOf}
+use Rattle.row_judgement.specs.laws.Stored.{accepted-fine}
+use Rattle.row_judgement.specs.laws.Judged.{claim-inside}
+use Rattle.row_judgement.proofs.judgement.judge_row.Statement.{statement}
+use Rattle.row_judgement.proofs.judgement.judge_row.Tie as tie
+
+frame-requires : tie.Need-frame-requires
+frame-requires c κs = search needs
+
+place : (c : tie.Start) → (7 * c .args .i + 6 < length (c .args .rows .now)) × (length (c .args .rows .now) ≤ 448)
+place c = claim-inside (c .args .rows .now) (c .pre .0) (c .pre .1)
+
+mul-claim : tie.Need-mul-claim
+mul-claim c = record { fits = omega (arith, place (c .before .before)) }
+
+add-claim : tie.Need-add-claim
+add-claim c = record { fits = omega (arith, place (c .before .before)) }
+
+mul-claim-2 : tie.Need-mul-claim-2
+mul-claim-2 c = record { fits = omega (arith, place (c .before .before)) }
+
+shared-slice-read-claim : tie.Need-shared-slice-read-claim
+shared-slice-read-claim c = place (c .before .before .before) .0
+
+slice-aggregate-store : tie.Need-slice-aggregate-store
+slice-aggregate-store c = search needs
+
+store-requires : tie.Need-store-requires
+store-requires c κs = search needs
+
+mul-used : tie.Need-mul-used
+mul-used c = search needs
+
+slice-aggregate-judge-stored : tie.Need-slice-aggregate-judge-stored
+slice-aggregate-judge-stored c = search needs
+
+judge-stored-requires : tie.Need-judge-stored-requires
+judge-stored-requires c κs =
+    let s = c .before .before .before .before .before .before .before in
+    let all = c .before .before .store .ensures in
+    let long : length (c .before .before .store .last .1 .0) ≡ 384 = c .before .before .store .kept .1 .0 in
+    ((omega (arith, long, accepted-size _ (s .pre .0) .most), subst FineTable (sym all) (accepted-fine _ (s .pre .0))), subst (λ fs. InTable fs (c .before .before .before .before .before .frame .result)) (sym all) (record { at = s .args .i; inside = s .pre .1; is = c .before .before .before .before .before .frame .ensures }))
+
+returns : tie.Need-returns
+returns c =
+    let s = c .before .before .before .before .before .before .before .before in
+    c .judge-stored .ensures
+    ∙ ap (λ fs. judge fs (c .before .before .before .before .before .before .frame .result) (claimOf (s .args .rows .now) (s .args .i))) (c .before .before .before .store .ensures)
+    ∙ ap (λ k. judge (framesOf (s .args .rows .now)) k (claimOf (s .args .rows .now) (s .args .i))) (c .before .before .before .before .before .before .frame .ensures)
+
+pub judge-row-spec : {M : Type 1} → statement M
+judge-row-spec =
+    tie.close
+    (tie.spec
+    frame-requires
+    mul-claim
+    add-claim
+    mul-claim-2
+    shared-slice-read-claim
+    slice-aggregate-store
+    store-requires
+    mul-used
+    slice-aggregate-judge-stored
+    judge-stored-requires
+    returns)

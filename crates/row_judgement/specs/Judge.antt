@@ -1,0 +1,61 @@
+-- The judgement of a row, and its precise bound (document 01, "Judgement" and "Where a call is turned back").
+-- Rows count from 0.
+use Prim.Native.Nat.{ℕ, _/_}
+use mathlib.Core.List.{List}
+use mathlib.Core.Bool.{Bool, false, cond}
+use lib.Dec.{leb}
+use lib.ListN.{length}
+use Rattle.bus_model.specs.declared.Frame.{Frame}
+use Rattle.bus_model.specs.Frame.{row}
+use Rattle.bus_model.specs.Bounds.{preciseBound}
+use Rattle.bus_model.specs.Judgement.{lacksWindow, tooManyScenarios, certifies, judge}
+use Rattle.frame_table.specs.declared.Checked.{Checked}
+use Rattle.frame_table.specs.declared.Checked.the-variants.{Passed, Failed}
+use Rattle.frame_table.specs.Columns.{field}
+use Rattle.frame_table.specs.Frames.{framesOf}
+use Rattle.frame_table.specs.Table.{rowsCheck}
+use Rattle.row_judgement.specs.declared.Cause.the-variants.{NoSuchRow, NoWindow, TooManyScenarios}
+use Rattle.row_judgement.specs.declared.Judged.{Judged}
+use Rattle.row_judgement.specs.declared.Judged.the-variants.{Verdict, NotJudged}
+use Rattle.row_judgement.specs.declared.Bounded.{Bounded}
+use Rattle.row_judgement.specs.declared.Bounded.the-variants.{Bound, NotBounded}
+use Rattle.row_judgement.specs.Refusal.{ofTable}
+
+-- the claim of row r
+abbrev pub claimOf : List ℕ → ℕ → ℕ
+claimOf rows r = field rows r 6
+
+-- whether there is no row r: 9
+abbrev pub noRow : List ℕ → ℕ → Bool
+noRow rows r = leb (length rows / 7) r
+
+-- ---- judging a row: the checks on tables, then 9
+
+unfoldable pub judgeChecked : Checked → List ℕ → ℕ → Judged
+judgeChecked (Failed f) rows r = NotJudged (ofTable f)
+judgeChecked Passed rows r =
+    cond (noRow rows r) (NotJudged (record { cause = NoSuchRow; place = 0 }))
+    (Verdict (judge (framesOf rows) (row (framesOf rows) r) (claimOf rows r)))
+
+unfoldable pub judgeRow : List ℕ → ℕ → Judged
+judgeRow rows r = judgeChecked (rowsCheck rows) rows r
+
+-- "certified": verdict 1 or 2
+unfoldable pub certified : Judged → Bool
+certified (Verdict j) = certifies (j .outcome)
+certified (NotJudged f) = false
+
+-- ---- the precise bound alone: the checks on tables, 9, 11, 12
+
+unfoldable pub boundFrame : List Frame → ℕ → Bounded
+boundFrame fs r =
+    cond (lacksWindow fs (row fs r)) (NotBounded (record { cause = NoWindow; place = r }))
+    (cond (tooManyScenarios fs (row fs r)) (NotBounded (record { cause = TooManyScenarios; place = r }))
+    (Bound (preciseBound fs (row fs r))))
+
+unfoldable pub boundChecked : Checked → List ℕ → ℕ → Bounded
+boundChecked (Failed f) rows r = NotBounded (ofTable f)
+boundChecked Passed rows r = cond (noRow rows r) (NotBounded (record { cause = NoSuchRow; place = 0 })) (boundFrame (framesOf rows) r)
+
+unfoldable pub boundRow : List ℕ → ℕ → Bounded
+boundRow rows r = boundChecked (rowsCheck rows) rows r

@@ -1,0 +1,58 @@
+-- The frames of an accepted table, as they are put into an area.
+use Prim.Native.Nat.{ℕ, _*_, _/_, _<_}
+use mathlib.Core.Path.{_≡_}
+use mathlib.Core.List.{List}
+use mathlib.Core.Logic.{inl, inr}
+use native.Mathlib.Omega.{arith}
+use lib.ListN.{length, take}
+use Rattle.bus_model.specs.Frame.{row}
+use Rattle.frame_table.specs.Columns.{field}
+use Rattle.frame_table.specs.Frames.{priorityOf, frameAt, framesOf}
+use Rattle.frame_table.specs.Table.{Accepted}
+use Rattle.frame_table.specs.laws.Lengths.{length-bounds}
+use Rattle.frame_table.specs.laws.Limits.{identified-cases}
+use Rattle.frame_table.specs.laws.Accepted.{length-frames, frame-row, accepted-size, accepted-limits, accepted-pattern, accepted-valid}
+use Rattle.workload.specs.Stored.{stored}
+use Rattle.workload.specs.Grouped.{Fine, FineTable}
+use Rattle.workload.specs.laws.Stored.{StoredTo, stored-all}
+
+module _ (rows : List ℕ) (accepted : Accepted rows) where
+  row-fine : (i : ℕ) → i < length rows / 7 → Fine (frameAt rows i)
+  unfolding frameAt
+  row-fine i l =
+      let m = accepted-limits rows accepted i l in
+      let c = length-bounds (field rows i 2) (field rows i 3) (m .payload-max) in
+      record {
+        node-low = m .node-min;
+        node-high = m .node-max;
+        length-low = omega (arith, c .0);
+        length-high = omega (arith, c .1);
+        period-low = m .period-min;
+        period-high = m .period-max;
+        offset = m .offset-max;
+      }
+
+  pub accepted-fine : FineTable (framesOf rows)
+  accepted-fine = record {
+    few = omega (arith, length-frames rows, accepted-size rows accepted .most);
+    valid = accepted-valid rows accepted;
+    fine = λ i l. let h : i < length rows / 7 = omega (arith, length-frames rows) in rw (frame-row rows i h) (row-fine i h);
+    hyper = λ j low high. accepted-pattern rows accepted j low high .0;
+  }
+
+  -- Their priorities are numbers of 32 bits.
+  pub priority-short : (i : ℕ) → i < length rows / 7 → row (framesOf rows) i .priority < 4294967296
+  unfolding frameAt priorityOf
+  priority-short i l =
+      let m = accepted-limits rows accepted i l in
+      rw (frame-row rows i l) (
+      elim (identified-cases (field rows i 2) (field rows i 1) (m .identified)) [
+        | inl a ↦ rw (a .0) (omega (arith, a .1))
+        | inr a ↦ rw (a .0) (omega (arith, a .1))
+      ]
+      )
+
+  -- Where they are all put, they are the frames of the area.
+  pub all-stored : {area : List ℕ} {i : ℕ} → StoredTo (frameAt rows) area i → i ≡ length rows / 7 → stored (take (6 * (length rows / 7)) area) ≡ framesOf rows
+  unfolding framesOf
+  all-stored s is = rw is at (stored-all s (omega (arith, accepted-size rows accepted .most)))

@@ -1,0 +1,119 @@
+// The precise bound of a row.
+use crate::Bounded;
+use crate::Cause;
+use crate::Refusal;
+use crate::frames::store;
+use crate::of_table;
+use arith::Found;
+use bus_model::Frame;
+use frame_table::Checked;
+ghost use mathlib.Core.Path.{_≡_};
+ghost use Prim.Native.Nat.{_≤_, _<_};
+ghost use lib.ListN.{length, take};
+ghost use Rattle.bus_model.specs.Frame.{row};
+ghost use Rattle.frame_table.specs.Frames.{framesOf};
+ghost use Rattle.frame_table.specs.Table.{Accepted};
+ghost use Rattle.workload.specs.Stored.{stored};
+ghost use Rattle.workload.specs.Kept.{Kept};
+ghost use Rattle.workload.specs.Grouped.{FineTable, Grouped};
+ghost use Rattle.row_judgement.specs.Judge.{boundFrame, boundRow};
+
+// The precise bound of a row.
+pub fn precise_bound(rows: &[u32], row: u64) -> Bounded
+    ensures { λ r. ⌜ r ≡ boundRow (now (rows .entry)) row ⌝ }
+{
+    let checked = frame_table::check(rows);
+    match checked {
+        Checked::Failed(refusal) => Bounded::NotBounded(of_table(refusal)),
+        Checked::Passed => {
+            if (rows.len() / frame_table::ROW) as u64 <= row {
+                return Bounded::NotBounded(Refusal {
+                    cause: Cause::NoSuchRow,
+                    place: 0,
+                });
+            }
+            bound_row(rows, row as usize)
+        }
+    }
+}
+
+// The precise bound of a row of an accepted table.
+fn bound_row(rows: &[u32], i: usize) -> Bounded
+    requires { ⌜ Accepted (now rows) ⌝ }
+    requires { ⌜ i < length (framesOf (now rows)) ⌝ }
+    ensures { λ r. ⌜ r ≡ boundFrame (framesOf (now (rows .entry))) i ⌝ }
+{
+    let k = frame_table::frame(rows, i);
+    let mut frames = [0u32; workload::FRAMES];
+    store(rows, &mut frames);
+    let used = workload::FRAME * (rows.len() / frame_table::ROW);
+    bound_stored(&frames, used, k, i)
+}
+
+// The precise bound of frame k, the i-th of a table whose frames are the first numbers of an area.
+fn bound_stored(area: &[u32], used: usize, k: Frame, i: usize) -> Bounded
+    requires { ⌜ (used ≤ length (now area)) × FineTable (stored (take used (now area))) ⌝ }
+    requires { ⌜ (i < length (stored (take used (now area)))) × (k ≡ row (stored (take used (now area))) i) ⌝ }
+    ensures { λ r. ⌜ r ≡ boundFrame (stored (take used (now (area .entry)))) i ⌝ }
+{
+    bound_among(&area[0..used], k, i)
+}
+
+// The precise bound of frame k, the i-th of a table.
+fn bound_among(frames: &[u32], k: Frame, i: usize) -> Bounded
+    requires { ⌜ FineTable (stored (now frames)) ⌝ }
+    requires { ⌜ (i < length (stored (now frames))) × (k ≡ row (stored (now frames)) i) ⌝ }
+    ensures { λ r. ⌜ r ≡ boundFrame (stored (now (frames .entry))) i ⌝ }
+{
+    let mut members = [0u8; workload::MEMBERS];
+    let mut counts = [0usize; workload::NODES];
+    let mut ends = [0u32; workload::NODES];
+    let mut hints = [0u32; response_time::HINTS];
+    let mut sums = [0u64; workload::SUMS];
+    workload::group(frames, k, &mut members, &mut counts, &mut ends);
+    bound_frame(
+        frames,
+        &members,
+        &counts,
+        &ends,
+        k,
+        i,
+        &mut hints,
+        &mut sums,
+    )
+}
+
+// The precise bound of frame k in row i, whose frames ahead are grouped.
+fn bound_frame(
+    frames: &[u32],
+    members: &[u8],
+    counts: &[usize],
+    ends: &[u32],
+    k: Frame,
+    i: usize,
+    hints: &mut [u32],
+    sums: &mut [u64],
+) -> Bounded
+    requires { ⌜ FineTable (stored (now frames)) ⌝ }
+    requires { ⌜ Grouped (stored (now frames)) k (now members) (now counts) (now ends) ⌝ }
+    requires { ⌜ (i < length (stored (now frames))) × (k ≡ row (stored (now frames)) i) ⌝ }
+    requires { ⌜ Kept (stored (now frames)) k (now sums) ⌝ }
+    ensures { λ r. ⌜ r ≡ boundFrame (stored (now (frames .entry))) i ⌝ }
+{
+    let blocked = workload::frame_blocking(frames, k);
+    let found = bounds::approximate(frames, members, counts, ends, k, blocked, hints, sums);
+    let Found::At(_) = found else {
+        return Bounded::NotBounded(Refusal {
+            cause: Cause::NoWindow,
+            place: i as u32,
+        });
+    };
+    let scenarios = bounds::scenario_count(frames, members, counts, ends, k);
+    if bounds::SCENARIO_LIMIT < scenarios {
+        return Bounded::NotBounded(Refusal {
+            cause: Cause::TooManyScenarios,
+            place: i as u32,
+        });
+    }
+    Bounded::Bound(bounds::precise(frames, members, counts, ends, k, blocked, hints, sums))
+}

@@ -1,0 +1,157 @@
+// The judgement of a row.
+use crate::Cause;
+use crate::Judged;
+use crate::Refusal;
+use crate::frames::store;
+use crate::of_table;
+use arith::Found;
+use bus_model::Frame;
+use bus_model::Judgement;
+use bus_model::Outcome;
+use frame_table::Checked;
+ghost use mathlib.Core.Path.{_≡_};
+ghost use Prim.Native.Nat.{_≤_, _<_};
+ghost use lib.Dec.{T};
+ghost use lib.IntN.{pos, _-ℤ_};
+ghost use lib.ListN.{length, take};
+ghost use Rattle.bus_model.specs.Frame.{row};
+ghost use Rattle.bus_model.specs.Bus.{MeetsClaim};
+ghost use Rattle.bus_model.specs.Judgement.{verdict, judge};
+ghost use Rattle.frame_table.specs.Frames.{framesOf};
+ghost use Rattle.frame_table.specs.Table.{Accepted};
+ghost use Rattle.workload.specs.Stored.{stored};
+ghost use Rattle.workload.specs.Kept.{Kept};
+ghost use Rattle.workload.specs.Grouped.{FineTable, Grouped, InTable};
+ghost use Rattle.row_judgement.specs.Judge.{claimOf, judgeRow, certified};
+
+// Judges the claim of a row. Where it certifies the frame, no instance of it is late, in any schedule.
+pub fn judge(rows: &[u32], row: u64) -> Judged
+    ensures { λ r. ⌜ r ≡ judgeRow (now (rows .entry)) row ⌝ }
+    ensures never_late { λ r. ⌜ (T (certified r) → MeetsClaim (framesOf (now (rows .entry))) row (claimOf (now (rows .entry)) row)) ⌝ }
+{
+    let checked = frame_table::check(rows);
+    match checked {
+        Checked::Failed(refusal) => Judged::NotJudged(of_table(refusal)),
+        Checked::Passed => {
+            if (rows.len() / frame_table::ROW) as u64 <= row {
+                return Judged::NotJudged(Refusal {
+                    cause: Cause::NoSuchRow,
+                    place: 0,
+                });
+            }
+            Judged::Verdict(judge_row(rows, row as usize))
+        }
+    }
+}
+
+// The judgement of a row of an accepted table.
+pub fn judge_row(rows: &[u32], i: usize) -> Judgement
+    requires { ⌜ Accepted (now rows) ⌝ }
+    requires { ⌜ i < length (framesOf (now rows)) ⌝ }
+    ensures { λ r. ⌜ r ≡ judge (framesOf (now (rows .entry))) (row (framesOf (now (rows .entry))) i) (claimOf (now (rows .entry)) i) ⌝ }
+{
+    let k = frame_table::frame(rows, i);
+    let claim = rows[frame_table::ROW * i + 6];
+    let mut frames = [0u32; workload::FRAMES];
+    store(rows, &mut frames);
+    let used = workload::FRAME * (rows.len() / frame_table::ROW);
+    judge_stored(&frames, used, k, claim)
+}
+
+// The judgement of frame k of a table whose frames are the first numbers of an area.
+fn judge_stored(area: &[u32], used: usize, k: Frame, claim: u32) -> Judgement
+    requires { ⌜ (used ≤ length (now area)) × FineTable (stored (take used (now area))) ⌝ }
+    requires { ⌜ InTable (stored (take used (now area))) k ⌝ }
+    ensures { λ r. ⌜ r ≡ judge (stored (take used (now (area .entry)))) k claim ⌝ }
+{
+    judge_among(&area[0..used], k, claim)
+}
+
+// The judgement of frame k of a table.
+fn judge_among(frames: &[u32], k: Frame, claim: u32) -> Judgement
+    requires { ⌜ FineTable (stored (now frames)) ⌝ }
+    requires { ⌜ InTable (stored (now frames)) k ⌝ }
+    ensures { λ r. ⌜ r ≡ judge (stored (now (frames .entry))) k claim ⌝ }
+{
+    let mut members = [0u8; workload::MEMBERS];
+    let mut counts = [0usize; workload::NODES];
+    let mut ends = [0u32; workload::NODES];
+    let mut hints = [0u32; response_time::HINTS];
+    let mut sums = [0u64; workload::SUMS];
+    workload::group(frames, k, &mut members, &mut counts, &mut ends);
+    judge_frame(
+        frames,
+        &members,
+        &counts,
+        &ends,
+        k,
+        claim,
+        &mut hints,
+        &mut sums,
+    )
+}
+
+// The judgement of frame k, whose frames ahead are grouped.
+fn judge_frame(
+    frames: &[u32],
+    members: &[u8],
+    counts: &[usize],
+    ends: &[u32],
+    k: Frame,
+    claim: u32,
+    hints: &mut [u32],
+    sums: &mut [u64],
+) -> Judgement
+    requires { ⌜ FineTable (stored (now frames)) ⌝ }
+    requires { ⌜ Grouped (stored (now frames)) k (now members) (now counts) (now ends) ⌝ }
+    requires { ⌜ InTable (stored (now frames)) k ⌝ }
+    requires { ⌜ Kept (stored (now frames)) k (now sums) ⌝ }
+    ensures { λ r. ⌜ r ≡ judge (stored (now (frames .entry))) k claim ⌝ }
+{
+    let blocked = workload::frame_blocking(frames, k);
+    let found = bounds::approximate(frames, members, counts, ends, k, blocked, hints, sums);
+    let Found::At(rough) = found else {
+        return Judgement {
+            outcome: Outcome::NoWindow,
+            bound: 0,
+            margin: 0,
+        };
+    };
+    if rough <= claim {
+        return judged(Outcome::CertifiedApproximate(rough), rough, claim);
+    }
+    let scenarios = bounds::scenario_count(frames, members, counts, ends, k);
+    if bounds::SCENARIO_LIMIT < scenarios {
+        return judged(Outcome::Undecided(rough), rough, claim);
+    }
+    let exact = bounds::precise(frames, members, counts, ends, k, blocked, hints, sums);
+    if exact <= claim {
+        judged(Outcome::CertifiedPrecise(exact), exact, claim)
+    } else {
+        judged(Outcome::ClaimTooSmall(exact), exact, claim)
+    }
+}
+
+// An outcome beside the bound used and the margin.
+fn judged(outcome: Outcome, bound: u32, claim: u32) -> Judgement
+    ensures { λ r. ⌜ r ≡ record { outcome = outcome; bound = bound; margin = pos claim -ℤ pos bound } ⌝ }
+{
+    Judgement {
+        outcome,
+        bound,
+        margin: claim as i64 - bound as i64,
+    }
+}
+
+// The verdict's number in document 01.
+pub fn verdict(outcome: Outcome) -> u32
+    ensures { λ r. ⌜ r ≡ verdict outcome ⌝ }
+{
+    match outcome {
+        Outcome::CertifiedApproximate(_) => 1,
+        Outcome::CertifiedPrecise(_) => 2,
+        Outcome::ClaimTooSmall(_) => 3,
+        Outcome::NoWindow => 11,
+        Outcome::Undecided(_) => 12,
+    }
+}

@@ -1,0 +1,62 @@
+// The judgement of a row of a frame table, and its precise bound. Both take any input, and check their table themselves.
+mod bound;
+mod frames;
+mod judgement;
+
+pub use bound::precise_bound;
+pub use judgement::judge;
+pub use judgement::judge_row;
+pub use judgement::verdict;
+ghost use mathlib.Core.Path.{_≡_};
+ghost use Rattle.row_judgement.specs.Refusal.{numberOf, ofTable};
+
+// Why a call is turned back.
+pub enum Cause {
+    // The table's own checks, and an output area that is too short.
+    Table(frame_table::Cause),
+    NoSuchRow,
+    // For some alignment of the row's node the approximate bound has no busy window.
+    NoWindow,
+    TooManyScenarios,
+}
+
+// A cause and its place: a line, a node, a row, or 0.
+pub struct Refusal {
+    pub cause: Cause,
+    pub place: u32,
+}
+
+// What judging a row answers.
+pub enum Judged {
+    Verdict(bus_model::Judgement),
+    NotJudged(Refusal),
+}
+
+// What computing a row's precise bound answers.
+pub enum Bounded {
+    Bound(u32),
+    NotBounded(Refusal),
+}
+
+// The number of a cause in document 01.
+pub fn number(cause: Cause) -> u32
+    ensures { λ r. ⌜ r ≡ numberOf cause ⌝ }
+{
+    match cause {
+        Cause::Table(table) => frame_table::number(table),
+        Cause::NoSuchRow => 9,
+        Cause::NoWindow => 11,
+        Cause::TooManyScenarios => 12,
+    }
+}
+
+// A refusal of the table, as one of these.
+pub fn of_table(refusal: frame_table::Refusal) -> Refusal
+    ensures { λ r. ⌜ r ≡ ofTable refusal ⌝ }
+{
+    let cause = refusal.cause;
+    Refusal {
+        cause: Cause::Table(cause),
+        place: refusal.place,
+    }
+}
