@@ -14,36 +14,45 @@ use std::time::{Duration, Instant};
 
 /// Room for a listing.
 const ROOM: usize = 4096;
-/// Short listings are repeated for about so long, at most so often.
-const REPEATED: Duration = Duration::from_millis(300);
-const MOST_RUNS: usize = 15;
+/// Listers take turns for about so long, at most so often.
+const TURNS: Duration = Duration::from_secs(1);
+const MOST_TURNS: usize = 101;
 
-const LEGEND: &str =
-    "Time of whole listings, median of up to 15 runs, each measurement in its own process.
+const LEGEND: &str = "Time of whole listings, median of up to 101 runs in about a second.
 scenarios, window: of the lowest-priority row that has a window
-yardstick: the library's algorithm in Rust, written for speed; ratio: the library's time to its time
+yardstick: the library's algorithm in Rust, written for speed; takes turns with the library
+ratio: the library's time to the yardstick's in the same turn, median of the turns
 analyser: passes over scenarios that cannot exceed one seen; plain: goes through all
 faster: how many times as fast as plain enumeration the library is
 >: stopped, or at least so much because of that";
 
-/// Who lists a table, and after how many seconds that is stopped.
+/// Who lists a table.
 struct Lister {
     name: &'static str,
-    cap: u64,
     list: fn(&[u8]) -> String,
 }
 
 const LISTERS: [Lister; 4] = [
-    Lister { name: "library", cap: 60, list: library_listing },
-    Lister { name: "yardstick", cap: 60, list: |file| yardstick::list(&accepted(file)) },
-    Lister { name: "analyser", cap: 5, list: |file| list_rows_by(Search::Pruned, &accepted(file)) },
-    Lister { name: "plain", cap: 3, list: |file| list_rows_by(Search::Plain, &accepted(file)) },
+    Lister { name: "library", list: library_listing },
+    Lister { name: "yardstick", list: |file| yardstick::list(&accepted(file)) },
+    Lister { name: "analyser", list: |file| list_rows_by(Search::Pruned, &accepted(file)) },
+    Lister { name: "plain", list: |file| list_rows_by(Search::Plain, &accepted(file)) },
 ];
 
-/// A median time and the listing, or the time after which it was stopped.
+/// Those who take turns in one process, and after how many seconds that is stopped.
+const PROCESSES: [(&[&str], u64); 3] =
+    [(&["library", "yardstick"], 60), (&["analyser"], 5), (&["plain"], 3)];
+
+/// The times of the turns and the listing, or the time after which it was stopped.
 struct Measured {
-    seconds: f64,
+    times: Vec<f64>,
     listing: Option<String>,
+}
+
+impl Measured {
+    fn seconds(&self) -> f64 {
+        median(&self.times)
+    }
 }
 
 /// Measures all tables; false if a listing differs or a measurement fails.
@@ -78,8 +87,10 @@ pub fn bench() -> io::Result<bool> {
 /// Prints the line of a table; false if two listings differ.
 fn measure_table((name, rows): &Table) -> io::Result<bool> {
     let file = table::file_of(rows);
-    let found: Vec<Measured> =
-        LISTERS.iter().map(|lister| measure(lister, &file)).collect::<io::Result<_>>()?;
+    let mut found = Vec::new();
+    for (names, cap) in PROCESSES {
+        found.extend(measure(names, cap, &file)?);
+    }
     let [library, yardstick, analyser, plain] = &found[..] else {
         unreachable!("one for each lister")
     };
@@ -91,7 +102,7 @@ fn measure_table((name, rows): &Table) -> io::Result<bool> {
         &window,
         &time_text(library),
         &time_text(yardstick),
-        &ratio(library, yardstick),
+        &turns_ratio(library, yardstick),
         &time_text(analyser),
         &time_text(plain),
         &ratio(plain, library),
@@ -134,12 +145,22 @@ fn count_text(view: &View) -> String {
 }
 
 fn time_text(measured: &Measured) -> String {
-    match measured.seconds {
+    match measured.seconds() {
         s if measured.listing.is_none() => format!(">{s:.0} s"),
         s if s < 1e-3 => format!("{:.1} us", s * 1e6),
         s if s < 1.0 => format!("{:.1} ms", s * 1e3),
         s => format!("{s:.2} s"),
     }
+}
+
+/// The median of the turns' ratios.
+fn turns_ratio(one: &Measured, other: &Measured) -> String {
+    if one.listing.is_none() {
+        return "-".into();
+    }
+    let turns = one.times.iter().zip(&other.times);
+    let ratios: Vec<f64> = turns.map(|(one, other)| one / other).collect();
+    format!("{:.2}", median(&ratios))
 }
 
 /// How many times the one's time the other's is.
@@ -149,26 +170,40 @@ fn ratio(one: &Measured, other: &Measured) -> String {
         (None, _) => ">",
         _ => "",
     };
-    match one.seconds / other.seconds {
+    match one.seconds() / other.seconds() {
         times if times < 100.0 => format!("{least}{times:.1}"),
         times => format!("{least}{times:.0}"),
     }
 }
 
-/// Runs a measurement as a process that is stopped at the cap.
-fn measure(lister: &Lister, file: &[u8]) -> io::Result<Measured> {
+fn median(numbers: &[f64]) -> f64 {
+    let mut numbers = numbers.to_vec();
+    numbers.sort_by(f64::total_cmp);
+    numbers[numbers.len() / 2]
+}
+
+/// Runs the named listers as a process that is stopped at the cap.
+fn measure(names: &[&str], cap: u64, file: &[u8]) -> io::Result<Vec<Measured>> {
     let mut command = Command::new(std::env::current_exe()?);
-    command.args(["time", lister.name]).stdin(Stdio::piped()).stdout(Stdio::piped());
+    command.arg("time").args(names).stdin(Stdio::piped()).stdout(Stdio::piped());
     let mut child = command.spawn()?;
     child.stdin.take().expect("a pipe").write_all(file)?;
-    if !ends_within(&mut child, Duration::from_secs(lister.cap))? {
-        return Ok(Measured { seconds: lister.cap as f64, listing: None });
+    if !ends_within(&mut child, Duration::from_secs(cap))? {
+        let stopped = |_| Measured { times: vec![cap as f64], listing: None };
+        return Ok(names.iter().map(stopped).collect());
     }
     let output = child.wait_with_output()?;
     let text = String::from_utf8_lossy(&output.stdout);
-    let (seconds, listing) = text.split_once('\n').unwrap_or_default();
-    let seconds = seconds.parse().map_err(|_| io::Error::other("a measurement failed"))?;
-    Ok(Measured { seconds, listing: Some(listing.into()) })
+    let found: Option<Vec<Measured>> = text.split_terminator("\n\n").map(measured).collect();
+    let found = found.filter(|found| found.len() == names.len());
+    found.ok_or_else(|| io::Error::other("a measurement failed"))
+}
+
+/// What is printed of one lister.
+fn measured(text: &str) -> Option<Measured> {
+    let (times, listing) = text.split_once('\n')?;
+    let times = times.split(' ').map(|time| time.parse().ok()).collect::<Option<_>>()?;
+    Some(Measured { times, listing: Some(listing.into()) })
 }
 
 fn ends_within(child: &mut Child, cap: Duration) -> io::Result<bool> {
@@ -184,24 +219,35 @@ fn ends_within(child: &mut Child, cap: Duration) -> io::Result<bool> {
     Ok(true)
 }
 
-/// Lists the table on standard input, and prints the median time in seconds and the listing.
-pub fn time(name: &str) -> io::Result<bool> {
-    let lister = LISTERS.iter().find(|lister| lister.name == name);
-    let lister = lister.ok_or_else(|| io::Error::other("no such lister"))?;
+/// Lists the table on standard input by the named listers in turns, and prints for each of them the
+/// times in seconds and the listing.
+pub fn time(names: &[&str]) -> io::Result<bool> {
+    let find = |name: &&str| LISTERS.iter().find(|lister| lister.name == *name);
+    let listers: Option<Vec<&Lister>> = names.iter().map(find).collect();
+    let listers = listers.ok_or_else(|| io::Error::other("no such lister"))?;
     let mut file = Vec::new();
     io::stdin().read_to_end(&mut file)?;
-    let mut times = Vec::new();
-    let mut listing = String::new();
-    let begin = Instant::now();
-    while times.is_empty() || (times.len() < MOST_RUNS && begin.elapsed() < REPEATED) {
-        let start = Instant::now();
-        listing = (lister.list)(&file);
-        times.push(start.elapsed());
+    for (times, listing) in take_turns(&listers, &file) {
+        println!("{}\n{listing}", times.join(" "));
     }
-    times.sort_unstable();
-    println!("{}", times[times.len() / 2].as_secs_f64());
-    print!("{listing}");
     Ok(true)
+}
+
+/// The times and the listing of each lister.
+fn take_turns(listers: &[&Lister], file: &[u8]) -> Vec<(Vec<String>, String)> {
+    let mut found = vec![(Vec::new(), String::new()); listers.len()];
+    let begin = Instant::now();
+    for turn in 0..MOST_TURNS {
+        if turn > 0 && begin.elapsed() >= TURNS {
+            break;
+        }
+        for (lister, (times, listing)) in listers.iter().zip(&mut found) {
+            let start = Instant::now();
+            *listing = (lister.list)(file);
+            times.push(start.elapsed().as_secs_f64().to_string());
+        }
+    }
+    found
 }
 
 fn accepted(file: &[u8]) -> Vec<Row> {

@@ -1,14 +1,14 @@
-//! One call of the library, held against the analyser.
+//! One call of the library, held against the analyser; for listings, the yardstick as well.
 
 use crate::call::{Call, OnFile, OnRows};
 use crate::lent::{filled, Element, Lent};
-use crate::library;
+use crate::{library, yardstick};
 use analyser::judgement::{judge, judge_file, precise_bound, Search};
 use analyser::listing::{bound_number, judge_number, list_rows_by, refusal_number};
 use analyser::random::Random;
-use analyser::table::{self, Refusal, FIELDS, LINE};
+use analyser::table::{self, Refusal, Row, FIELDS, LINE};
 
-/// The answer, or how the library and the analyser differ.
+/// The answer, or what differs.
 pub fn compare(call: &Call, random: &mut Random) -> Result<i64, String> {
     match call {
         Call::File(file, operation) => compare_file(random, file, *operation),
@@ -34,7 +34,11 @@ fn compare_file(random: &mut Random, file: &[u8], operation: OnFile) -> Result<i
             with_area(random, file, size, read, library::read)
         }
         OnFile::List(size) => {
-            with_area(random, file, size, |area| list_into(file, area), library::list)
+            let listed = match table::parse(file) {
+                Ok(rows) => Ok(listing(&rows)?),
+                Err(refusal) => Err(refusal),
+            };
+            with_area(random, file, size, |area| list_into(listed, area), library::list)
         }
     }
 }
@@ -64,9 +68,18 @@ fn elements(lines: Result<usize, Refusal>, in_a_line: usize) -> i64 {
     lines.map_or_else(refusal_number, |lines| (lines * in_a_line) as i64)
 }
 
+/// The analyser's listing of accepted rows, which the yardstick must give too.
+fn listing(rows: &[Row]) -> Result<String, String> {
+    let text = list_rows_by(Search::Pruned, rows);
+    if yardstick::list(rows) == text {
+        Ok(text)
+    } else {
+        Err("the yardstick's listing is not the analyser's".into())
+    }
+}
+
 /// The listing of accepted rows; an area too short comes last.
-fn list_into(file: &[u8], area: &mut [u8]) -> i64 {
-    let listed = table::parse(file).map(|rows| list_rows_by(Search::Pruned, &rows));
+fn list_into(listed: Result<String, Refusal>, area: &mut [u8]) -> i64 {
     match listed {
         Err(refusal) => refusal_number(refusal),
         Ok(text) if text.len() > area.len() => refusal_number(Refusal { number: 8, place: 0 }),

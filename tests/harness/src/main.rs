@@ -11,12 +11,14 @@ mod inputs;
 mod lent;
 mod library;
 mod limits;
+mod repeats;
 mod runs;
 mod simulate;
 mod starts;
 mod tables;
 mod tally;
 mod yardstick;
+mod yardstick_nodes;
 
 use std::io;
 use std::process::ExitCode;
@@ -26,7 +28,8 @@ const USAGE: &str = "usage:
   harness replay SEED NUMBER [--save FILE]
   harness simulate SEED COUNT
   harness bench
-  harness time library|yardstick|analyser|plain < table";
+  harness repeats
+  harness time library|yardstick|analyser|plain.. < table";
 
 fn main() -> ExitCode {
     let words: Vec<String> = std::env::args().skip(1).collect();
@@ -52,7 +55,8 @@ fn run(words: &[&str]) -> io::Result<bool> {
         }
         ["simulate", seed, count] => Ok(simulate::simulate(number(seed)?, number(count)?)),
         ["bench"] => bench::bench(),
-        ["time", lister] => bench::time(lister),
+        ["repeats"] => Ok(repeats::repeats()),
+        ["time", listers @ ..] if !listers.is_empty() => bench::time(listers),
         _ => Err(io::Error::other(USAGE)),
     }
 }

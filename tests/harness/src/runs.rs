@@ -40,6 +40,7 @@ pub fn random(seed: u64, count: u64, save: Option<&str>) -> io::Result<bool> {
     tally.print();
     limits.print();
     let complete = count < ENOUGH || is_complete(&tally, &limits);
+    println!("{} listings by the yardstick as well", tally.listings());
     println!("{count} inputs, {differences} differences");
     Ok(differences == 0 && complete)
 }
@@ -74,7 +75,7 @@ fn compare_one(seed: u64, number: u64) -> Result<(Call, i64), String> {
     match drawn {
         Ok((call, Ok(answer))) => Ok((call, answer)),
         Ok((call, Err(difference))) => Err(format!("{input}: {call}: {difference}")),
-        Err(_) => Err(format!("{input}: the analyser fails")),
+        Err(_) => Err(format!("{input}: the analyser or the yardstick fails")),
     }
 }
 

@@ -84,6 +84,12 @@ impl Tally {
         }
     }
 
+    /// How many listings were made, those that did not fit the area among them.
+    pub fn listings(&self) -> u64 {
+        let outcomes = [Outcome::Done, Outcome::Refused(8)];
+        outcomes.map(|outcome| self.counts[&(outcome, Operation::List)]).iter().sum()
+    }
+
     /// What was possible and not seen, and what was seen and not possible.
     pub fn faults(&self) -> Vec<String> {
         let fault = |(&(outcome, operation), &count): (&(Outcome, Operation), &u64)| {

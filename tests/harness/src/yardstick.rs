@@ -1,151 +1,36 @@
 //! The library's algorithm written for speed, under the library's rule that no list holds more than
 //! one of a node's alignments: the benchmark's yardstick.
 
+use crate::yardstick_nodes::{work, Frame, Node, Placed};
 use analyser::bounds::{length, rank};
 use analyser::judgement::{Judgement, Verdict, LIMITS};
 use analyser::listing::judgement_columns;
-use analyser::table::{self, Row, CLAIM, IDENTIFIER, NODE, NODES, OFFSET, PERIOD};
-use std::cell::RefCell;
+use analyser::table::{self, Row, CLAIM, IDENTIFIER, NODE, NODES};
+use std::collections::HashSet;
 
 /// A line for each of accepted rows.
 pub fn list(rows: &[Row]) -> String {
     let line = |(row, words): (usize, &Row)| {
-        format!("{:>10}{}\n", words[IDENTIFIER], judgement_columns(judge(rows, row)))
+        let judgement = View::new(rows, row).judge(words[CLAIM].into());
+        format!("{:>10}{}\n", words[IDENTIFIER], judgement_columns(judgement))
     };
     rows.iter().enumerate().map(line).collect()
 }
 
-fn judge(rows: &[Row], row: usize) -> Judgement {
-    let claim = u64::from(rows[row][CLAIM]);
-    let view = View::new(rows, row);
-    let Some(rough) = view.approximate() else {
-        return Judgement { verdict: Verdict::NoWindow, bound: 0, margin: 0 };
-    };
-    let (verdict, bound) = if rough <= claim {
-        (Verdict::CertifiedRough, rough)
-    } else if view.scenarios > LIMITS.scenarios {
-        (Verdict::Undecided, rough)
-    } else {
-        let exact = view.precise().expect("the rough bound has a window");
-        (if exact <= claim { Verdict::CertifiedExact } else { Verdict::TooSmall }, exact)
-    };
-    Judgement { verdict, bound, margin: claim as i64 - bound as i64 }
-}
-
-/// Numbers below 2^21 are divided by a period with its inverse times 2^41.
-const SHIFT: u32 = 41;
-
-/// A frame ahead.
-#[derive(Clone, Copy)]
-struct Frame {
-    offset: u64,
-    period: u64,
-    length: u64,
-    inverse: u64,
-}
-
-impl Frame {
-    fn new(row: &Row) -> Frame {
-        let period = u64::from(row[PERIOD]);
-        let inverse = (1 << SHIFT) / period + 1;
-        Frame { offset: row[OFFSET].into(), period, length: length(row), inverse }
-    }
-
-    fn divide(&self, ticks: u64) -> u64 {
-        ticks.wrapping_mul(self.inverse) >> SHIFT
-    }
-
-    /// How long after an instant it is queued.
-    fn distance(&self, instant: u64) -> u64 {
-        let into = instant - self.divide(instant) * self.period;
-        let distance = self.offset + self.period - into;
-        if distance < self.period { distance } else { distance - self.period }
-    }
-
-    /// How often it is queued in the first n ticks, first at a distance.
-    fn count(&self, distance: u64, n: u64) -> u64 {
-        self.divide(n.wrapping_add(self.period).wrapping_sub(distance).wrapping_sub(1))
-    }
-
-    fn work(&self, distance: u64, n: u64) -> u64 {
-        self.count(distance, n).wrapping_mul(self.length)
-    }
-}
-
-/// A frame seen from an alignment of its node.
-#[derive(Clone, Copy)]
-struct Placed {
-    frame: Frame,
-    distance: u64,
-}
-
-/// The work of placed frames in the first n ticks.
-fn work(placed: &[Placed], n: u64) -> u64 {
-    placed.iter().map(|each| each.frame.work(each.distance, n)).fold(0, u64::wrapping_add)
-}
-
-/// So many greatest works are kept for each node.
-const SLOTS: usize = 16;
-
-/// A node's frames ahead, and some of its greatest works behind their lengths.
-struct Node {
-    frames: Vec<Frame>,
-    hyperperiod: u64,
-    kept: RefCell<[(u64, u64); SLOTS]>,
-}
-
-impl Node {
-    /// The work in the first n ticks after an alignment, and the next alignment.
-    fn visit(&self, alignment: u64, n: u64) -> (u64, u64) {
-        let (mut work, mut next) = (0, self.hyperperiod);
-        for frame in &self.frames {
-            let distance = frame.distance(alignment);
-            work += frame.work(distance, n);
-            let gap = if distance == 0 { frame.period } else { distance };
-            next = next.min(alignment + gap);
+/// How many greatest works a listing looks for, and how many of them at a length that was looked
+/// at before for the same row and node.
+pub fn count_looks(rows: &[Row]) -> (usize, usize) {
+    let (mut all, mut lengths) = (0, 0);
+    for (row, words) in rows.iter().enumerate() {
+        let mut view = View::new(rows, row);
+        view.nodes.iter_mut().for_each(Node::watch);
+        view.judge(words[CLAIM].into());
+        for looks in view.nodes.into_iter().map(Node::looks) {
+            all += looks.len();
+            lengths += looks.into_iter().collect::<HashSet<_>>().len();
         }
-        (work, next)
     }
-
-    /// Its alignments, rising.
-    fn alignments(&self) -> impl Iterator<Item = u64> + '_ {
-        let first = self.frames.iter().map(|frame| frame.offset).min();
-        let next = |alignment: &u64| Some(self.visit(*alignment, 0).1);
-        std::iter::successors(first, next).take_while(|next| *next < self.hyperperiod)
-    }
-
-    /// The first alignment with the greatest work in the first n ticks, and that.
-    fn best(&self, n: u64) -> (u64, u64) {
-        let mut alignment = self.frames.iter().map(|frame| frame.offset).min().unwrap_or(0);
-        let mut best = (alignment, 0);
-        while alignment < self.hyperperiod {
-            let (work, next) = self.visit(alignment, n);
-            if work > best.1 {
-                best = (alignment, work);
-            }
-            alignment = next;
-        }
-        best
-    }
-
-    /// The greatest work in the first n ticks.
-    fn greatest(&self, n: u64) -> u64 {
-        let slot = &mut self.kept.borrow_mut()[n as usize % SLOTS];
-        if slot.0 != n {
-            *slot = (n, self.best(n).1);
-        }
-        slot.1
-    }
-
-    /// At most so much work in the first n ticks, whatever the alignment.
-    fn above(&self, n: u64) -> u64 {
-        self.frames.iter().map(|frame| frame.work(0, n)).sum()
-    }
-
-    fn place(&self, alignment: u64, placed: &mut Vec<Placed>) {
-        let each = |frame: &Frame| Placed { frame: *frame, distance: frame.distance(alignment) };
-        placed.extend(self.frames.iter().map(each));
-    }
+    (all, all - lengths)
 }
 
 /// The judged frame, then the other frames of nodes at one alignment; and nodes at any.
@@ -178,16 +63,11 @@ impl Search {
         }
     }
 
-    /// The load with the open nodes at their greatest work, or above x.
+    /// The load with the open nodes at their greatest work.
     fn full_load(self, scenario: Scenario, x: u64) -> u64 {
-        let mut load = self.load(scenario.fixed, x);
-        for node in scenario.open {
-            if load > x {
-                break;
-            }
-            load += node.greatest(self.ticks(x));
-        }
-        load
+        let ticks = self.ticks(x);
+        let greatest = scenario.open.iter().map(|node| node.greatest(ticks));
+        self.load(scenario.fixed, x) + greatest.sum::<u64>()
     }
 
     /// The load with the open nodes' frames all queued at once.
@@ -209,7 +89,8 @@ impl Search {
         None
     }
 
-    /// The least x from a number on: open nodes stand at the alignments best at the x reached.
+    /// The least x from a number on. Open nodes stand at their guesses, which gives no more than the
+    /// full load, so that no climb passes that x; the next climb starts from the full load.
     fn settle(self, scenario: Scenario, mut x: u64) -> Option<u64> {
         if scenario.open.is_empty() {
             return self.climb(scenario.fixed, x);
@@ -217,14 +98,12 @@ impl Search {
         let mut fixed = scenario.fixed.to_vec();
         loop {
             fixed.truncate(scenario.fixed.len());
-            for node in scenario.open {
-                node.place(node.best(self.ticks(x)).0, &mut fixed);
-            }
+            scenario.open.iter().for_each(|node| node.place(node.guess(), &mut fixed));
             let reached = self.climb(&fixed, x)?;
-            if reached == x {
-                return Some(x);
+            x = self.full_load(scenario, reached);
+            if x <= reached {
+                return Some(reached);
             }
-            x = reached;
         }
     }
 }
@@ -280,7 +159,7 @@ impl View {
             if !ahead.is_empty() {
                 let frames = ahead.into_iter().map(Frame::new).collect();
                 let hyperperiod = table::node_hyperperiod(rows, node);
-                view.add(Node { frames, hyperperiod, kept: RefCell::default() });
+                view.add(Node::new(frames, hyperperiod));
             }
         }
         view
@@ -292,9 +171,23 @@ impl View {
         if self.nodes.is_empty() || count > 1 {
             self.nodes.push(node);
         } else {
-            let alignment = node.alignments().next().expect("a node with frames has an alignment");
-            node.place(alignment, &mut self.lone);
+            node.place(node.guess(), &mut self.lone);
         }
+    }
+
+    fn judge(&self, claim: u64) -> Judgement {
+        let Some(rough) = self.approximate() else {
+            return Judgement { verdict: Verdict::NoWindow, bound: 0, margin: 0 };
+        };
+        let (verdict, bound) = if rough <= claim {
+            (Verdict::CertifiedRough, rough)
+        } else if self.scenarios > LIMITS.scenarios {
+            (Verdict::Undecided, rough)
+        } else {
+            let exact = self.precise().expect("the rough bound has a window");
+            (if exact <= claim { Verdict::CertifiedExact } else { Verdict::TooSmall }, exact)
+        };
+        Judgement { verdict, bound, margin: claim as i64 - bound as i64 }
     }
 
     fn window(&self) -> Search {

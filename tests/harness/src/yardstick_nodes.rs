@@ -1,0 +1,233 @@
+//! The yardstick's nodes: their frames, and the greatest work over their alignments.
+
+use analyser::bounds::length;
+use analyser::table::{Row, MOST_LINES, OFFSET, PERIOD};
+use std::array::from_fn;
+use std::cell::RefCell;
+
+/// Numbers below 2^21 are divided by a period with its inverse times 2^41.
+const SHIFT: u32 = 41;
+
+/// A frame ahead.
+#[derive(Clone, Copy)]
+pub struct Frame {
+    offset: u64,
+    pub period: u64,
+    pub length: u64,
+    inverse: u64,
+}
+
+impl Frame {
+    pub fn new(row: &Row) -> Frame {
+        let period = u64::from(row[PERIOD]);
+        let inverse = (1 << SHIFT) / period + 1;
+        Frame { offset: row[OFFSET].into(), period, length: length(row), inverse }
+    }
+
+    fn divide(&self, ticks: u64) -> u64 {
+        ticks.wrapping_mul(self.inverse) >> SHIFT
+    }
+
+    /// When it is queued first, from an instant on.
+    fn next(&self, instant: u64) -> u64 {
+        self.offset.wrapping_add(self.count(self.offset, instant).wrapping_mul(self.period))
+    }
+
+    /// How long after an instant it is queued.
+    fn distance(&self, instant: u64) -> u64 {
+        self.next(instant).wrapping_sub(instant)
+    }
+
+    /// How often it is queued in the first n ticks, first at a distance.
+    pub fn count(&self, distance: u64, n: u64) -> u64 {
+        self.divide(n.wrapping_add(self.period).wrapping_sub(distance).wrapping_sub(1))
+    }
+
+    fn work(&self, distance: u64, n: u64) -> u64 {
+        self.count(distance, n).wrapping_mul(self.length)
+    }
+}
+
+fn first_alignment(frames: &[Frame]) -> u64 {
+    frames.iter().map(|frame| frame.offset).min().expect("a node with frames")
+}
+
+/// A frame seen from an alignment of its node.
+#[derive(Clone, Copy)]
+pub struct Placed {
+    pub frame: Frame,
+    pub distance: u64,
+}
+
+/// The work of placed frames in the first n ticks.
+pub fn work(placed: &[Placed], n: u64) -> u64 {
+    placed.iter().map(|each| each.frame.work(each.distance, n)).fold(0, u64::wrapping_add)
+}
+
+/// The frames of a node at one alignment after the other, without divisions; room beyond them holds
+/// frames of no length that are never queued.
+struct Walk<const ROOM: usize> {
+    alignment: u64,
+    /// How long after the alignment a frame is queued, or queued again.
+    ahead: [i32; ROOM],
+    periods: [i32; ROOM],
+    lengths: [i32; ROOM],
+    /// What n ticks leave beyond whole periods.
+    rests: [i32; ROOM],
+    /// The work in these periods.
+    whole: u64,
+}
+
+impl<const ROOM: usize> Walk<ROOM> {
+    /// At the first alignment, for the work in the first n ticks.
+    fn new(frames: &[Frame], n: u64) -> Walk<ROOM> {
+        let (alignment, none) = (first_alignment(frames), [0; ROOM]);
+        let (ahead, periods, lengths, rests) = ([i32::MAX; ROOM], none, none, none);
+        let mut walk = Walk { alignment, ahead, periods, lengths, rests, whole: 0 };
+        for (at, frame) in frames.iter().enumerate() {
+            let count = frame.divide(n);
+            walk.ahead[at] = (frame.offset - alignment) as i32;
+            walk.periods[at] = frame.period as i32;
+            walk.lengths[at] = frame.length as i32;
+            walk.rests[at] = (n - count * frame.period) as i32;
+            walk.whole += count * frame.length;
+        }
+        walk
+    }
+
+    /// The first alignment with the greatest work, and that.
+    fn best(mut self, hyperperiod: u64) -> (u64, u64) {
+        let (mut best, mut gap) = ((self.alignment, 0), 0);
+        while self.alignment < hyperperiod {
+            let (work, next) = self.step(gap);
+            if work > best.1 {
+                best = (self.alignment, work);
+            }
+            gap = next;
+            self.alignment += gap as u64;
+        }
+        (best.0, self.whole + best.1 as u64)
+    }
+
+    /// Goes on by a gap: the work in the rests there, and the gap to the next alignment.
+    fn step(&mut self, gap: i32) -> (i32, i32) {
+        let distances: [i32; ROOM] = from_fn(|at| self.ahead[at].wrapping_sub(gap));
+        let queued = |at| if distances[at] < self.rests[at] { self.lengths[at] } else { 0 };
+        let works: [i32; ROOM] = from_fn(queued);
+        let again = |at| if distances[at] == 0 { self.periods[at] } else { distances[at] };
+        self.ahead = from_fn(again);
+        let next = self.ahead.into_iter().fold(i32::MAX, i32::min);
+        (works.into_iter().fold(0, i32::wrapping_add), next)
+    }
+}
+
+/// So many greatest works are kept for each node.
+const SLOTS: usize = 127;
+
+/// What is kept of a node's greatest works.
+struct Memory {
+    /// Some of them, each behind its length.
+    kept: [(u64, u64); SLOTS],
+    /// The alignment found best last, at first the first one.
+    guess: u64,
+    /// The lengths that were looked at, where they are counted.
+    looks: Option<Vec<u64>>,
+}
+
+impl Memory {
+    /// The two slots of a length.
+    fn slots(n: u64) -> [usize; 2] {
+        [n as usize % 64, 64 + n as usize % 63]
+    }
+
+    fn work(&self, n: u64) -> Option<u64> {
+        let mut kept = Memory::slots(n).into_iter().map(|slot| self.kept[slot]);
+        kept.find(|(length, _)| *length == n).map(|(_, work)| work)
+    }
+
+    /// Takes the first slot of a length; what stands there moves to its own second one.
+    fn keep(&mut self, n: u64, work: u64) {
+        let moved = std::mem::replace(&mut self.kept[Memory::slots(n)[0]], (n, work));
+        self.kept[Memory::slots(moved.0)[1]] = moved;
+    }
+}
+
+/// A node's frames ahead, and what is kept of its greatest works.
+pub struct Node {
+    frames: Vec<Frame>,
+    hyperperiod: u64,
+    memory: RefCell<Memory>,
+}
+
+impl Node {
+    pub fn new(frames: Vec<Frame>, hyperperiod: u64) -> Node {
+        let guess = first_alignment(&frames);
+        let memory = Memory { kept: [(0, 0); SLOTS], guess, looks: None };
+        Node { frames, hyperperiod, memory: RefCell::new(memory) }
+    }
+
+    /// The alignment after another, or the hyperperiod.
+    fn next(&self, alignment: u64) -> u64 {
+        let after = alignment + 1;
+        self.frames.iter().map(|frame| frame.next(after)).fold(self.hyperperiod, u64::min)
+    }
+
+    /// Its alignments, rising.
+    pub fn alignments(&self) -> impl Iterator<Item = u64> + '_ {
+        let first = Some(first_alignment(&self.frames));
+        let next = |alignment: &u64| Some(self.next(*alignment));
+        std::iter::successors(first, next).take_while(|next| *next < self.hyperperiod)
+    }
+
+    /// The first alignment with the greatest work in the first n ticks, and that.
+    fn best(&self, n: u64) -> (u64, u64) {
+        let (frames, end) = (&self.frames[..], self.hyperperiod);
+        match frames.len() {
+            1 => Walk::<1>::new(frames, n).best(end),
+            2 => Walk::<2>::new(frames, n).best(end),
+            3 => Walk::<3>::new(frames, n).best(end),
+            4 => Walk::<4>::new(frames, n).best(end),
+            5..=8 => Walk::<8>::new(frames, n).best(end),
+            9..=16 => Walk::<16>::new(frames, n).best(end),
+            17..=32 => Walk::<32>::new(frames, n).best(end),
+            _ => Walk::<MOST_LINES>::new(frames, n).best(end),
+        }
+    }
+
+    /// The greatest work in the first n ticks.
+    pub fn greatest(&self, n: u64) -> u64 {
+        let memory = &mut *self.memory.borrow_mut();
+        memory.work(n).unwrap_or_else(|| {
+            let (alignment, work) = self.best(n);
+            memory.keep(n, work);
+            memory.guess = alignment;
+            memory.looks.iter_mut().for_each(|looks| looks.push(n));
+            work
+        })
+    }
+
+    /// An alignment that may be the best.
+    pub fn guess(&self) -> u64 {
+        self.memory.borrow().guess
+    }
+
+    /// Keeps the lengths that are looked at from now on.
+    pub fn watch(&mut self) {
+        self.memory.get_mut().looks = Some(Vec::new());
+    }
+
+    /// These lengths.
+    pub fn looks(self) -> Vec<u64> {
+        self.memory.into_inner().looks.unwrap_or_default()
+    }
+
+    /// At most so much work in the first n ticks, whatever the alignment.
+    pub fn above(&self, n: u64) -> u64 {
+        self.frames.iter().map(|frame| frame.work(0, n)).sum()
+    }
+
+    pub fn place(&self, alignment: u64, placed: &mut Vec<Placed>) {
+        let each = |frame: &Frame| Placed { frame: *frame, distance: frame.distance(alignment) };
+        placed.extend(self.frames.iter().map(each));
+    }
+}
