@@ -2,6 +2,7 @@
 use arith::Found;
 use bus_model::Choice;
 use bus_model::Frame;
+use response_time::or_zero;
 use workload::GROUP;
 use workload::NODES;
 use workload::most_work;
@@ -64,8 +65,45 @@ pub fn next_of(
     next_alignment(frames, &members[from..to], after, ends[at])
 }
 
-// The level whose node has frames ahead with the greatest lengths together: left open, it may be bounded worst. Nothing depends
-// on which it is.
+// Whether node j has an alignment after a. Where its first has none after it, nothing is left to choose at its level: that saves
+// looks, and nothing depends on it.
+pub fn has_later(
+    frames: &[u32],
+    members: &[u8],
+    counts: &[usize],
+    ends: &[u32],
+    k: Frame,
+    j: usize,
+    a: u32,
+) -> bool
+    requires { ⌜ FineTable (stored (now frames)) ⌝ }
+    requires { ⌜ Grouped (stored (now frames)) k (now members) (now counts) (now ends) ⌝ }
+    requires { ⌜ (1 ≤ j) × (j ≤ 16) × (a < hyperperiod (ofNode (stored (now frames)) j)) ⌝ }
+{
+    let found = next_of(frames, members, counts, ends, k, j, a + 1);
+    match found {
+        Found::At(_) => true,
+        Found::Nothing => false,
+    }
+}
+
+// The lengths of node j's frames ahead together, and 0 where it has one alignment. Nothing depends on it.
+fn weight(frames: &[u32], members: &[u8], counts: &[usize], ends: &[u32], k: Frame, j: usize) -> u64
+    requires { ⌜ FineTable (stored (now frames)) ⌝ }
+    requires { ⌜ Grouped (stored (now frames)) k (now members) (now counts) (now ends) ⌝ }
+    requires { ⌜ (1 ≤ j) × (j ≤ 16) ⌝ }
+{
+    let first = or_zero(next_of(frames, members, counts, ends, k, j, 0));
+    if !has_later(frames, members, counts, ends, k, j, first) {
+        return 0;
+    }
+    let at = j - 1;
+    let from = GROUP * at;
+    let to = from + counts[at];
+    most_work(frames, &members[from..to], 1)
+}
+
+// The level whose node has the greatest weight: left open, it may be bounded worst. Nothing depends on which it is.
 pub fn heaviest(frames: &[u32], members: &[u8], counts: &[usize], ends: &[u32], k: Frame) -> usize
     requires { ⌜ FineTable (stored (now frames)) ⌝ }
     requires { ⌜ Grouped (stored (now frames)) k (now members) (now counts) (now ends) ⌝ }
@@ -75,13 +113,10 @@ pub fn heaviest(frames: &[u32], members: &[u8], counts: &[usize], ends: &[u32], 
     let mut most: u64 = 0;
     let mut i = 1;
     while i < NODES {
-        let at = node_at(k, i) - 1;
-        let from = GROUP * at;
-        let to = from + counts[at];
-        let lengths = most_work(frames, &members[from..to], 1);
-        if most < lengths {
+        let weighed = weight(frames, members, counts, ends, k, node_at(k, i));
+        if most < weighed {
             best = i;
-            most = lengths;
+            most = weighed;
         }
         i += 1;
     }

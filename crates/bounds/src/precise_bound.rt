@@ -1,4 +1,5 @@
 // The precise bound: the greatest response over scenarios, and which of them need not be searched.
+use crate::levels::has_later;
 use crate::levels::heaviest;
 use crate::levels::next_of;
 use crate::levels::node_at;
@@ -155,7 +156,8 @@ fn is_ruled_out(
 }
 
 // The greatest of `best` and the responses where the nodes of the levels from `level` on take each of their
-// alignments. What is ruled out by the greatest so far is not refined further; where that has risen, it is asked again.
+// alignments. What is ruled out by the greatest so far is not refined further; where that has risen, it is asked again. It is not
+// asked at a level with one alignment: the next one would be asked the same.
 fn improve(
     frames: &[u32],
     members: &[u8],
@@ -201,8 +203,8 @@ fn improve(
     }
     let j = node_at(k, level);
     let mut most = best;
-    let mut risen = true;
     let mut a = or_zero(next_of(frames, members, counts, ends, k, j, 0));
+    let mut asked = has_later(frames, members, counts, ends, k, j, a);
     loop {
         if is_ruled_out(
             frames,
@@ -217,7 +219,7 @@ fn improve(
             level,
             most,
             heavy,
-            risen,
+            asked,
             hints,
             sums,
         ) {
@@ -240,7 +242,7 @@ fn improve(
             hints,
             sums,
         );
-        risen = most < more;
+        asked = most < more;
         most = more;
         let found = next_of(frames, members, counts, ends, k, j, a + 1);
         let Found::At(b) = found else {

@@ -19,6 +19,7 @@ use Rattle.bounds.proofs.precise_bound.improve.Reads as improve
 use Rattle.bounds.proofs.precise_bound.improve.Kinds as improve-kinds
 use Rattle.bounds.proofs.precise_bound.+improve.Lts-improve as improve-lts
 use Rattle.bounds.proofs.precise_bound.is_ruled_out.Reads as is-ruled-out-reads
+use Rattle.bounds.proofs.levels.has_later.Reads as has-later-reads
 use Rattle.bounds.proofs.levels.next_of.Reads as next-of-reads
 use Rattle.bounds.proofs.levels.node_at.Reads as node-at-reads
 use Rattle.bounds.proofs.levels.with_choice.Reads as with-choice-reads
@@ -46,6 +47,8 @@ claims t = (
   node-at-reads.Learnt,
   next-of-reads.Asked,
   next-of-reads.Learnt,
+  has-later-reads.Asked,
+  has-later-reads.Learnt,
   is-ruled-out-reads.Asked,
   is-ruled-out-reads.Learnt,
   with-choice-reads.Asked,
@@ -55,11 +58,11 @@ claims t = (
 )
 
 abbrev improve-Inv-loop : improve-lts.InvT-loop
-improve-Inv-loop frames members counts ends k choices own blocked limit level best heavy hints₀ sums₀ j most₀ risen₀ a₀ hints sums most risen a =
+improve-Inv-loop frames members counts ends k choices own blocked limit level best heavy hints₀ sums₀ j most₀ a₀ asked₀ hints sums most a asked =
     Best (stored frames) k j (nextLevel (stored frames) k choices level j) best most a × (length hints ≡ length hints₀) × (best ≤ most) × Kept (stored frames) k sums
 
 abbrev improve-μ-loop : improve-lts.MeasureT-loop
-improve-μ-loop frames members counts ends k choices own blocked limit level best heavy hints₀ sums₀ j most₀ risen₀ a₀ hints sums most risen a =
+improve-μ-loop frames members counts ends k choices own blocked limit level best heavy hints₀ sums₀ j most₀ a₀ asked₀ hints sums most a asked =
     hyperperiod (ofNode (stored frames) j) - a
 
 -- where the search stands when the function starts
@@ -111,13 +114,23 @@ improve-next-of-requires t c κs =
 improve-or-zero-requires-2 : (t : ℕ) → improve-lts.Need-or-zero-requires-2 (claims t) (improve-at t) improve.Post improve-Inv-loop improve-μ-loop
 improve-or-zero-requires-2 t c κs = search needs
 
+-- the walk stands at its first alignment
+first : (t : ℕ) (c : improve-lts.After-or-zero2 (claims t) (improve-at t) improve.Post improve-Inv-loop improve-μ-loop) → let s = c .before .before .before .before .before .before .before .before .before .before in let j = c .before .before .node-at .result in
+    Best (stored (s .args .frames .now)) (s .args .k) j (nextLevel (stored (s .args .frames .now)) (s .args .k) (s .args .choices) (s .args .level) j) (s .args .best) (s .args .best) (c .or-zero2 .result)
+first t c = best-first _ _ _ _ (c .before .before .before .before .before .before .before .before .before .before .pre .1 .0 .valid) (c .before .next-of .result) (c .before .next-of .ensures) (c .or-zero2 .ensures)
+
+improve-has-later-requires : (t : ℕ) → improve-lts.Need-has-later-requires (claims t) (improve-at t) improve.Post improve-Inv-loop improve-μ-loop
+improve-has-later-requires t c κs =
+    let p = c .before .before .before .before .before .before .before .before .before .before .pre .1 in
+    let n = node t (c .before .before) in
+    (p .0, (p .1 .0, (n .0, n .1, first t (c) .walk .inside)))
+
 improve-loop-holds : (t : ℕ) → improve-lts.Need-loop-holds (claims t) (improve-at t) improve.Post improve-Inv-loop improve-μ-loop
-improve-loop-holds t c =
-    (best-first _ _ _ _ (c .before .before .before .before .before .before .before .before .before .before .pre .1 .0 .valid) (c .before .next-of .result) (c .before .next-of .ensures) (c .or-zero2 .ensures), refl, omega arith, c .before .before .before .before .before .before .before .before .before .before .pre .1 .1 .1 .1 .1 .1 .1)
+improve-loop-holds t c = (first t (c .before), refl, omega arith, c .before .before .before .before .before .before .before .before .before .before .before .pre .1 .1 .1 .1 .1 .1 .1)
 
 improve-is-ruled-out-requires : (t : ℕ) → improve-lts.Need-is-ruled-out-requires (claims t) (improve-at t) improve.Post improve-Inv-loop improve-μ-loop
 improve-is-ruled-out-requires t c κs =
-    let p = c .before .before .before .before .before .before .before .before .before .before .before .before .before .pre .1 in
+    let p = c .before .before .before .before .before .before .before .before .before .before .before .before .before .before .pre .1 in
     (p .0, (p .1 .0, (p .1 .1 .0, (p .1 .1 .1 .0, (p .1 .1 .1 .1 .0, (p .1 .1 .1 .1 .1 .0, c .before .before .loop .inv .3))))))
 
 improve-same-length-3 : (t : ℕ) → improve-lts.Need-same-length-3 (claims t) (improve-at t) improve.Post improve-Inv-loop improve-μ-loop
@@ -125,38 +138,38 @@ improve-same-length-3 t c = c .before .before .before .before .before .before .l
 
 improve-same-length-4 : (t : ℕ) → improve-lts.Need-same-length-4 (claims t) (improve-at t) improve.Post improve-Inv-loop improve-μ-loop
 improve-same-length-4 t c =
-    c .before .before .before .is-ruled-out .ensures .1 .size ∙ sym (c .before .before .before .before .before .before .before .before .before .before .before .before .before .before .before .before .before .pre .1 .1 .1 .1 .1 .1 .1 .size)
+    c .before .before .before .is-ruled-out .ensures .1 .size ∙ sym (c .before .before .before .before .before .before .before .before .before .before .before .before .before .before .before .before .before .before .pre .1 .1 .1 .1 .1 .1 .1 .size)
 
 improve-returns-2 : (t : ℕ) → improve-lts.Need-returns-2 (claims t) (improve-at t) improve.Post improve-Inv-loop improve-μ-loop
 improve-returns-2 t c =
-    let a = c .before .before .before .before .before .before .before .before .before .before .before .before .before .before .before .before .before .args in
+    let a = c .before .before .before .before .before .before .before .before .before .before .before .before .before .before .before .before .before .before .args in
     let l = c .before .before .before .before .before .before .loop in
-    let whole = next-levels (stored (a .frames .now)) (a .k) (a .choices) (c .before .before .before .before .before .before .before .before .before .node-at .ensures) (left t (c .before .before .before .before .before .before .before .before .before .before)) in
+    let whole = next-levels (stored (a .frames .now)) (a .k) (a .choices) (c .before .before .before .before .before .before .before .before .before .before .node-at .ensures) (left t (c .before .before .before .before .before .before .before .before .before .before .before)) in
     (best-over _ _ _ _ (l .inv .0) (l .inv .2) whole (c .before .before .before .is-ruled-out .ensures .0 (rw (c .if2 .taken) tt)), c .before .before .before .is-ruled-out .ensures .1)
 
 improve-with-choice-requires : (t : ℕ) → improve-lts.Need-with-choice-requires (claims t) (improve-at t) improve.Post improve-Inv-loop improve-μ-loop
-improve-with-choice-requires t c κs = node t (c .before .before .before .before .before .before .before .before .before)
+improve-with-choice-requires t c κs = node t (c .before .before .before .before .before .before .before .before .before .before)
 
 improve-add-improve : (t : ℕ) → improve-lts.Need-add-improve (claims t) (improve-at t) improve.Post improve-Inv-loop improve-μ-loop
-improve-add-improve t c = omega (arith, left t (c .before .before .before .before .before .before .before .before .before .before .before))
+improve-add-improve t c = omega (arith, left t (c .before .before .before .before .before .before .before .before .before .before .before .before))
 
 improve-improve-requires : (t : ℕ) → improve-lts.Need-improve-requires (claims t) (improve-at t) improve.Post improve-Inv-loop improve-μ-loop
 improve-improve-requires t c κs =
-    let s = c .before .before .before .before .before .before .before .before .before .before .before .before .before .before .before .before .before .before .before .before in
+    let s = c .before .before .before .before .before .before .before .before .before .before .before .before .before .before .before .before .before .before .before .before .before in
     let p = s .pre .1 in
-    let less = left t (c .before .before .before .before .before .before .before .before .before .before .before .before .before) in
-    let r = reached-next (p .0) (p .1 .1 .0) (reached t s) less (c .before .before .before .before .before .before .before .before .before .before .before .before .node-at .ensures) (c .before .before .before .before .before .before .before .before .before .loop .inv .0 .listed) (c .before .before .with-choice .ensures) in
+    let less = left t (c .before .before .before .before .before .before .before .before .before .before .before .before .before .before) in
+    let r = reached-next (p .0) (p .1 .1 .0) (reached t s) less (c .before .before .before .before .before .before .before .before .before .before .before .before .before .node-at .ensures) (c .before .before .before .before .before .before .before .before .before .loop .inv .0 .listed) (c .before .before .with-choice .ensures) in
     (omega (arith, s .pre .0), (p .0, (p .1 .0, (p .1 .1 .0, ((r .0, p .1 .1 .1 .0 .1), ((omega arith, omega arith, r .1), ((p .1 .1 .1 .1 .1 .0 .0, r .2), c .before .before .before .before .before .before .is-ruled-out .ensures .1)))))))
 
 improve-add-next-of : (t : ℕ) → improve-lts.Need-add-next-of (claims t) (improve-at t) improve.Post improve-Inv-loop improve-μ-loop
 improve-add-next-of t c =
-    let n = node t (c .before .before .before .before .before .before .before .before .before .before .before .before .before .before .before .before .before) in
-    omega (arith, c .before .before .before .before .before .before .before .before .before .before .before .before .before .before .loop .inv .0 .walk .inside, c .before .before .before .before .before .before .before .before .before .before .before .before .before .before .before .before .before .before .before .before .before .before .before .before .before .pre .1 .0 .hyper _ (n .0) (n .1))
+    let n = node t (c .before .before .before .before .before .before .before .before .before .before .before .before .before .before .before .before .before .before) in
+    omega (arith, c .before .before .before .before .before .before .before .before .before .before .before .before .before .before .loop .inv .0 .walk .inside, c .before .before .before .before .before .before .before .before .before .before .before .before .before .before .before .before .before .before .before .before .before .before .before .before .before .before .pre .1 .0 .hyper _ (n .0) (n .1))
 
 improve-next-of-requires-2 : (t : ℕ) → improve-lts.Need-next-of-requires-2 (claims t) (improve-at t) improve.Post improve-Inv-loop improve-μ-loop
 improve-next-of-requires-2 t c κs =
-    let p = c .before .before .before .before .before .before .before .before .before .before .before .before .before .before .before .before .before .before .before .before .before .before .before .before .before .pre .1 in
-    let n = node t (c .before .before .before .before .before .before .before .before .before .before .before .before .before .before .before .before .before) in
+    let p = c .before .before .before .before .before .before .before .before .before .before .before .before .before .before .before .before .before .before .before .before .before .before .before .before .before .before .pre .1 in
+    let n = node t (c .before .before .before .before .before .before .before .before .before .before .before .before .before .before .before .before .before .before) in
     (p .0, (p .1 .0, (n .0, n .1, omega (arith, c .before .before .before .before .before .before .before .before .before .before .before .before .before .before .loop .inv .0 .walk .inside))))
 
 improve-enum-known-found : (t : ℕ) → improve-lts.Need-enum-known-found (claims t) (improve-at t) improve.Post improve-Inv-loop improve-μ-loop
@@ -171,13 +184,13 @@ improve-same-length-5 t c =
 
 improve-same-length-6 : (t : ℕ) → improve-lts.Need-same-length-6 (claims t) (improve-at t) improve.Post improve-Inv-loop improve-μ-loop
 improve-same-length-6 t c =
-    c .before .before .before .before .before .before .before .improve .ensures .1 .size ∙ sym (c .before .before .before .before .before .before .before .before .before .before .before .before .before .before .before .before .before .before .before .before .before .before .before .before .before .before .before .before .pre .1 .1 .1 .1 .1 .1 .1 .size)
+    c .before .before .before .before .before .before .before .improve .ensures .1 .size ∙ sym (c .before .before .before .before .before .before .before .before .before .before .before .before .before .before .before .before .before .before .before .before .before .before .before .before .before .before .before .before .before .pre .1 .1 .1 .1 .1 .1 .1 .size)
 
 improve-returns-3 : (t : ℕ) → improve-lts.Need-returns-3 (claims t) (improve-at t) improve.Post improve-Inv-loop improve-μ-loop
 improve-returns-3 t c =
-    let a = c .before .before .before .before .before .before .before .before .before .before .before .before .before .before .before .before .before .before .before .before .before .before .before .before .before .before .before .before .args in (
+    let a = c .before .before .before .before .before .before .before .before .before .before .before .before .before .before .before .before .before .before .before .before .before .before .before .before .before .before .before .before .before .args in (
       best-end _ _ _ _ (c .before .before .before .before .before .before .before .before .before .before .before .before .before .before .before .before .before .loop .inv .0) (rw (c .before .before .before .before .before .before .before .before .before .before .with-choice .ensures) at (c .before .before .before .before .before .before .before .improve .ensures .0)) (sym (c .before .before .next-of2 .ensures) ∙ c .enum-told .given .1)
-          ∙ ap (max (a .best)) (next-levels (stored (a .frames .now)) (a .k) (a .choices) (c .before .before .before .before .before .before .before .before .before .before .before .before .before .before .before .before .before .before .before .before .node-at .ensures) (left t (c .before .before .before .before .before .before .before .before .before .before .before .before .before .before .before .before .before .before .before .before .before))),
+          ∙ ap (max (a .best)) (next-levels (stored (a .frames .now)) (a .k) (a .choices) (c .before .before .before .before .before .before .before .before .before .before .before .before .before .before .before .before .before .before .before .before .before .node-at .ensures) (left t (c .before .before .before .before .before .before .before .before .before .before .before .before .before .before .before .before .before .before .before .before .before .before))),
       c .before .before .before .before .before .before .before .improve .ensures .1,
     )
 
@@ -208,6 +221,7 @@ pub +improve-spec : {M : Type 1} → statement M
     (improve-node-at-requires t)
     (improve-next-of-requires t)
     (improve-or-zero-requires-2 t)
+    (improve-has-later-requires t)
     (improve-loop-holds t)
     (improve-is-ruled-out-requires t)
     (improve-same-length-3 t)
