@@ -12,7 +12,7 @@ ghost use Rattle.bus_model.specs.Bounds.{blocking};
 ghost use Rattle.bus_model.specs.theory.Approximate.{approximateFound};
 ghost use Rattle.workload.specs.Stored.{stored};
 ghost use Rattle.workload.specs.Grouped.{Grouped, InTable, FineTable};
-ghost use Rattle.workload.specs.Kept.{Kept};
+ghost use Rattle.greatest_work.specs.Kept.{Kept};
 
 // The approximate bound, or nothing where some alignment of k's node has no busy window.
 pub fn approximate(

@@ -1,8 +1,8 @@
 // How many scenarios there are.
+use alignment_walk::count_alignments;
 use bus_model::Frame;
 use workload::GROUP;
 use workload::NODES;
-use workload::count_alignments;
 ghost use mathlib.Core.Path.{_≡_};
 ghost use Prim.Native.Nat.{_*_, _≤_, min};
 ghost use Rattle.bus_model.specs.Bounds.{scenarioCount};

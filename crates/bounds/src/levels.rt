@@ -1,4 +1,5 @@
 // The levels of a search: which node takes its alignments at each, and these one after the other.
+use alignment_walk::next_alignment;
 use arith::Found;
 use bus_model::Choice;
 use bus_model::Frame;
@@ -6,7 +7,6 @@ use response_time::or_zero;
 use workload::GROUP;
 use workload::NODES;
 use workload::most_work;
-use workload::next_alignment;
 ghost use mathlib.Core.Path.{_≡_};
 ghost use Prim.Native.Nat.{_-_, _≤_, _<_};
 ghost use lib.ListN.{set};

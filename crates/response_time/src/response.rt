@@ -19,7 +19,7 @@ ghost use Rattle.bus_model.specs.Bounds.{choiceOf, blocking, busyWindow, respon
 ghost use Rattle.bus_model.specs.theory.Approximate.{both, scenarioFound};
 ghost use Rattle.workload.specs.Stored.{stored};
 ghost use Rattle.workload.specs.Grouped.{Grouped, InTable, FineTable};
-ghost use Rattle.workload.specs.Kept.{Kept};
+ghost use Rattle.greatest_work.specs.Kept.{Kept};
 ghost use Rattle.response_time.specs.Load.{holds, latestStart, WindowWithin};
 
 pub fn bigger(a: u32, b: u32) -> u32

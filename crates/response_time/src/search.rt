@@ -2,10 +2,10 @@
 use arith::Found;
 use bus_model::Choice;
 use bus_model::Frame;
+use greatest_work::guessed;
+use greatest_work::whole_work;
 use workload::frame_demand;
-use workload::guessed;
 use workload::whole_above;
-use workload::whole_work;
 ghost use mathlib.Core.Path.{_≡_};
 ghost use mathlib.Core.Bool.{true};
 ghost use Prim.Native.Nat.{_-_, _≤_};
@@ -15,7 +15,7 @@ ghost use Rattle.bus_model.specs.declared.Choice.the-variants.{Fixed};
 ghost use Rattle.bus_model.specs.Bounds.{choiceOf};
 ghost use Rattle.workload.specs.Stored.{stored};
 ghost use Rattle.workload.specs.Grouped.{FineTable, Grouped, InTable};
-ghost use Rattle.workload.specs.Kept.{Kept};
+ghost use Rattle.greatest_work.specs.Kept.{Kept};
 ghost use Rattle.response_time.specs.Load.{loadOf, holds};
 
 // The longest busy window that is looked for.

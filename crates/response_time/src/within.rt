@@ -18,7 +18,7 @@ ghost use Rattle.bus_model.specs.declared.Choice.the-variants.{Fixed};
 ghost use Rattle.bus_model.specs.Bounds.{choiceOf, blocking, busyWindow, scenarioResponse};
 ghost use Rattle.workload.specs.Stored.{stored};
 ghost use Rattle.workload.specs.Grouped.{FineTable, Grouped, InTable};
-ghost use Rattle.workload.specs.Kept.{Kept};
+ghost use Rattle.greatest_work.specs.Kept.{Kept};
 ghost use Rattle.response_time.specs.Load.{latestStart, WindowWithin, Serves};
 
 // So many steps does a climb take that is only to save visits.

@@ -20,7 +20,7 @@ ghost use Rattle.bus_model.specs.Judgement.{verdict, judge};
 ghost use Rattle.frame_table.specs.Frames.{framesOf};
 ghost use Rattle.frame_table.specs.Table.{Accepted};
 ghost use Rattle.workload.specs.Stored.{stored};
-ghost use Rattle.workload.specs.Kept.{Kept};
+ghost use Rattle.greatest_work.specs.Kept.{Kept};
 ghost use Rattle.workload.specs.Grouped.{FineTable, Grouped, InTable};
 ghost use Rattle.row_judgement.specs.Judge.{claimOf, judgeRow, certified};
 
@@ -77,7 +77,7 @@ fn judge_among(frames: &[u32], k: Frame, claim: u32) -> Judgement
     let mut counts = [0usize; workload::NODES];
     let mut ends = [0u32; workload::NODES];
     let mut hints = [0u32; response_time::HINTS];
-    let mut sums = [0u64; workload::SUMS];
+    let mut sums = [0u64; greatest_work::SUMS];
     workload::group(frames, k, &mut members, &mut counts, &mut ends);
     judge_frame(
         frames,

@@ -1,6 +1,4 @@
 -- What the code of this crate works with. The work itself is defined in bus_model.
 pub mod Stored
 pub mod Grouped
-pub mod Steps
-pub mod Kept
 pub mod laws

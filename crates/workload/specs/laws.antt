@@ -1,9 +1,5 @@
 -- What is proved of these definitions, for the proofs of the code.
 pub mod Stored
 pub mod Fine
-pub mod Parts
-pub mod Steps
 pub mod Groups
 pub mod Above
-pub mod Kept
-pub mod Guesses

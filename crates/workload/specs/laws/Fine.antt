@@ -1,12 +1,12 @@
 -- The frames of a table are within the limits that keep the sums small.
-use Prim.Native.Nat.{ℕ, _≤_}
-use mathlib.Core.Path.{sym, subst}
-use mathlib.Core.List.{List, List·Memᴰ as Mem}
+use Prim.Native.Nat.{ℕ, _≤_, _<_}
+use mathlib.Core.Path.{_≡_, sym, subst}
+use mathlib.Core.List.{List, Memᴰ·map, List·Memᴰ as Mem}
 use native.Mathlib.Omega.{arith}
-use lib.ListN.{length-take}
-use Rattle.arith.specs.laws.Members.{place-of, of-keep}
+use lib.ListN.{length, getD, length-take}
+use Rattle.arith.specs.laws.Members.{place-of, of-keep, mem-getD}
 use Rattle.bus_model.specs.declared.Frame.{Frame}
-use Rattle.bus_model.specs.Frame.{noFrame}
+use Rattle.bus_model.specs.Frame.{noFrame, row}
 use Rattle.bus_model.specs.Pattern.{ofNode}
 use Rattle.bus_model.specs.Bounds.{ahead}
 use Rattle.workload.specs.Grouped.{Fine, FineTable, FinePart, partOf, Grouped, InTable}
@@ -27,3 +27,7 @@ module _ (fs : List Frame) (table : FineTable fs) where
         few = simp length-take (omega (arith, g .few j low high));
         fine = λ x m. member-fine (of-keep _ fs (of-keep _ (ahead fs k) (rw (g .part j low high) at m) .0) .0);
       }
+
+-- What stands at a place of the rows is within the limits.
+pub part-fine : {fs : List Frame} {part : List ℕ} → FinePart fs part → {i : ℕ} → i < length part → {g : Frame} → g ≡ row fs (getD part i 0) → Fine g
+part-fine {fs} {part} all {i} inside is = all .fine _ (rw is (Memᴰ·map (row fs) (mem-getD part i 0 inside)))

@@ -14,7 +14,7 @@ use Rattle.bus_model.specs.theory.Refine.{free, set-same}
 use Rattle.bus_model.specs.theory.Visits.{isAlignment, visit-first}
 use Rattle.bus_model.specs.theory.Approximate.{both, greatestFound, approximateFound, found-more, both-missing, both-zero}
 use Rattle.workload.specs.Stored.{stored}
-use Rattle.workload.specs.Kept.{Kept}
+use Rattle.greatest_work.specs.Kept.{Kept}
 use Rattle.response_time.specs.laws.Searches.{window-small}
 use Rattle.bus_model.specs.theory.Visits.{first-listed, found-listed}
 use Rattle.bounds.specs.laws.Levels.{own-node, ownFound, found-end, free-within}

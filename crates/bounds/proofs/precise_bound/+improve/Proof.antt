@@ -13,7 +13,7 @@ use Rattle.bus_model.specs.Bounds.{nodes}
 use Rattle.bus_model.specs.Pattern.{ofNode, hyperperiod}
 use Rattle.bus_model.specs.theory.Refine.{refined-end}
 use Rattle.workload.specs.Stored.{stored}
-use Rattle.workload.specs.Kept.{Kept}
+use Rattle.greatest_work.specs.Kept.{Kept}
 use Rattle.bounds.specs.laws.Levels.{Reached, Best, best-first, best-more, best-end, best-over, nextLevel, next-levels, at-within, raised-counts, reached-node, reached-next}
 use Rattle.bounds.proofs.precise_bound.improve.Reads as improve
 use Rattle.bounds.proofs.precise_bound.improve.Kinds as improve-kinds

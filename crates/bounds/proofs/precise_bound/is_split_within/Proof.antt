@@ -7,7 +7,7 @@ use borrow.Author.Tests.{not-false}
 use Rattle.arith.specs.laws.Walks.{walk-less}
 use Rattle.bus_model.specs.Pattern.{ofNode, hyperperiod}
 use Rattle.workload.specs.Stored.{stored}
-use Rattle.workload.specs.Kept.{Kept}
+use Rattle.greatest_work.specs.Kept.{Kept}
 use Rattle.bounds.specs.laws.Levels.{Best, best-first, best-more, best-stays, splitResponse, reached-node, split-next}
 use Rattle.bounds.proofs.precise_bound.is_split_within.Statement.{statement}
 use Rattle.bounds.proofs.precise_bound.is_split_within.Tie as tie

@@ -9,7 +9,7 @@ use Rattle.arith.specs.laws.Walks.{walk-less}
 use Rattle.bus_model.specs.Pattern.{ofNode, hyperperiod}
 use Rattle.bus_model.specs.theory.Refine.{free}
 use Rattle.workload.specs.Stored.{stored}
-use Rattle.workload.specs.Kept.{Kept}
+use Rattle.greatest_work.specs.Kept.{Kept}
 use Rattle.response_time.specs.laws.Searches.{window-zero}
 use Rattle.bounds.specs.laws.Levels.{Best, best-first, best-more, best-end, nextLevel, own-node, reached-first, precise-levels}
 use Rattle.bounds.proofs.precise_bound.precise.Statement.{statement}

@@ -6,7 +6,7 @@ use native.Mathlib.Omega.{arith}
 use borrow.Author.Needs.{needs}
 use lib.ListN.{length}
 use Rattle.workload.specs.Stored.{stored}
-use Rattle.workload.specs.Kept.{Kept}
+use Rattle.greatest_work.specs.Kept.{Kept}
 use Rattle.workload.specs.laws.Fine.{in-table-fine}
 use Rattle.response_time.specs.laws.Searches.{window-small, Windowed, Turn, turn-start, turn-fits, turn-ends, turn-more, turn-end}
 use Rattle.response_time.proofs.response.greatest_response.Statement.{statement}

@@ -6,7 +6,7 @@ use borrow.Author.Needs.{needs}
 use Rattle.arith.specs.laws.Least.{least-within, least-end}
 use Rattle.arith.specs.Least.{least}
 use Rattle.workload.specs.Stored.{stored}
-use Rattle.workload.specs.Kept.{Kept}
+use Rattle.greatest_work.specs.Kept.{Kept}
 use Rattle.response_time.specs.laws.Searches.{climb-here, climb-skip, climb-beyond, settle-skip, settle-beyond, own-finer}
 use Rattle.response_time.specs.Load.{holds}
 use Rattle.response_time.proofs.search.settle.Statement.{statement}

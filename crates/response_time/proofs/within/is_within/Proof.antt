@@ -7,7 +7,7 @@ use borrow.Author.Needs.{needs}
 use Rattle.arith.specs.laws.Releases.{count-le, count-mono}
 use Rattle.bus_model.specs.Bounds.{instanceResponse}
 use Rattle.workload.specs.Stored.{stored}
-use Rattle.workload.specs.Kept.{Kept}
+use Rattle.greatest_work.specs.Kept.{Kept}
 use Rattle.workload.specs.laws.Fine.{in-table-fine}
 use Rattle.response_time.specs.laws.Within.{latest-start-fits, instance-fits, next-within, all-within}
 use Rattle.response_time.proofs.within.is_within.Statement.{statement}

@@ -5,7 +5,7 @@ use native.Mathlib.Omega.{arith}
 use borrow.Author.Needs.{needs}
 use lib.ListN.{length}
 use Rattle.workload.specs.Stored.{stored}
-use Rattle.workload.specs.Kept.{Kept}
+use Rattle.greatest_work.specs.Kept.{Kept}
 use Rattle.response_time.proofs.within.served_like.Statement.{statement}
 use Rattle.response_time.proofs.within.served_like.Tie as tie
 

@@ -1,7 +1,7 @@
 -- The frames ahead are grouped, and nothing is kept yet.
 use borrow.Author.Needs.{needs}
 use mathlib.Core.Path.{refl}
-use Rattle.workload.specs.laws.Kept.{kept-zeros}
+use Rattle.greatest_work.specs.laws.Kept.{kept-zeros}
 use Rattle.row_judgement.proofs.judgement.judge_among.Statement.{statement}
 use Rattle.row_judgement.proofs.judgement.judge_among.Tie as tie
 

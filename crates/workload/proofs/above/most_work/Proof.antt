@@ -10,7 +10,7 @@ use Rattle.arith.specs.laws.Walks.{Through, through-start, through-more, throug
 use Rattle.bus_model.specs.Frame.{row}
 use Rattle.workload.specs.Stored.{stored}
 use Rattle.workload.specs.Grouped.{framesIn}
-use Rattle.workload.specs.laws.Parts.{part-fine}
+use Rattle.workload.specs.laws.Fine.{part-fine}
 use Rattle.workload.specs.laws.Above.{fullDemand, fullWork, full-most}
 use Rattle.workload.proofs.above.most_work.Statement.{statement}
 use Rattle.workload.proofs.above.most_work.Tie as tie

@@ -1,0 +1,142 @@
+-- The frames in some rows: their next releases, and the instants that these give.
+use Prim.Native.Nat.{ℕ, _+_, _-_, _*_, _/_, _%_, _≤_, _<_, max}
+use mathlib.Core.Path.{_≡_, refl, sym, ap, _∙_}
+use mathlib.Core.List.{List, [], _∷_}
+use mathlib.Core.Bool.{Bool}
+use native.Mathlib.Omega.{arith}
+use native.Mathlib.Decide.{decLe}
+use native.Mathlib.Nat.{mul-le-mul-right, mod-add-div', add-mod-right, add-mul-mod-self-right, mod-eq-of-lt}
+use lib.Dec.{T}
+use lib.ListN.{length}
+use Rattle.arith.specs.Lists.{greatest}
+use Rattle.arith.specs.Least.{least}
+use Rattle.arith.specs.Releases.{releasesBefore}
+use Rattle.arith.specs.laws.Members.{exists-mem, of-exists}
+use Rattle.arith.specs.laws.Sums.{le-greatest, greatest-exceeds}
+use Rattle.arith.specs.laws.Releases.{count-le, next-after}
+use Rattle.arith.specs.laws.Least.{least-here, least-skip, least-none, least-within}
+use Rattle.arith.specs.declared.Found.{Found}
+use Rattle.arith.specs.declared.Found.the-variants.{At, Nothing}
+use Rattle.bus_model.specs.declared.Frame.{Frame}
+use Rattle.bus_model.specs.Valid.{ValidFrame}
+use Rattle.bus_model.specs.Bounds.{phase, isReleasedAt, distance, orEmpty}
+use Rattle.bus_model.specs.theory.Alignment.{released-at, released-turn, distance-lt, distance-reaches}
+use Rattle.workload.specs.Grouped.{Fine, FinePart, framesIn, isInstant, orEnd}
+use Rattle.alignment_walk.specs.Steps.{nextRelease}
+
+-- ---- the next release of a frame
+
+-- It is a release.
+pub next-released : {g : Frame} → Fine g → (a : ℕ) → T (isReleasedAt (nextRelease a g) g)
+unfolding phase
+next-released {g} fine a = released-at g (nextRelease a g) (add-mul-mod-self-right (phase g) _ (g .period) ∙ mod-eq-of-lt (fine .offset))
+
+-- No release at a or later comes before it.
+next-first : {g : Frame} → Fine g → (a m : ℕ) → a ≤ m → T (isReleasedAt m g) → nextRelease a g ≤ m
+next-first {g} fine a m low t =
+    let (n, is) = released-turn g m t in
+    omega (arith, mul-le-mul-right (g .period) (count-le (phase g) (fine .period-low) a n (omega arith)))
+
+-- the limits that the definitions ask for
+pub of-fine : {g : Frame} → Fine g → ValidFrame g
+of-fine fine = record { period = fine .period-low; length = fine .length-low; node-low = fine .node-low; node-high = fine .node-high; offset = fine .offset }
+
+module _ {g : Frame} (fine : Fine g) where
+  -- A release at a or later that comes within a period is the first.
+  next-within : (a x : ℕ) → a ≤ x → x < a + g .period → x % g .period ≡ phase g → x ≡ nextRelease a g
+  next-within a x late soon rest =
+      let p = g .period in
+      let c = releasesBefore (phase g) p a in
+      let is : x ≡ phase g + x / p * p = omega (arith, mod-add-div' x p) in
+      let few : c ≤ x / p = count-le (phase g) (fine .period-low) a (x / p) (omega arith) in
+      let many : ¬ (c < x / p) = λ less. omega (arith, next-after (phase g) (fine .period-low) a, mul-le-mul-right p less) in
+      let same : x / p ≡ c = omega arith in
+      rw same at is
+
+  -- The first is not before a,
+  pub next-late : (a : ℕ) → a ≤ nextRelease a g
+  next-late a = next-after (phase g) (fine .period-low) a
+
+  -- and at the distance from it.
+  pub next-distance : (a : ℕ) → nextRelease a g ≡ a + distance g a
+  next-distance a = sym (next-within a (a + distance g a) (omega arith) (omega (arith, distance-lt (of-fine fine) a)) (distance-reaches (of-fine fine) a))
+
+  next-rest : (a : ℕ) → nextRelease a g % g .period ≡ phase g
+  next-rest a = ap (λ (x : ℕ). x % g .period) (next-distance a) ∙ distance-reaches (of-fine fine) a
+
+  -- It is the first after any tick up to it.
+  pub next-stays : (a b : ℕ) → a ≤ b → b ≤ nextRelease a g → nextRelease a g ≡ nextRelease b g
+  next-stays a b late inside = next-within b (nextRelease a g) inside (omega (arith, next-distance a, distance-lt (of-fine fine) a)) (next-rest a)
+
+  -- After a release at a the next one is a period later.
+  pub next-period : (a : ℕ) → nextRelease a g ≡ a → a + g .period ≡ nextRelease (a + 1) g
+  next-period a here =
+      let rest = rw here at (next-rest a) in
+      next-within (a + 1) (a + g .period) (omega (arith, fine .period-low)) (omega arith) (add-mod-right a (g .period) ∙ rest)
+
+  -- The very first is at the offset.
+  pub next-offset : g .offset ≡ nextRelease 0 g
+  unfolding phase
+  next-offset = next-within 0 (g .offset) (omega arith) (omega (arith, fine .offset)) (mod-eq-of-lt (fine .offset))
+
+-- how long before e that is, for the frame that is released first
+abbrev pub lead : ℕ → ℕ → List Frame → ℕ
+lead a e = greatest (λ g. e - nextRelease a g)
+
+module _ (fs : List Frame) (part : List ℕ) (fine : FinePart fs part) (a e : ℕ) where
+  -- No instant at a or later comes before that release.
+  none-before : {best m : ℕ} → e - best ≡ lead a e (framesIn fs part) → a ≤ m → m < best → m < e → ¬ T (isInstant (framesIn fs part) m)
+  none-before {best} {m} is low less inside t =
+      let (g, l, u) = of-exists (isReleasedAt m) (framesIn fs part) t in
+      omega (arith, next-first (fine .fine g l) a m low u, le-greatest (λ (h : Frame). e - nextRelease a h) l)
+
+  -- The search for an instant finds it, where it is below e.
+  pub next-is : {best : ℕ} → e - best ≡ lead a e (framesIn fs part) → best < e → At best ≡ least (isInstant (framesIn fs part)) (e - a) a
+  next-is {best} is inside =
+      let p = isInstant (framesIn fs part) in
+      let (g, l, less) = greatest-exceeds (λ (h : Frame). e - nextRelease a h) (e - best - 1) (framesIn fs part) (omega arith) in
+      let same : nextRelease a g ≡ best = omega (arith, le-greatest (λ (h : Frame). e - nextRelease a h) l) in
+      let late : a ≤ best = omega (arith, next-after (phase g) (fine .fine g l .period-low) a) in
+      let passes : T (p best) = rw same at (exists-mem (isReleasedAt (nextRelease a g)) l (next-released (fine .fine g l) a)) in
+      sym (least-skip p e a best late (omega arith) (λ m low less. none-before is low less (omega arith)) ∙ least-here p e best inside passes)
+
+  -- Elsewhere it finds none.
+  pub next-none : {best : ℕ} → e - best ≡ lead a e (framesIn fs part) → e ≤ best → Nothing ≡ least (isInstant (framesIn fs part)) (e - a) a
+  next-none {best} is over =
+      sym (least-none (isInstant (framesIn fs part)) (e - a) a (λ m low high. none-before is low (omega arith) (omega arith)))
+
+  -- So that release, cut at e, is what the search ends with.
+  pub next-or-end : {best : ℕ} → e - best ≡ lead a e (framesIn fs part) → best ≤ e → best ≡ orEnd e (least (isInstant (framesIn fs part)) (e - a) a)
+  unfolding orEnd
+  next-or-end {best} is low =
+      elim (decLe e best) [
+        | yes over ↦ rw (← next-none is over) (omega arith)
+        | no under ↦ rw (← next-is is (omega arith))
+      ]
+
+-- ---- a search below e that ended at m
+
+module _ (p : ℕ → Bool) (e n : ℕ) {m : ℕ} where
+  end-at : (found : Found) → m ≡ orEnd e found → m < e → found ≡ At m
+  unfolding orEnd
+  end-at (At l) is inside = ap At (sym is)
+  end-at Nothing is inside = absurd (omega arith)
+
+  -- Where that is below e, it found m.
+  pub ended-at : m ≡ orEnd e (least p (e - n) n) → m < e → least p (e - n) n ≡ At m
+  ended-at is inside = end-at (least p (e - n) n) is inside
+
+  end-none : (found : Found) → least p (e - n) n ≡ found → m ≡ orEnd e found → e ≤ m → found ≡ Nothing
+  unfolding orEnd
+  end-none (At l) at is over = let (low, high, t) = least-within p e at in absurd (omega arith)
+  end-none Nothing at is over = refl
+
+  -- Elsewhere it found none.
+  pub ended-none : m ≡ orEnd e (least p (e - n) n) → e ≤ m → least p (e - n) n ≡ Nothing
+  ended-none is over = end-none (least p (e - n) n) refl is over
+
+-- A node without alignments counts 1.
+pub length-or-empty : (als : List ℕ) → length (orEmpty als) ≡ max (length als) 1
+unfolding orEmpty
+length-or-empty [] = refl
+length-or-empty (a ∷ als) = omega arith

@@ -1,0 +1,68 @@
+-- The invariant has the choices of the nodes done.
+use Prim.Native.Nat.{_-_}
+use mathlib.Core.Path.{_≡_}
+use native.Mathlib.Omega.{arith}
+use borrow.Author.Needs.{needs}
+use lib.ListN.{length}
+use Rattle.workload.specs.Stored.{stored}
+use Rattle.greatest_work.specs.laws.Guesses.{AllowedTo, allowed-put, allowed-all}
+use Rattle.greatest_work.proofs.guesses.guessed.Statement.{statement}
+use Rattle.greatest_work.proofs.guesses.guessed.Tie as tie
+
+abbrev Inv-loop : tie.InvT-loop
+Inv-loop frames members counts ends k sums choices fixed₀ j₀ fixed j = AllowedTo (stored frames) k choices fixed j
+
+abbrev μ-loop : tie.MeasureT-loop
+μ-loop frames members counts ends k sums choices fixed₀ j₀ fixed j = 16 - j
+
+loop-holds : tie.Need-loop-holds Inv-loop μ-loop
+loop-holds c = record { size = search needs; each = λ i l. absurd (omega arith) }
+
+mul-choice : tie.Need-mul-choice Inv-loop μ-loop
+mul-choice c = search needs
+
+array-copy-out-choice : tie.Need-array-copy-out-choice Inv-loop μ-loop
+array-copy-out-choice c = search needs
+
+guessed-choice-requires : tie.Need-guessed-choice-requires Inv-loop μ-loop
+guessed-choice-requires c κs =
+    let s = c .before .before .before .before .before .before .before .before in
+    (s .pre .0, (s .pre .1 .0, (c .before .loop-test .taken, s .pre .1 .1)))
+
+mul-fixed : tie.Need-mul-fixed Inv-loop μ-loop
+mul-fixed c = search needs
+
+array-set-from-fixed : tie.Need-array-set-from-fixed Inv-loop μ-loop
+array-set-from-fixed c = search needs
+
+add-j : tie.Need-add-j Inv-loop μ-loop
+add-j c = search needs
+
+loop-less : tie.Need-loop-less Inv-loop μ-loop
+loop-less c = search needs
+
+loop-again : tie.Need-loop-again Inv-loop μ-loop
+loop-again c = allowed-put (c .before .before .before .loop .inv) (c .before .before .loop-test .taken) _ (c .guessed-choice .ensures)
+
+returns : tie.Need-returns Inv-loop μ-loop
+returns c =
+    let s = c .before .before .before .before .before .before .before in
+    let size : length (s .args .t6) ≡ 16 = search needs in
+    allowed-all (c .before .loop .inv) (s .pre .1 .0) (c .loop-test .left) size
+
+pub guessed-spec : {M : Type 1} → statement M
+guessed-spec =
+    tie.close
+    (tie.spec
+    Inv-loop
+    μ-loop
+    loop-holds
+    mul-choice
+    array-copy-out-choice
+    guessed-choice-requires
+    mul-fixed
+    array-set-from-fixed
+    add-j
+    loop-less
+    loop-again
+    returns)

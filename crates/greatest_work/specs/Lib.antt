@@ -1,0 +1,3 @@
+-- What the code of this crate works with. The greatest work is defined in bus_model.
+pub mod Kept
+pub mod laws
