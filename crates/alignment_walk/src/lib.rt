@@ -15,6 +15,7 @@ ghost use lib.Dec.{eqb, ltb};
 ghost use lib.ListN.{length};
 ghost use Rattle.arith.specs.Lists.{sum, greatest};
 ghost use Rattle.arith.specs.Least.{least};
+ghost use Rattle.bus_model.specs.declared.Frame.{Frame};
 ghost use Rattle.bus_model.specs.Bounds.{workAt, orEmpty};
 ghost use Rattle.workload.specs.Stored.{stored};
 ghost use Rattle.alignment_walk.specs.Steps.{nextRelease, waitFrom, restOf, wholeDemand, Noted};
@@ -78,25 +79,26 @@ fn wait_after(wait: u32, period: u32) -> u32
 }
 
 // The demand of the frames' whole periods in the first n ticks, which no alignment changes. Noted are each frame's length and
-// period, the rest that the periods leave, and how long after 0 its first release is.
+// period, the rest that the periods leave, and how long after the first alignment its first release is.
 fn begin(
     frames: &[u32],
     part: &[u8],
     n: u32,
+    first: u32,
     lengths: &mut [u32; GROUP],
     periods: &mut [u32; GROUP],
     rests: &mut [u32; GROUP],
     waits: &mut [u32; GROUP],
 ) -> u64
     requires { ⌜ FinePart (stored (now frames)) (now part) ⌝ }
-    requires { ⌜ n ≤ 1000001 ⌝ }
+    requires { ⌜ (n ≤ 1000001) × ((g : Frame) → Mem g (framesIn (stored (now frames)) (now part)) → first ≤ g .offset) ⌝ }
     requires { ⌜ (length (now lengths) ≡ 64) × (length (now periods) ≡ 64) × (length (now rests) ≡ 64) × (length (now waits) ≡ 64) ⌝ }
     ensures { λ r. ⌜ r ≡ sum (wholeDemand n) (framesIn (stored (now (frames .entry))) (now (part .entry))) ⌝ }
     ensures small { λ r. ⌜ r ≤ 64 * 400000400 ⌝ }
     ensures lengths { λ _. ⌜ Noted (λ g. g .length) (stored (now (frames .entry))) (now (part .entry)) (now (lengths .exit)) ⌝ }
     ensures periods { λ _. ⌜ Noted (λ g. g .period) (stored (now (frames .entry))) (now (part .entry)) (now (periods .exit)) ⌝ }
     ensures rests { λ _. ⌜ Noted (restOf n) (stored (now (frames .entry))) (now (part .entry)) (now (rests .exit)) ⌝ }
-    ensures waits { λ _. ⌜ Noted (waitFrom 0 0) (stored (now (frames .entry))) (now (part .entry)) (now (waits .exit)) ⌝ }
+    ensures waits { λ _. ⌜ Noted (waitFrom first first) (stored (now (frames .entry))) (now (part .entry)) (now (waits .exit)) ⌝ }
 {
     let mut whole: u64 = 0;
     let mut i = 0;
@@ -107,7 +109,7 @@ fn begin(
         lengths[i] = g.length;
         periods[i] = g.period;
         rests[i] = n - times * g.period;
-        waits[i] = g.offset;
+        waits[i] = g.offset - first;
         whole += g.length as u64 * times as u64;
         i += 1;
     }
@@ -158,25 +160,28 @@ fn visit(
     }
 }
 
-// An alignment and its work.
+// An alignment and its work, and how many alignments there are.
 pub struct Best {
     pub alignment: u32,
     pub work: u64,
+    pub count: u32,
 }
 
-// The greatest work that an alignment gives in the first n ticks, and the first alignment that gives it; both 0 where there is none.
+// The greatest work that an alignment gives in the first n ticks, and the first alignment that gives it; all 0 where there is none.
 pub fn best_alignment(frames: &[u32], part: &[u8], end: u32, n: u32) -> Best
     requires { ⌜ FinePart (stored (now frames)) (now part) ⌝ }
     requires { ⌜ (end ≤ 1000000) × (n ≤ 1000001) ⌝ }
     ensures among { λ r. ⌜ Mem (r .alignment) (orEmpty (instantsIn (framesIn (stored (now (frames .entry))) (now (part .entry))) end)) ⌝ }
     ensures { λ r. ⌜ r .work ≡ greatest (λ a. workAt (framesIn (stored (now (frames .entry))) (now (part .entry))) a n) (instantsIn (framesIn (stored (now (frames .entry))) (now (part .entry))) end) ⌝ }
-    ensures small { λ r. ⌜ r .work ≤ 64 * 400400400 ⌝ }
+    ensures count { λ r. ⌜ r .count ≡ length (instantsIn (framesIn (stored (now (frames .entry))) (now (part .entry))) end) ⌝ }
+    ensures small { λ r. ⌜ (r .work ≤ 64 * 400400400) × (r .count ≤ 1000000) ⌝ }
 {
     let found = next_alignment(frames, part, 0, end);
     let Found::At(first) = found else {
         return Best {
             alignment: 0,
             work: 0,
+            count: 0,
         };
     };
     let mut lengths = [0u32; GROUP];
@@ -187,6 +192,7 @@ pub fn best_alignment(frames: &[u32], part: &[u8], end: u32, n: u32) -> Best
         frames,
         part,
         n,
+        first,
         &mut lengths,
         &mut periods,
         &mut rests,
@@ -194,7 +200,8 @@ pub fn best_alignment(frames: &[u32], part: &[u8], end: u32, n: u32) -> Best
     );
     let mut alignment = first;
     let mut work: u64 = 0;
-    let mut gap = first;
+    let mut count: u32 = 0;
+    let mut gap: u32 = 0;
     let mut a = first;
     loop {
         let v = visit(
@@ -210,12 +217,17 @@ pub fn best_alignment(frames: &[u32], part: &[u8], end: u32, n: u32) -> Best
             &rests,
             &mut waits,
         );
+        count += 1;
         if work < v.work {
             work = v.work;
             alignment = a;
         }
         if end <= a + v.gap {
-            return Best { alignment, work };
+            return Best {
+                alignment,
+                work,
+                count,
+            };
         }
         gap = v.gap;
         a += v.gap;
@@ -229,16 +241,7 @@ pub fn count_alignments(frames: &[u32], part: &[u8], end: u32) -> u32
     ensures { λ r. ⌜ r ≡ length (orEmpty (instantsIn (framesIn (stored (now (frames .entry))) (now (part .entry))) end)) ⌝ }
     ensures small { λ r. ⌜ (1 ≤ r) × (r ≤ 1000000) ⌝ }
 {
-    let mut count: u32 = 0;
-    let mut after: u32 = 0;
-    loop {
-        let found = next_alignment(frames, part, after, end);
-        let Found::At(a) = found else {
-            return at_least_one(count);
-        };
-        count += 1;
-        after = a + 1;
-    }
+    at_least_one(best_alignment(frames, part, end, 0).count)
 }
 
 fn at_least_one(count: u32) -> u32

@@ -1,11 +1,13 @@
 -- The loop goes through the rows, notes what is to be noted of the frame in each, and adds up the demand of the whole periods.
 use Prim.Native.Nat.{ℕ, _+_, _-_, _*_, _≤_}
 use mathlib.Core.Path.{_≡_, sym, ap, _∙_}
+use mathlib.Core.List.{Memᴰ·map}
 use native.Mathlib.Omega.{arith}
-use native.Mathlib.Nat.{add-zero, zero-add, sub-zero, mod-eq-sub-div-mul, div-mul-le-self}
+use native.Mathlib.Nat.{add-zero, zero-add, mod-eq-sub-div-mul, div-mul-le-self}
 use borrow.Author.Needs.{needs}
 use lib.ListN.{length, getD}
 use Rattle.arith.specs.Lists.{sum}
+use Rattle.arith.specs.laws.Members.{mem-getD}
 use Rattle.arith.specs.laws.Walks.{Through, through-start, through-more, through-end, sum-more}
 use Rattle.bus_model.specs.declared.Frame.{Frame}
 use Rattle.bus_model.specs.Frame.{row}
@@ -13,20 +15,20 @@ use Rattle.workload.specs.Stored.{stored}
 use Rattle.workload.specs.Grouped.{Fine, framesIn}
 use Rattle.alignment_walk.specs.Steps.{waitFrom, restOf, wholeDemand}
 use Rattle.workload.specs.laws.Fine.{part-fine}
-use Rattle.alignment_walk.specs.laws.Parts.{next-offset}
+use Rattle.alignment_walk.specs.laws.Parts.{wait-first}
 use Rattle.alignment_walk.specs.laws.Steps.{NotedTo, note-none, note-more, note-all, whole-small}
 use Rattle.alignment_walk.proofs.begin.Statement.{statement}
 use Rattle.alignment_walk.proofs.begin.Tie as tie
 
 abbrev Inv-loop : tie.InvT-loop
-Inv-loop frames part n lengths₀ periods₀ rests₀ waits₀ whole₀ i₀ lengths periods rests waits whole i =
+Inv-loop frames part n first lengths₀ periods₀ rests₀ waits₀ whole₀ i₀ lengths periods rests waits whole i =
     Through (λ ms. sum (wholeDemand n) (framesIn (stored frames) ms)) _+_ part (sum (wholeDemand n) (framesIn (stored frames) part)) whole i
     × (whole ≤ 400000400 * i)
     × NotedTo (λ (g : Frame). g .length) (stored frames) part lengths i × NotedTo (λ (g : Frame). g .period) (stored frames) part periods i
-    × NotedTo (restOf n) (stored frames) part rests i × NotedTo (waitFrom 0 0) (stored frames) part waits i
+    × NotedTo (restOf n) (stored frames) part rests i × NotedTo (waitFrom first first) (stored frames) part waits i
 
 abbrev μ-loop : tie.MeasureT-loop
-μ-loop frames part n lengths₀ periods₀ rests₀ waits₀ whole₀ i₀ lengths periods rests waits whole i = length part - i
+μ-loop frames part n first lengths₀ periods₀ rests₀ waits₀ whole₀ i₀ lengths periods rests waits whole i = length part - i
 
 loop-holds : tie.Need-loop-holds Inv-loop μ-loop
 loop-holds c =
@@ -77,7 +79,7 @@ small : (c : tie.After-quotient Inv-loop μ-loop) → c .before .before .frame-a
 small c =
     let f = c .before .before in
     let s = c .before .before .before .before .before .before .before .before .before in
-    rw (c .quotient .ensures) (whole-small (fine f) (s .args .n) (s .pre .1 .0))
+    rw (c .quotient .ensures) (whole-small (fine f) (s .args .n) (s .pre .1 .0 .0))
 
 mul-rests : tie.Need-mul-rests Inv-loop μ-loop
 mul-rests c = omega (arith, inside (c .before))
@@ -90,6 +92,13 @@ mul-rests-2 c = search needs
 
 element-write-rests : tie.Need-element-write-rests Inv-loop μ-loop
 element-write-rests c = search needs
+
+-- the first alignment is not after its offset
+first-inside : (c : tie.After-frame-at Inv-loop μ-loop) → c .before .before .before .before .before .before .before .args .first ≤ c .frame-at .result .offset
+first-inside c = c .before .before .before .before .before .before .before .pre .1 .0 .1 (c .frame-at .result) (rw (read c) (Memᴰ·map (row (stored (c .before .before .before .before .before .before .before .args .frames .now))) (mem-getD (c .before .before .before .before .before .before .before .args .part .now) (c .before .before .before .before .loop .i) 0 (c .before .before .before .loop-test .taken))))
+
+sub-waits : tie.Need-sub-waits Inv-loop μ-loop
+sub-waits c = first-inside (c .before .before .before .before)
 
 mul-waits : tie.Need-mul-waits Inv-loop μ-loop
 mul-waits c = search needs
@@ -104,12 +113,12 @@ cast-whole-2 : tie.Need-cast-whole-2 Inv-loop μ-loop
 cast-whole-2 c = search needs
 
 mul-whole : tie.Need-mul-whole Inv-loop μ-loop
-mul-whole c = omega (arith, small (c .before .before))
+mul-whole c = omega (arith, small (c .before .before .before))
 
 add-whole : tie.Need-add-whole Inv-loop μ-loop
 add-whole c =
-    let l = c .before .before .before .before .before .before .before .before .loop in
-    omega (arith, small (c .before .before), l .inv .1, l .inv .0 .inside, c .before .before .before .before .before .before .before .before .before .before .before .pre .0 .few)
+    let l = c .before .before .before .before .before .before .before .before .before .loop in
+    omega (arith, small (c .before .before .before), l .inv .1, l .inv .0 .inside, c .before .before .before .before .before .before .before .before .before .before .before .before .pre .0 .few)
 
 add-i : tie.Need-add-i Inv-loop μ-loop
 add-i c = search needs
@@ -119,11 +128,11 @@ loop-less c = search needs
 
 loop-again : tie.Need-loop-again Inv-loop μ-loop
 loop-again c =
-    let q = c .before .before in
-    let f = c .before .before .before .before in
-    let s = c .before .before .before .before .before .before .before .before .before .before .before in
-    let l = c .before .before .before .before .before .before .before .before .loop in
-    let less = c .before .before .before .before .before .before .before .loop-test .taken in
+    let q = c .before .before .before in
+    let f = c .before .before .before .before .before in
+    let s = c .before .before .before .before .before .before .before .before .before .before .before .before in
+    let l = c .before .before .before .before .before .before .before .before .before .loop in
+    let less = c .before .before .before .before .before .before .before .before .loop-test .taken in
     let a = s .args in
     let g = f .frame-at .result in
     let times = q .quotient .ensures in (
@@ -133,7 +142,7 @@ loop-again c =
       note-more _ (l .inv .2) (omega (arith, less, s .pre .0 .few)) (ap (λ (h : Frame). h .length) (read f)),
       note-more _ (l .inv .3) (omega (arith, less, s .pre .0 .few)) (ap (λ (h : Frame). h .period) (read f)),
       note-more _ (l .inv .4) (omega (arith, less, s .pre .0 .few)) (ap (λ (x : ℕ). a .n - x * g .period) times ∙ sym (mod-eq-sub-div-mul (a .n) (g .period)) ∙ ap (restOf (a .n)) (read f)),
-      note-more _ (l .inv .5) (omega (arith, less, s .pre .0 .few)) (next-offset (fine f) ∙ sym (sub-zero _) ∙ ap (waitFrom 0 0) (read f)),
+      note-more _ (l .inv .5) (omega (arith, less, s .pre .0 .few)) (wait-first (fine f) (a .first) (first-inside f) ∙ ap (waitFrom (a .first) (a .first)) (read f)),
     )
 
 returns : tie.Need-returns Inv-loop μ-loop
@@ -164,6 +173,7 @@ begin-spec =
     sub-rests
     mul-rests-2
     element-write-rests
+    sub-waits
     mul-waits
     element-write-waits
     cast-whole

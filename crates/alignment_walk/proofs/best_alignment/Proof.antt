@@ -1,36 +1,38 @@
--- The loop goes from one alignment to the next and keeps the greatest work that they give, with an alignment that it came by.
+-- The loop goes from one alignment to the next, counts them, and keeps the greatest work that they give, with an alignment that it came by.
 use Prim.Native.Nat.{ℕ, _+_, _-_, _*_, _≤_, max}
 use mathlib.Core.Path.{_≡_, refl, sym, ap, _∙_}
 use mathlib.Core.List.{List, _∷_, List·Memᴰ as Mem, List·Memᴰ·head as here}
 use mathlib.Core.Logic.{⊎-elim}
 use native.Mathlib.Omega.{arith}
-use native.Mathlib.Nat.{max-zero, zero-max, sub-zero}
+use native.Mathlib.Nat.{max-zero, zero-max, add-zero, zero-add, sub-zero}
 use borrow.Author.Needs.{needs}
+use lib.ListN.{length}
 use Rattle.arith.specs.Lists.{greatest}
 use Rattle.arith.specs.Least.{least}
 use Rattle.arith.specs.declared.Found.the-variants.{At}
 use Rattle.arith.specs.laws.Least.{least-within}
-use Rattle.arith.specs.laws.Walks.{keep-next, keep-found, keep-end, Walk, walk-start, walk-more, walk-less, walk-end, greatest-more}
+use Rattle.arith.specs.laws.Walks.{keep-next, keep-found, keep-end, Walk, walk-start, walk-more, walk-less, walk-end, greatest-more, length-more}
 use Rattle.bus_model.specs.Bounds.{workAt, orEmpty}
 use Rattle.bus_model.specs.theory.Alignment.{or-empty}
 use Rattle.workload.specs.Stored.{stored}
 use Rattle.workload.specs.Grouped.{framesIn, isInstant, instantsIn}
 use Rattle.alignment_walk.specs.Steps.{waitFrom, Noted}
 use Rattle.alignment_walk.specs.laws.Parts.{ended-at, ended-none}
-use Rattle.alignment_walk.specs.laws.Steps.{noted-next}
+use Rattle.alignment_walk.specs.laws.Steps.{noted-next, offset-late}
 use Rattle.alignment_walk.proofs.best_alignment.Statement.{statement}
 use Rattle.alignment_walk.proofs.best_alignment.Tie as tie
 
 abbrev Inv-loop : tie.InvT-loop
-Inv-loop frames part end n first lengths periods rests waits₀ whole alignment₀ work₀ gap₀ a₀ waits alignment work gap a =
+Inv-loop frames part end n first lengths periods rests waits₀ whole alignment₀ work₀ count₀ gap₀ a₀ waits alignment work count gap a =
     let f : ℕ → ℕ = λ b. workAt (framesIn (stored frames) part) b n in
     Walk (greatest f) max (isInstant (framesIn (stored frames) part)) end (greatest f (instantsIn (framesIn (stored frames) part) end)) work a
     × Mem a (instantsIn (framesIn (stored frames) part) end)
     × (work ≤ 64 * 400400400) × Mem alignment (instantsIn (framesIn (stored frames) part) end)
     × (gap ≤ a) × Noted (waitFrom (a - gap) a) (stored frames) part waits
+    × Walk length _+_ (isInstant (framesIn (stored frames) part)) end (length (instantsIn (framesIn (stored frames) part) end)) count a × (count ≤ a)
 
 abbrev μ-loop : tie.MeasureT-loop
-μ-loop frames part end n first lengths periods rests waits₀ whole alignment₀ work₀ gap₀ a₀ waits alignment work gap a = end - a
+μ-loop frames part end n first lengths periods rests waits₀ whole alignment₀ work₀ count₀ gap₀ a₀ waits alignment work count gap a = end - a
 
 next-alignment-requires : tie.Need-next-alignment-requires Inv-loop μ-loop
 next-alignment-requires c κs = search needs
@@ -46,12 +48,12 @@ unfolding greatest orEmpty
 returns c =
     let a = c .before .before .before .before .before .args in
     let empty = rw sub-zero at (keep-end (isInstant (framesIn (stored (a .frames .now)) (a .part .now))) (a .end) 0 (sym (c .before .before .next-alignment .ensures) ∙ c .enum-told .given .1)) in
-    (rw empty (here refl), (rw empty, omega arith))
+    (rw empty (here refl), (rw empty, (rw empty, (omega arith, omega arith))))
 
 begin-requires : tie.Need-begin-requires Inv-loop μ-loop
 begin-requires c κs =
     let s = c .before .before .before .before .before .before .before .before .before .before in
-    (s .pre .0, (s .pre .1 .1, (refl, refl, refl, refl)))
+    (s .pre .0, ((s .pre .1 .1, offset-late (s .pre .0) (s .args .end) (sym (c .before .before .before .before .before .before .before .next-alignment .ensures) ∙ c .before .before .before .before .before .found .given .1)), (refl, refl, refl, refl)))
 
 loop-holds : tie.Need-loop-holds Inv-loop μ-loop
 loop-holds c =
@@ -60,13 +62,15 @@ loop-holds c =
     let is = c .before .before .before .before .before .before .before .before .next-alignment .ensures in
     let e = s .args .end in
     let (low, high, t) = least-within _ _ (sym is ∙ found .1) in
-    let zero : 0 ≡ found .0 .0 - found .0 .0 = omega arith in (
-      walk-start _ _ _ _ _ _ high (rw sub-zero at (keep-next _ e 0 _ (sym is ∙ found .1))) (zero-max _),
+    let from = rw sub-zero at (keep-next _ e 0 _ (sym is ∙ found .1)) in (
+      walk-start _ _ _ _ _ _ high from (zero-max _),
       keep-found _ _ 0 is (found .1),
       omega arith,
       keep-found _ _ 0 is (found .1),
       omega arith,
-      rw (← zero) (noted-next (s .pre .0) 0 0 e (c .begin .ensures .1 .1 .1 .1 .1) (sym is ∙ found .1)),
+      rw sub-zero (c .begin .ensures .1 .1 .1 .1 .1),
+      walk-start _ _ _ _ _ _ high from (zero-add _),
+      omega arith,
     )
 
 visit-requires : tie.Need-visit-requires Inv-loop μ-loop
@@ -96,6 +100,9 @@ among c =
     let l = c .before .before .before .before .before .before .before .loop in
     ⊎-elim (λ t. rw (t .1) (l .inv .1)) (λ t. rw (t .1) (l .inv .3)) (c .if1 .came)
 
+add-count : tie.Need-add-count Inv-loop μ-loop
+add-count c = omega (arith, c .before .before .before .before .before .loop .inv .7, c .before .before .before .before .before .loop .inv .0 .inside, c .before .before .before .before .before .before .before .before .before .before .before .before .before .before .before .before .before .pre .1 .0)
+
 add-if2 : tie.Need-add-if2 Inv-loop μ-loop
 add-if2 c = omega (arith, c .before .before .before .visit .ensures .1 .1 .0 .1, c .before .before .before .before .before .before .before .before .loop .inv .0 .inside, c .before .before .before .before .before .before .before .before .before .before .before .before .before .before .before .before .before .before .before .before .pre .1 .0)
 
@@ -105,8 +112,10 @@ returns-2 c =
     let j = c .before .before in
     let v = c .before .before .before .before .visit .ensures in
     let l = c .before .before .before .before .before .before .before .before .before .loop in
-    let most = sym (max-zero _) ∙ walk-end _ _ _ _ _ (l .inv .0) (step j) (ended-none _ _ _ (v .1 .0) (c .if2 .taken)) in
-    (or-empty (among j), (most, omega (arith, l .inv .2, greater j, v .1 .1 .0 .0)))
+    let none = ended-none _ _ _ (v .1 .0) (c .if2 .taken) in
+    let most = sym (max-zero _) ∙ walk-end _ _ _ _ _ (l .inv .0) (step j) none in
+    let all = sym (add-zero _) ∙ walk-end _ _ _ _ _ (l .inv .6) (length-more (l .count) (l .a)) none in
+    (or-empty (among j), (most, (all, (omega (arith, l .inv .2, greater j, v .1 .1 .0 .0), omega (arith, l .inv .7, l .inv .0 .inside, c .before .before .before .before .before .before .before .before .before .before .before .before .before .before .before .before .before .before .before .before .before .pre .1 .0)))))
 
 -- the next alignment
 found : (c : tie.Else2 Inv-loop μ-loop)
@@ -134,7 +143,9 @@ loop-again c =
       omega (arith, l .inv .2, greater j, v .1 .1 .0 .0),
       among j,
       omega arith,
-      rw (← last) (noted-next (s .pre .0) (l .a) (l .a + 1) (s .args .end) (v .1 .1 .1) (found e)),
+      rw (← last) (noted-next (s .pre .0) (l .a + 1) (s .args .end) (found e) (l .a) (v .1 .1 .1)),
+      walk-more _ _ _ _ _ (l .inv .6) (length-more (l .count) (l .a)) (found e),
+      omega (arith, l .inv .7, least-within _ _ (found e) .0),
     )
 
 pub best-alignment-spec : {M : Type 1} → statement M
@@ -150,6 +161,7 @@ best-alignment-spec =
     begin-requires
     loop-holds
     visit-requires
+    add-count
     add-if2
     returns-2
     add-a

@@ -22,7 +22,7 @@ use Rattle.bus_model.specs.Valid.{ValidFrame}
 use Rattle.bus_model.specs.Bounds.{phase, isReleasedAt, distance, orEmpty}
 use Rattle.bus_model.specs.theory.Alignment.{released-at, released-turn, distance-lt, distance-reaches}
 use Rattle.workload.specs.Grouped.{Fine, FinePart, framesIn, isInstant, orEnd}
-use Rattle.alignment_walk.specs.Steps.{nextRelease}
+use Rattle.alignment_walk.specs.Steps.{nextRelease, waitFrom}
 
 -- ---- the next release of a frame
 
@@ -78,6 +78,10 @@ module _ {g : Frame} (fine : Fine g) where
   pub next-offset : g .offset ≡ nextRelease 0 g
   unfolding phase
   next-offset = next-within 0 (g .offset) (omega arith) (omega (arith, fine .offset)) (mod-eq-of-lt (fine .offset))
+
+  -- It is waited for from a tick before it.
+  pub wait-first : (a : ℕ) → a ≤ g .offset → g .offset - a ≡ waitFrom a a g
+  wait-first a inside = ap (λ (x : ℕ). x - a) (next-offset ∙ next-stays 0 a (omega arith) (omega (arith, next-offset)))
 
 -- how long before e that is, for the frame that is released first
 abbrev pub lead : ℕ → ℕ → List Frame → ℕ

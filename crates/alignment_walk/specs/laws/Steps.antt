@@ -24,7 +24,7 @@ use Rattle.bus_model.specs.Bounds.{isReleasedAt, distance, demand, workAt}
 use Rattle.bus_model.specs.theory.Alignment.{distance-lt}
 use Rattle.workload.specs.Grouped.{Fine, FinePart, framesIn, isInstant}
 use Rattle.alignment_walk.specs.Steps.{nextRelease, waitFrom, restOf, wholeDemand, extraDemand, Noted}
-use Rattle.alignment_walk.specs.laws.Parts.{of-fine, next-released, next-late, next-distance, next-stays, next-period}
+use Rattle.alignment_walk.specs.laws.Parts.{of-fine, next-released, next-late, next-distance, next-stays, next-period, next-offset}
 
 -- ---- the demand
 
@@ -125,16 +125,24 @@ module _ {f : Frame → ℕ} {fs : List Frame} {part area : List ℕ} where
   pub note-all : {i : ℕ} → NotedTo f fs part area i → length part ≤ i → Noted f fs part area
   note-all all over = record { size = all .size; each = λ j l. all .each j (omega arith) }
 
--- The first releases at a or later are those at the next alignment or later.
-pub noted-next : {fs : List Frame} {part waits : List ℕ} → FinePart fs part → (last a e : ℕ) {b : ℕ} → Noted (waitFrom last a) fs part waits
-    → least (isInstant (framesIn fs part)) (e - a) a ≡ At b → Noted (waitFrom last b) fs part waits
-noted-next {fs} {part} fine last a e {b} noted found = record {
-  size = noted .size;
-  each = λ i l. noted .each i l ∙ ap (λ (t : ℕ). t - last) (stays (row fs (getD part i 0)) (Memᴰ·map (row fs) (mem-getD part i 0 l)));
-}
-  where
-    stays : (g : Frame) → Mem g (framesIn fs part) → nextRelease a g ≡ nextRelease b g
-    stays g m =
+-- ---- the next alignment
+
+module _ {fs : List Frame} {part : List ℕ} (fine : FinePart fs part) (a e : ℕ) {b : ℕ} (found : least (isInstant (framesIn fs part)) (e - a) a ≡ At b) where
+  -- No frame is released between a and the next alignment,
+  next-inside : {g : Frame} → Mem g (framesIn fs part) → b ≤ nextRelease a g
+  next-inside {g} m = least-le _ _ _ _ _ found (next-late (fine .fine g m) a) (exists-mem (isReleasedAt (nextRelease a g)) m (next-released (fine .fine g m) a))
+
+  -- so that the first releases at a or later are those at that alignment or later.
+  pub noted-next : (last : ℕ) {waits : List ℕ} → Noted (waitFrom last a) fs part waits → Noted (waitFrom last b) fs part waits
+  noted-next last noted = record {
+    size = noted .size;
+    each = λ i l.
+        let m = Memᴰ·map (row fs) (mem-getD part i 0 l) in
         let (low, high, t) = least-within _ _ found in
-        let inside : b ≤ nextRelease a g = least-le _ _ _ _ _ found (next-late (fine .fine g m) a) (exists-mem (isReleasedAt (nextRelease a g)) m (next-released (fine .fine g m) a)) in
-        next-stays (fine .fine g m) a b low inside
+        noted .each i l ∙ ap (λ (t : ℕ). t - last) (next-stays (fine .fine _ m) a b low (next-inside m));
+  }
+
+-- No offset is before the first alignment.
+pub offset-late : {fs : List Frame} {part : List ℕ} (fine : FinePart fs part) (e : ℕ) {b : ℕ} → least (isInstant (framesIn fs part)) (e - 0) 0 ≡ At b
+    → (g : Frame) → Mem g (framesIn fs part) → b ≤ g .offset
+offset-late fine e found g m = omega (arith, next-inside fine 0 e found m, next-offset (fine .fine g m))

@@ -92,7 +92,7 @@ best-alignment-requires c κs =
 keep-requires : tie.Need-keep-requires
 keep-requires c κs =
     let s = c .before .before .before .before .before .before .before .before .before .before .before .before .before .before in
-    (s .pre .1 .1 .1 .size, s .pre .1 .1 .0 .0, s .pre .1 .1 .0 .1, c .before .best-alignment .ensures .1 .1)
+    (s .pre .1 .1 .1 .size, s .pre .1 .1 .0 .0, s .pre .1 .1 .0 .1, c .before .best-alignment .ensures .1 .1 .1 .0)
 
 same-length : tie.Need-same-length
 same-length c = search needs
@@ -105,7 +105,7 @@ returns-3 c =
     let g = c .before .before .before .before .best-alignment .ensures in
     let is = lent-node (s .pre .1 .0) (s .args .j) (b .0) Any (s .args .n) (g .1 .0) in
     let listed = rw (lent-alignments (s .pre .1 .0) (s .args .j) (b .0)) at (g .0) in
-    (is, (g .1 .1, rw (c .before .before .keep .ensures) (kept-more (s .pre .1 .1 .1) (s .args .j) (b .0) (s .args .n) _ _ (search needs) listed is (g .1 .1))))
+    (is, (g .1 .1 .1 .0, rw (c .before .before .keep .ensures) (kept-more (s .pre .1 .1 .1) (s .args .j) (b .0) (s .args .n) _ _ (search needs) listed is (g .1 .1 .1 .0))))
 
 pub kept-work-spec : {M : Type 1} → statement M
 kept-work-spec =
