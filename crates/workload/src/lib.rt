@@ -2,6 +2,7 @@
 mod above;
 mod blocking;
 mod groups;
+mod laid;
 mod stored;
 mod work;
 
@@ -12,6 +13,8 @@ pub use groups::GROUP;
 pub use groups::MEMBERS;
 pub use groups::NODES;
 pub use groups::group;
+pub use laid::laid_work;
+pub use laid::lay_out;
 pub use stored::FRAME;
 pub use stored::FRAMES;
 pub use stored::frame_at;

@@ -65,10 +65,10 @@ fn inverse_of(period: u32) -> u32 {
     4294967295 / period + 1
 }
 
-// Puts a frame at place i.
-pub fn put(frames: &mut [u32], i: usize, g: Frame)
+// Puts a frame at place i, with an inverse.
+pub fn put_with(frames: &mut [u32], i: usize, g: Frame, inverse: u32)
     requires { ⌜ (6 * i + 6 ≤ length (now frames)) × (length (now frames) ≤ 384) × (g .priority < 2 ^ 32) ⌝ }
-    ensures { λ _. ⌜ ((v : ℕ) × (now (frames .exit) ≡ putAt (now (frames .entry)) i g v)) ⌝ }
+    ensures { λ _. ⌜ now (frames .exit) ≡ putAt (now (frames .entry)) i g inverse ⌝ }
 {
     let at = FRAME * i;
     frames[at] = g.node;
@@ -76,5 +76,13 @@ pub fn put(frames: &mut [u32], i: usize, g: Frame)
     frames[at + 2] = g.length;
     frames[at + 3] = g.period;
     frames[at + 4] = g.offset;
-    frames[at + 5] = inverse_of(g.period);
+    frames[at + 5] = inverse;
+}
+
+// Puts a frame at place i.
+pub fn put(frames: &mut [u32], i: usize, g: Frame)
+    requires { ⌜ (6 * i + 6 ≤ length (now frames)) × (length (now frames) ≤ 384) × (g .priority < 2 ^ 32) ⌝ }
+    ensures { λ _. ⌜ ((v : ℕ) × (now (frames .exit) ≡ putAt (now (frames .entry)) i g v)) ⌝ }
+{
+    put_with(frames, i, g, inverse_of(g.period));
 }

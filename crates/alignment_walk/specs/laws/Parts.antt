@@ -18,10 +18,10 @@ use Rattle.arith.specs.laws.Least.{least-here, least-skip, least-none, least-wi
 use Rattle.arith.specs.declared.Found.{Found}
 use Rattle.arith.specs.declared.Found.the-variants.{At, Nothing}
 use Rattle.bus_model.specs.declared.Frame.{Frame}
-use Rattle.bus_model.specs.Valid.{ValidFrame}
 use Rattle.bus_model.specs.Bounds.{phase, isReleasedAt, distance, orEmpty}
 use Rattle.bus_model.specs.theory.Alignment.{released-at, released-turn, distance-lt, distance-reaches}
 use Rattle.workload.specs.Grouped.{Fine, FinePart, framesIn, isInstant, orEnd}
+use Rattle.workload.specs.laws.Fine.{of-fine}
 use Rattle.alignment_walk.specs.Steps.{nextRelease, waitFrom}
 
 -- ---- the next release of a frame
@@ -36,10 +36,6 @@ next-first : {g : Frame} → Fine g → (a m : ℕ) → a ≤ m → T (isRelease
 next-first {g} fine a m low t =
     let (n, is) = released-turn g m t in
     omega (arith, mul-le-mul-right (g .period) (count-le (phase g) (fine .period-low) a n (omega arith)))
-
--- the limits that the definitions ask for
-pub of-fine : {g : Frame} → Fine g → ValidFrame g
-of-fine fine = record { period = fine .period-low; length = fine .length-low; node-low = fine .node-low; node-high = fine .node-high; offset = fine .offset }
 
 module _ {g : Frame} (fine : Fine g) where
   -- A release at a or later that comes within a period is the first.

@@ -24,7 +24,8 @@ use Rattle.bus_model.specs.Bounds.{isReleasedAt, distance, demand, workAt}
 use Rattle.bus_model.specs.theory.Alignment.{distance-lt}
 use Rattle.workload.specs.Grouped.{Fine, FinePart, framesIn, isInstant}
 use Rattle.alignment_walk.specs.Steps.{nextRelease, waitFrom, restOf, wholeDemand, extraDemand, Noted}
-use Rattle.alignment_walk.specs.laws.Parts.{of-fine, next-released, next-late, next-distance, next-stays, next-period, next-offset}
+use Rattle.workload.specs.laws.Fine.{of-fine}
+use Rattle.alignment_walk.specs.laws.Parts.{next-released, next-late, next-distance, next-stays, next-period, next-offset}
 
 -- ---- the demand
 

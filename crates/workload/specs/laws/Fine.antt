@@ -7,9 +7,14 @@ use lib.ListN.{length, getD, length-take}
 use Rattle.arith.specs.laws.Members.{place-of, of-keep, mem-getD}
 use Rattle.bus_model.specs.declared.Frame.{Frame}
 use Rattle.bus_model.specs.Frame.{noFrame, row}
+use Rattle.bus_model.specs.Valid.{ValidFrame}
 use Rattle.bus_model.specs.Pattern.{ofNode}
 use Rattle.bus_model.specs.Bounds.{ahead}
 use Rattle.workload.specs.Grouped.{Fine, FineTable, FinePart, partOf, Grouped, InTable}
+
+-- They are those that the definitions ask for.
+pub of-fine : {g : Frame} → Fine g → ValidFrame g
+of-fine fine = record { period = fine .period-low; length = fine .length-low; node-low = fine .node-low; node-high = fine .node-high; offset = fine .offset }
 
 module _ (fs : List Frame) (table : FineTable fs) where
   -- Each frame of the table is.
