@@ -8,12 +8,15 @@ use bus_model::Choice;
 use bus_model::Frame;
 use workload::GROUP;
 use workload::NODES;
+ghost use mathlib.Core.Path.{_≡_};
 ghost use mathlib.Core.List.{List·Memᴰ as Mem};
-ghost use Prim.Native.Nat.{_+_, _<_};
+ghost use Prim.Native.Nat.{ℕ, _+_, _<_};
+ghost use Rattle.bus_model.specs.declared.Choice.the-variants.{Fixed};
 ghost use Rattle.bus_model.specs.Bounds.{alignments, orEmpty};
 ghost use Rattle.bus_model.specs.theory.Work.{Allows, RefinedBy};
 ghost use Rattle.workload.specs.Stored.{stored};
 ghost use Rattle.workload.specs.Grouped.{FineTable, Grouped};
+ghost use Rattle.workload.specs.Laid.{AllFixed};
 ghost use Rattle.greatest_work.specs.Kept.{Kept};
 
 // The alignment kept for node j + 1, or its first where none is kept yet.
@@ -61,6 +64,7 @@ fn guessed_choice(
     requires { ⌜ j < 16 ⌝ }
     requires { ⌜ Kept (stored (now frames)) k (now sums) ⌝ }
     ensures { λ r. ⌜ Allows (alignments (stored (now (frames .entry))) k (j + 1)) choice r ⌝ }
+    ensures fixed { λ r. ⌜ ((a : ℕ) × (r ≡ Fixed a)) ⌝ }
 {
     match choice {
         Choice::Fixed(a) => Choice::Fixed(a),
@@ -82,6 +86,7 @@ pub fn guessed(
     requires { ⌜ Grouped (stored (now frames)) k (now members) (now counts) (now ends) ⌝ }
     requires { ⌜ Kept (stored (now frames)) k (now sums) ⌝ }
     ensures { λ r. ⌜ RefinedBy (stored (now (frames .entry))) k choices r ⌝ }
+    ensures fixed { λ r. ⌜ AllFixed r ⌝ }
 {
     let mut fixed = choices;
     let mut j = 0;

@@ -1,14 +1,15 @@
 -- The frames that load a scenario, laid out for a search: each as if its node's alignment were at 0, so that its first release is its offset.
 use Prim.Native.Nat.{ℕ, _*_, _≤_}
+use mathlib.Core.Path.{_≡_}
 use mathlib.Core.List.{List, map, List·Memᴰ as Mem}
 use mathlib.Core.Bool.{Bool, true, false}
 use lib.ListN.{length}
-use Rattle.arith.specs.Lists.{sum, keep}
+use Rattle.arith.specs.Lists.{sum, keep, range}
 use Rattle.arith.specs.Releases.{releasesBefore}
 use Rattle.bus_model.specs.declared.Frame.{Frame}
 use Rattle.bus_model.specs.declared.Choice.{Choice}
 use Rattle.bus_model.specs.declared.Choice.the-variants.{Fixed, Any}
-use Rattle.bus_model.specs.Bounds.{isAhead, isBetter, distance, choiceOf}
+use Rattle.bus_model.specs.Bounds.{nodes, isAhead, isBetter, distance, choiceOf}
 use Rattle.workload.specs.Grouped.{Fine}
 
 -- whether a frame is one of those that load a start, the better ones, or a window, those ahead
@@ -35,6 +36,10 @@ laidDemand n g = g .length * releasesBefore (g .offset) (g .period) n
 
 unfoldable pub laidWork : List Frame → ℕ → ℕ
 laidWork gs n = sum (laidDemand n) gs
+
+-- every node's alignment is fixed
+abbrev pub AllFixed : List Choice → Type 0
+AllFixed cs = (j : ℕ) → Mem j (range 1 nodes) → (a : ℕ) × (choiceOf cs j ≡ Fixed a)
 
 -- frames within the limits that keep the sums small
 pub record FineFrames (gs : List Frame) : Type 0 where

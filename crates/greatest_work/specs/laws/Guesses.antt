@@ -13,27 +13,39 @@ use Rattle.bus_model.specs.declared.Choice.the-variants.{Fixed}
 use Rattle.bus_model.specs.Bounds.{nodes, alignments}
 use Rattle.bus_model.specs.theory.Work.{Allows, RefinedBy}
 use Rattle.workload.specs.Grouped.{Grouped}
+use Rattle.workload.specs.Laid.{AllFixed}
 use Rattle.workload.specs.laws.Groups.{lent-choice}
 
--- the choices of the first m nodes are allowed by those given
+-- the choices of the first m nodes are allowed by those given, and fixed
 pub record AllowedTo (fs : List Frame) (k : Frame) (cs cs′ : List Choice) (m : ℕ) : Type 0 where
   pub size : length cs′ ≡ 16
   pub each : (i : ℕ) → i < m → Allows (alignments fs k (i + 1)) (getD cs i (Fixed 0)) (getD cs′ i (Fixed 0))
+  pub fixed : (i : ℕ) → i < m → (a : ℕ) × (getD cs′ i (Fixed 0) ≡ Fixed a)
 
 module _ {fs : List Frame} {k : Frame} {cs cs′ : List Choice} {m : ℕ} (b : AllowedTo fs k cs cs′ m) where
   -- One more is put there.
-  pub allowed-put : m < 16 → (c : Choice) → Allows (alignments fs k (m + 1)) (getD cs m (Fixed 0)) c → AllowedTo fs k cs (set cs′ m c) (m + 1)
-  allowed-put l c is = record {
+  pub allowed-put : m < 16 → (c : Choice) → Allows (alignments fs k (m + 1)) (getD cs m (Fixed 0)) c → (a : ℕ) × (c ≡ Fixed a) → AllowedTo fs k cs (set cs′ m c) (m + 1)
+  allowed-put l c is at = record {
     size = length-set cs′ m c ∙ b .size;
     each = below-more _ _
         (λ i less. rw (getD-set-other cs′ m i c (Fixed 0) (omega arith)) (b .each i less))
         (rw (getD-set-same cs′ m c (Fixed 0) (omega (arith, b .size))) is);
+    fixed = below-more _ _
+        (λ i less. rw (getD-set-other cs′ m i c (Fixed 0) (omega arith)) (b .fixed i less))
+        (rw (getD-set-same cs′ m c (Fixed 0) (omega (arith, b .size))) at);
   }
 
-  -- At the end they refine the scenario.
+  -- At the end they refine the scenario,
   pub allowed-all : {members counts ends : List ℕ} → Grouped fs k members counts ends → 16 ≤ m → length cs ≡ 16 → RefinedBy fs k cs cs′
   allowed-all grouped over all j l =
       let (low, high) = of-range 1 nodes l in
       let node : j - 1 + 1 ≡ j = omega arith in
       let inside : j - 1 < 16 = omega arith in
       rw (lent-choice grouped (j - 1) inside cs all, lent-choice grouped (j - 1) inside cs′ (b .size), node) at (b .each (j - 1) (omega arith))
+
+  -- and every node's alignment is fixed.
+  pub fixed-all : {members counts ends : List ℕ} → Grouped fs k members counts ends → 16 ≤ m → AllFixed cs′
+  fixed-all grouped over j l =
+      let (low, high) = of-range 1 nodes l in
+      let node : j - 1 + 1 ≡ j = omega arith in
+      rw (lent-choice grouped (j - 1) (omega arith) cs′ (b .size), node) at (b .fixed (j - 1) (omega arith))

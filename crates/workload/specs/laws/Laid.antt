@@ -27,7 +27,7 @@ use Rattle.bus_model.specs.theory.Frames.{of-node}
 use Rattle.bus_model.specs.theory.Alignment.{distance-lt}
 use Rattle.workload.specs.Stored.{stored, putAt}
 use Rattle.workload.specs.Grouped.{Fine, FineTable}
-use Rattle.workload.specs.Laid.{isLoad, firstRelease, laidFrame, laidOut, laidDemand, laidWork, FineFrames}
+use Rattle.workload.specs.Laid.{isLoad, firstRelease, laidFrame, laidOut, laidDemand, laidWork, AllFixed, FineFrames}
 use Rattle.workload.specs.laws.Fine.{member-fine, of-fine}
 use Rattle.workload.specs.laws.Stored.{StoredTo, put-more, stored-all}
 
@@ -94,7 +94,7 @@ module _ (fs : List Frame) (k : Frame) (gs : List Frame) (fine : (g : Frame) →
   unfolding work
   above = rw (laid-nodes gs fine cs n) (sum-le (range 1 nodes) (λ j m. node-above j (choiceOf cs j)))
 
-  exact : ((j : ℕ) → Mem j (range 1 nodes) → (a : ℕ) × (choiceOf cs j ≡ Fixed a)) → work fs k gs cs n ≡ laidWork (map (laidFrame cs) gs) n
+  exact : AllFixed cs → work fs k gs cs n ≡ laidWork (map (laidFrame cs) gs) n
   unfolding work
   exact fixed = sum-same (range 1 nodes) (λ j m. node-exact j (fixed j m .1)) ∙ sym (laid-nodes gs fine cs n)
 
@@ -139,7 +139,7 @@ module _ {fs : List Frame} (table : FineTable fs) (k : Frame) (cs : List Choice)
   better-above n = above fs k (keep (isLoad true k) fs) (load-fine true) cs n
 
   -- and it is the work where every node's alignment is fixed, for a start and for a window.
-  module _ (fixed : (j : ℕ) → Mem j (range 1 nodes) → (a : ℕ) × (choiceOf cs j ≡ Fixed a)) (n : ℕ) where
+  module _ (fixed : AllFixed cs) (n : ℕ) where
     pub better-exact : work fs k (better fs k) cs n ≡ laidWork (laidOut fs k true cs) n
     unfolding better isLoad
     better-exact = exact fs k (keep (isLoad true k) fs) (load-fine true) cs n fixed

@@ -5,7 +5,7 @@ use native.Mathlib.Omega.{arith}
 use borrow.Author.Needs.{needs}
 use lib.ListN.{length}
 use Rattle.workload.specs.Stored.{stored}
-use Rattle.greatest_work.specs.laws.Guesses.{AllowedTo, allowed-put, allowed-all}
+use Rattle.greatest_work.specs.laws.Guesses.{AllowedTo, allowed-put, allowed-all, fixed-all}
 use Rattle.greatest_work.proofs.guesses.guessed.Statement.{statement}
 use Rattle.greatest_work.proofs.guesses.guessed.Tie as tie
 
@@ -16,7 +16,7 @@ abbrev μ-loop : tie.MeasureT-loop
 μ-loop frames members counts ends k sums choices fixed₀ j₀ fixed j = 16 - j
 
 loop-holds : tie.Need-loop-holds Inv-loop μ-loop
-loop-holds c = record { size = search needs; each = λ i l. absurd (omega arith) }
+loop-holds c = record { size = search needs; each = λ i l. absurd (omega arith); fixed = λ i l. absurd (omega arith) }
 
 mul-choice : tie.Need-mul-choice Inv-loop μ-loop
 mul-choice c = search needs
@@ -42,13 +42,13 @@ loop-less : tie.Need-loop-less Inv-loop μ-loop
 loop-less c = search needs
 
 loop-again : tie.Need-loop-again Inv-loop μ-loop
-loop-again c = allowed-put (c .before .before .before .loop .inv) (c .before .before .loop-test .taken) _ (c .guessed-choice .ensures)
+loop-again c = allowed-put (c .before .before .before .loop .inv) (c .before .before .loop-test .taken) _ (c .guessed-choice .ensures .0) (c .guessed-choice .ensures .1)
 
 returns : tie.Need-returns Inv-loop μ-loop
 returns c =
     let s = c .before .before .before .before .before .before .before in
     let size : length (s .args .t6) ≡ 16 = search needs in
-    allowed-all (c .before .loop .inv) (s .pre .1 .0) (c .loop-test .left) size
+    (allowed-all (c .before .loop .inv) (s .pre .1 .0) (c .loop-test .left) size, fixed-all (c .before .loop .inv) (s .pre .1 .0) (c .loop-test .left))
 
 pub guessed-spec : {M : Type 1} → statement M
 guessed-spec =

@@ -16,11 +16,11 @@ guess-requires c κs = search needs
 
 returns : tie.Need-returns
 unfolding Allows
-returns c = rw (c .before .choice .given .1) refl
+returns c = (rw (c .before .choice .given .1) refl, (_, refl))
 
 returns-2 : tie.Need-returns-2
 unfolding Allows
-returns-2 c = rw (c .before .enum-told .given .1) (c .guess .ensures)
+returns-2 c = (rw (c .before .enum-told .given .1) (c .guess .ensures), (_, refl))
 
 pub guessed-choice-spec : {M : Type 1} → statement M
 guessed-choice-spec =
