@@ -9,6 +9,7 @@ use Rattle.arith.specs.declared.Found.the-variants.{At, Nothing}
 use Rattle.bus_model.specs.declared.Frame.{Frame}
 use Rattle.bus_model.specs.declared.Choice.{Choice}
 use Rattle.bus_model.specs.Bounds.{ahead, better, work, busyWindow}
+use Rattle.workload.specs.Laid.{laidWork}
 
 -- base and the work up to x: of a start that of the better frames, with those released at x itself
 unfoldable pub loadOf : List Frame → Frame → List Choice → Bool → ℕ → ℕ → ℕ
@@ -19,6 +20,15 @@ loadOf fs k cs false base x = base + work fs k (ahead fs k) cs x
 unfoldable pub holds : List Frame → Frame → List Choice → Bool → ℕ → ℕ → Bool
 holds fs k cs delay base x = leb (loadOf fs k cs delay base x) x
 
+-- the same of frames laid out: x holds base and their work up to so many ticks after x
+unfoldable pub laidHolds : List Frame → ℕ → ℕ → ℕ → Bool
+laidHolds gs shift base x = leb (base + laidWork gs (x + shift)) x
+
+-- a start looks at the better frames released at x itself too
+unfoldable pub shiftOf : Bool → ℕ
+shiftOf true = 1
+shiftOf false = 0
+
 -- the latest start below the window's limit with a response of `most` at the most, of an instance of that length and release
 unfoldable pub latestStart : ℕ → ℕ → ℕ → Found
 latestStart most length released = cond (ltb (most + released) length) Nothing (At (min (most + released - length) 999999))
@@ -26,6 +36,10 @@ latestStart most length released = cond (ltb (most + released) length) Nothing (
 -- a start serves so many instances: it is no later than `latest`, and each of them may start there, where one more waits for one more length
 abbrev pub Serves : List Frame → Frame → List Choice → ℕ → ℕ → ℕ → ℕ → Type 0
 Serves fs k cs base latest start count = (i : ℕ) → i < count → (start ≤ latest) × T (holds fs k cs true (base + i * k .length) start)
+
+-- the same by the work of frames laid out, which is not below the load
+abbrev pub ServesLaid : List Frame → ℕ → ℕ → ℕ → ℕ → ℕ → Type 0
+ServesLaid gs length base latest start count = (i : ℕ) → i < count → (start ≤ latest) × (base + i * length + laidWork gs (start + 1) ≤ start)
 
 -- the scenario has a window, and it is not longer than that
 pub record WindowWithin (fs : List Frame) (k : Frame) (cs : List Choice) (limit : ℕ) : Type 0 where

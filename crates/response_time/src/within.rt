@@ -4,13 +4,17 @@ use crate::hints::recall;
 use crate::search::WINDOW_LIMIT;
 use crate::search::is_held;
 use crate::search::load;
-use crate::search::load_above;
 use arith::Found;
 use bus_model::Choice;
 use bus_model::Frame;
+use workload::FRAME;
+use workload::FRAMES;
 use workload::distance_from;
+use workload::laid_work;
+use workload::lay_out;
 use workload::releases_before;
 ghost use mathlib.Core.Path.{_≡_};
+ghost use mathlib.Core.Bool.{true};
 ghost use Prim.Native.Nat.{ℕ, _+_, _*_, _≤_, _<_};
 ghost use lib.Dec.{T};
 ghost use Rattle.arith.specs.declared.Found.the-variants.{At};
@@ -18,8 +22,9 @@ ghost use Rattle.bus_model.specs.declared.Choice.the-variants.{Fixed};
 ghost use Rattle.bus_model.specs.Bounds.{choiceOf, blocking, busyWindow, scenarioResponse};
 ghost use Rattle.workload.specs.Stored.{stored};
 ghost use Rattle.workload.specs.Grouped.{FineTable, Grouped, InTable};
+ghost use Rattle.workload.specs.Laid.{laidOut, FineFrames};
 ghost use Rattle.greatest_work.specs.Kept.{Kept};
-ghost use Rattle.response_time.specs.Load.{latestStart, WindowWithin, Serves};
+ghost use Rattle.response_time.specs.Load.{latestStart, WindowWithin, Serves, ServesLaid};
 
 // So many steps does a climb take that is only to save visits.
 const STEPS: usize = 16;
@@ -104,24 +109,11 @@ fn served_at(
     }
 }
 
-// Climbs from a number on with the bounds of the loads, which cost little: where a bound is held, so is the load.
-fn climb_above(
-    frames: &[u32],
-    members: &[u8],
-    counts: &[usize],
-    ends: &[u32],
-    k: Frame,
-    choices: [Choice; 16],
-    own: u32,
-    base: u64,
-    from: u32,
-    latest: u32,
-) -> Served
-    requires { ⌜ FineTable (stored (now frames)) ⌝ }
-    requires { ⌜ Grouped (stored (now frames)) k (now members) (now counts) (now ends) ⌝ }
-    requires { ⌜ InTable (stored (now frames)) k ⌝ }
-    requires { ⌜ (choiceOf choices (k .node) ≡ Fixed own) × (base ≤ 1000000000) × (latest ≤ 1000000) ⌝ }
-    ensures { λ r. ⌜ Serves (stored (now (frames .entry))) k choices base latest (r .start) (r .count) ⌝ }
+// Climbs from a number on by the work of frames laid out, which costs little: where a start holds that, it holds its load.
+fn climb_above(laid: &[u32], length: u32, base: u64, from: u32, latest: u32) -> Served
+    requires { ⌜ FineFrames (stored (now laid)) ⌝ }
+    requires { ⌜ (1 ≤ length) × (base ≤ 1000000000) × (latest ≤ 1000000) ⌝ }
+    ensures { λ r. ⌜ ServesLaid (stored (now (laid .entry))) length base latest (r .start) (r .count) ⌝ }
     ensures small { λ r. ⌜ r .count ≤ 1000001 ⌝ }
 {
     let mut x = from;
@@ -130,11 +122,11 @@ fn climb_above(
         if latest < x {
             return Served { start: 0, count: 0 };
         }
-        let needed = load_above(frames, members, counts, ends, k, choices, own, base, x);
+        let needed = base + laid_work(laid, x + 1);
         if needed <= x as u64 {
             return Served {
                 start: x,
-                count: count_served(needed, k.length, x),
+                count: count_served(needed, length, x),
             };
         }
         if (latest as u64) < needed {
@@ -197,8 +189,8 @@ fn served_like(
     Served { start: 0, count: 0 }
 }
 
-// A start by `latest`, as far as some that are tried tell. Where a node is open, the bounds of the loads are tried before the
-// loads themselves, for which all alignments are visited.
+// A start by `latest`, as far as some that are tried tell. Where a node is open, the work of the frames laid out is tried before
+// the loads themselves, for which all alignments are visited.
 fn served_by(
     frames: &[u32],
     members: &[u8],
@@ -211,6 +203,7 @@ fn served_by(
     from: u32,
     latest: u32,
     open: bool,
+    laid: &[u32],
     hints: &[u32],
     at: usize,
     sums: &mut [u64],
@@ -219,23 +212,13 @@ fn served_by(
     requires { ⌜ Grouped (stored (now frames)) k (now members) (now counts) (now ends) ⌝ }
     requires { ⌜ InTable (stored (now frames)) k ⌝ }
     requires { ⌜ (choiceOf choices (k .node) ≡ Fixed own) × (base ≤ 1000000000) × (latest ≤ 1000000) ⌝ }
+    requires { ⌜ stored (now laid) ≡ laidOut (stored (now frames)) k true choices ⌝ }
     requires { ⌜ Kept (stored (now frames)) k (now sums) ⌝ }
     ensures { λ r. ⌜ Serves (stored (now (frames .entry))) k choices base latest (r .start) (r .count) ⌝ }
     ensures small { λ r. ⌜ r .count ≤ 1000001 ⌝ }
     ensures kept { λ _. ⌜ Kept (stored (now (frames .entry))) k (now (sums .exit)) ⌝ }
 {
-    let last = climb_above(
-        frames,
-        members,
-        counts,
-        ends,
-        k,
-        choices,
-        own,
-        base,
-        latest,
-        latest,
-    );
+    let last = climb_above(laid, k.length, base, latest, latest);
     if 0 < last.count {
         return last;
     }
@@ -255,18 +238,7 @@ fn served_by(
             sums,
         );
     }
-    let climbed = climb_above(
-        frames,
-        members,
-        counts,
-        ends,
-        k,
-        choices,
-        own,
-        base,
-        from,
-        latest,
-    );
+    let climbed = climb_above(laid, k.length, base, from, latest);
     if 0 < climbed.count {
         return climbed;
     }
@@ -400,6 +372,8 @@ pub fn is_within(
         sums,
     );
     let releases = releases_before(d, k.period, l, 0);
+    let mut area = [0u32; FRAMES];
+    let to = FRAME * lay_out(frames, k, true, choices, &mut area);
     let mut from: u32 = 0;
     let mut q: u32 = 0;
     while q < releases {
@@ -421,6 +395,7 @@ pub fn is_within(
             from,
             latest,
             open,
+            &area[0..to],
             hints,
             at,
             sums,

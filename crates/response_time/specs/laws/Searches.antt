@@ -1,12 +1,13 @@
 -- The two searches of a scenario, as one loop computes them: the load of a number, what the loop may pass over,
 -- the busy window, and the instances of a window one after the other.
 use Prim.Native.Nat.{ℕ, suc, _+_, _-_, _*_, _≤_, _<_, max}
-use mathlib.Core.Path.{_≡_, refl, sym, ap, subst, _∙_}
+use mathlib.Core.Path.{_≡_, refl, sym, ap, subst, fun-ext, _∙_}
 use mathlib.Core.List.{List}
 use mathlib.Core.Bool.{Bool, true, false}
 use native.Mathlib.Omega.{arith}
+use native.Mathlib.Nat.{add-zero}
 use native.Mathlib.Numerals.{add-one}
-use lib.Dec.{T, leb→le, le→leb}
+use lib.Dec.{T, leb, leb→le, le→leb}
 use lib.ListN.{length}
 use Rattle.arith.specs.Lists.{greatest}
 use Rattle.arith.specs.Least.{least, orZero}
@@ -28,38 +29,81 @@ use Rattle.bus_model.specs.theory.Response.{window-at, window-least, own-distan
 use Rattle.bus_model.specs.theory.Iteration.{delay-next}
 use Rattle.bus_model.specs.theory.Refine.{own-kept}
 use Rattle.workload.specs.Grouped.{FineTable, InTable}
-use Rattle.response_time.specs.Load.{loadOf, holds}
+use Rattle.workload.specs.Laid.{laidOut, laidWork, AllFixed, FineFrames}
 use Rattle.workload.specs.laws.Fine.{in-table-fine}
+use Rattle.workload.specs.laws.Laid.{laid-mono, better-exact, ahead-exact}
+use Rattle.response_time.specs.Load.{loadOf, holds, laidHolds, shiftOf}
+
+-- ---- the search for a number that holds its load, where loads do not fall
+
+module _ (load : ℕ → ℕ) (mono : (x y : ℕ) → x ≤ y → load x ≤ load y) (e x : ℕ) {needed : ℕ} (is : needed ≡ load x) where
+  abbrev fits : ℕ → Bool
+  fits y = leb (load y) y
+
+  -- It stops at one.
+  pub stop-here : x < e → needed ≤ x → At x ≡ least fits (e - x) x
+  stop-here inside le = sym (least-here _ e x inside (le→leb _ x (rw is at le)))
+
+  -- Nothing below its load holds its own.
+  passed-over : (y : ℕ) → x ≤ y → y < needed → ¬ T (fits y)
+  passed-over y le less t = omega (arith, mono x y le, leb→le _ y t)
+
+  -- So the search goes on at the load,
+  pub skip-on : x < needed → needed ≤ e → least fits (e - x) x ≡ least fits (e - needed) needed
+  skip-on more inside = least-skip _ e x needed (omega arith) inside passed-over
+
+  -- and finds nothing where that is beyond its end.
+  pub stop-beyond : e ≤ needed → Nothing ≡ least fits (e - x) x
+  stop-beyond over = sym (least-none _ (e - x) x (λ y le less. passed-over y le (omega arith)))
+
+-- ---- that of a scenario
 
 module _ {fs : List Frame} (valid : Valid fs) (k : Frame) (cs : List Choice) where
-  -- ---- the load of a number
-
-  -- It does not fall.
-  load-mono : (delay : Bool) (base : ℕ) {x y : ℕ} → x ≤ y → loadOf fs k cs delay base x ≤ loadOf fs k cs delay base y
+  load-mono : (delay : Bool) (base x y : ℕ) → x ≤ y → loadOf fs k cs delay base x ≤ loadOf fs k cs delay base y
   unfolding loadOf
-  load-mono true base {x} {y} le = let later : suc x ≤ suc y = omega arith in omega (arith, work-mono later fs valid k (better-ahead fs k) cs)
-  load-mono false base le = omega (arith, work-mono le fs valid k (λ g m. m) cs)
-
-  -- ---- the search
+  load-mono true base x y le = let later : suc x ≤ suc y = omega arith in omega (arith, work-mono later fs valid k (better-ahead fs k) cs)
+  load-mono false base x y le = omega (arith, work-mono le fs valid k (λ g m. m) cs)
 
   module _ (delay : Bool) (base e x : ℕ) {needed : ℕ} (is : needed ≡ loadOf fs k cs delay base x) where
-    -- It stops at a number that holds its load.
     pub climb-here : x < e → needed ≤ x → At x ≡ least (holds fs k cs delay base) (e - x) x
     unfolding holds
-    climb-here inside fits = sym (least-here _ e x inside (le→leb _ x (rw is at fits)))
+    climb-here = stop-here (loadOf fs k cs delay base) (load-mono delay base) e x is
 
-    -- Nothing below its load holds its own.
-    passed-over : (y : ℕ) → x ≤ y → y < needed → ¬ T (holds fs k cs delay base y)
-    unfolding holds
-    passed-over y le less t = omega (arith, load-mono delay base le, leb→le _ y t)
-
-    -- So the search goes on at the load,
     pub climb-skip : x < needed → needed ≤ e → least (holds fs k cs delay base) (e - x) x ≡ least (holds fs k cs delay base) (e - needed) needed
-    climb-skip more inside = least-skip _ e x needed (omega arith) inside passed-over
+    unfolding holds
+    climb-skip = skip-on (loadOf fs k cs delay base) (load-mono delay base) e x is
 
-    -- and finds nothing where that is beyond its end.
     pub climb-beyond : e ≤ needed → Nothing ≡ least (holds fs k cs delay base) (e - x) x
-    climb-beyond over = sym (least-none _ (e - x) x (λ y le less. passed-over y le (omega arith)))
+    unfolding holds
+    climb-beyond = stop-beyond (loadOf fs k cs delay base) (load-mono delay base) e x is
+
+-- ---- that of frames laid out
+
+module _ {gs : List Frame} (fine : FineFrames gs) (shift base e x : ℕ) {needed : ℕ} (is : needed ≡ base + laidWork gs (x + shift)) where
+  laid-load-mono : (x y : ℕ) → x ≤ y → base + laidWork gs (x + shift) ≤ base + laidWork gs (y + shift)
+  laid-load-mono x y le = let later : x + shift ≤ y + shift = omega arith in omega (arith, laid-mono fine later)
+
+  pub laid-here : x < e → needed ≤ x → At x ≡ least (laidHolds gs shift base) (e - x) x
+  unfolding laidHolds
+  laid-here = stop-here (λ y. base + laidWork gs (y + shift)) laid-load-mono e x is
+
+  pub laid-skip : x < needed → needed ≤ e → least (laidHolds gs shift base) (e - x) x ≡ least (laidHolds gs shift base) (e - needed) needed
+  unfolding laidHolds
+  laid-skip = skip-on (λ y. base + laidWork gs (y + shift)) laid-load-mono e x is
+
+  pub laid-beyond : e ≤ needed → Nothing ≡ least (laidHolds gs shift base) (e - x) x
+  unfolding laidHolds
+  laid-beyond = stop-beyond (λ y. base + laidWork gs (y + shift)) laid-load-mono e x is
+
+-- Where every node's alignment is fixed, the frames laid out hold what the scenario holds.
+module _ {fs : List Frame} (table : FineTable fs) (k : Frame) (cs : List Choice) (fixed : AllFixed cs) (base : ℕ) where
+  holds-laid : (delay : Bool) → laidHolds (laidOut fs k delay cs) (shiftOf delay) base ≡ holds fs k cs delay base
+  unfolding laidHolds holds loadOf shiftOf
+  holds-laid true = fun-ext (λ x. rw (better-exact table k cs fixed (suc x), ← add-one x))
+  holds-laid false = fun-ext (λ x. rw (ahead-exact table k cs fixed x, add-zero x))
+
+  pub laid-search : (delay : Bool) {gs : List Frame} {shift : ℕ} → gs ≡ laidOut fs k delay cs → shift ≡ shiftOf delay → laidHolds gs shift base ≡ holds fs k cs delay base
+  laid-search delay is by = rw (is, by) (holds-laid delay)
 
 -- ---- the search by a scenario that refines the one at hand
 

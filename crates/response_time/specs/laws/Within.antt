@@ -5,6 +5,7 @@ use mathlib.Core.List.{List}
 use mathlib.Core.Bool.{Bool, true, false, cond}
 use native.Mathlib.Omega.{arith}
 use native.Mathlib.Nat.{mul-le-mul-left, mul-le-mul-right, le-mul-of-pos-right, add-mul}
+use native.Mathlib.Numerals.{add-one}
 use native.Mathlib.Decide.{decLt}
 use borrow.Author.Tests.{ltb-false}
 use lib.Dec.{T, ltb, leb→le, le→leb}
@@ -21,7 +22,9 @@ use Rattle.bus_model.specs.Bounds.{windowLimit, blocking, distance, choiceOf, d
 use Rattle.bus_model.specs.theory.Response.{response-at, own-distance, delay-found}
 use Rattle.bus_model.specs.theory.Approximate.{both, scenarioFound, found-at}
 use Rattle.workload.specs.Grouped.{FineTable, InTable}
-use Rattle.response_time.specs.Load.{loadOf, holds, latestStart, WindowWithin, Serves}
+use Rattle.workload.specs.Laid.{laidOut}
+use Rattle.workload.specs.laws.Laid.{better-above}
+use Rattle.response_time.specs.Load.{loadOf, holds, latestStart, WindowWithin, Serves, ServesLaid}
 use Rattle.workload.specs.laws.Fine.{in-table-fine}
 use Rattle.workload.specs.laws.Groups.{blocking-small}
 
@@ -43,6 +46,14 @@ pub serves : (fs : List Frame) (k : Frame) (cs : List Choice) (base x : ℕ) {ne
     → ((i : ℕ) → i < count → needed + i * k .length ≤ x) → x ≤ latest → Serves fs k cs base latest x count
 unfolding holds loadOf
 serves fs k cs base x le each inside i less = (inside, le→leb _ x (omega (arith, each i less)))
+
+-- So it does by the work of frames laid out.
+pub serves-laid : {fs : List Frame} → FineTable fs → (k : Frame) (cs : List Choice) (base : ℕ) {latest start count : ℕ} → {gs : List Frame} → gs ≡ laidOut fs k true cs
+    → ServesLaid gs (k .length) base latest start count → Serves fs k cs base latest start count
+unfolding holds loadOf
+serves-laid table k cs base {start = start} is served i less =
+    let (inside, le) = served i less in
+    (inside, le→leb _ start (rw (← add-one start) (omega (arith, rw is at le, better-above table k cs (start + 1)))))
 
 -- What an instance released in the first million ticks waits for at least, its release and its number are small.
 pub instance-fits : {fs : List Frame} {k : Frame} → FineTable fs → InTable fs k → (d : ℕ) {blocked l q instances : ℕ} → blocked ≡ blocking fs k
