@@ -6,17 +6,19 @@ use bus_model::Frame;
 use response_time::or_zero;
 use workload::GROUP;
 use workload::NODES;
-use workload::most_work;
+use workload::frame_at;
+use workload::index;
 ghost use mathlib.Core.Path.{_≡_};
 ghost use Prim.Native.Nat.{_-_, _≤_, _<_};
 ghost use lib.ListN.{set};
+ghost use Rattle.arith.specs.Lists.{sum};
 ghost use Rattle.arith.specs.Least.{least};
 ghost use Rattle.bus_model.specs.declared.Choice.the-variants.{Fixed};
 ghost use Rattle.bus_model.specs.Pattern.{ofNode, hyperperiod};
 ghost use Rattle.bus_model.specs.theory.Refine.{nodeAt};
 ghost use Rattle.bus_model.specs.theory.Visits.{isAlignment};
 ghost use Rattle.workload.specs.Stored.{stored};
-ghost use Rattle.workload.specs.Grouped.{Grouped, InTable, FineTable};
+ghost use Rattle.workload.specs.Grouped.{FinePart, Grouped, InTable, FineTable, framesIn};
 
 // The choices with the alignment of one node more.
 pub fn with_choice(choices: [Choice; 16], node: usize, a: u32) -> [Choice; 16]
@@ -87,8 +89,22 @@ pub fn has_later(
     }
 }
 
+// The lengths of the frames in some rows together.
+fn total_length(frames: &[u32], part: &[u8]) -> u32
+    requires { ⌜ FinePart (stored (now frames)) (now part) ⌝ }
+    ensures { λ r. ⌜ r ≡ sum (λ g. g .length) (framesIn (stored (now (frames .entry))) (now (part .entry))) ⌝ }
+{
+    let mut total: u32 = 0;
+    let mut i = 0;
+    while i < part.len() {
+        total += frame_at(frames, index(part[i])).length;
+        i += 1;
+    }
+    total
+}
+
 // The lengths of node j's frames ahead together, and 0 where it has one alignment. Nothing depends on it.
-fn weight(frames: &[u32], members: &[u8], counts: &[usize], ends: &[u32], k: Frame, j: usize) -> u64
+fn weight(frames: &[u32], members: &[u8], counts: &[usize], ends: &[u32], k: Frame, j: usize) -> u32
     requires { ⌜ FineTable (stored (now frames)) ⌝ }
     requires { ⌜ Grouped (stored (now frames)) k (now members) (now counts) (now ends) ⌝ }
     requires { ⌜ (1 ≤ j) × (j ≤ 16) ⌝ }
@@ -100,7 +116,7 @@ fn weight(frames: &[u32], members: &[u8], counts: &[usize], ends: &[u32], k: Fra
     let at = j - 1;
     let from = GROUP * at;
     let to = from + counts[at];
-    most_work(frames, &members[from..to], 1)
+    total_length(frames, &members[from..to])
 }
 
 // The level whose node has the greatest weight: left open, it may be bounded worst. Nothing depends on which it is.
@@ -110,7 +126,7 @@ pub fn heaviest(frames: &[u32], members: &[u8], counts: &[usize], ends: &[u32], 
     requires { ⌜ InTable (stored (now frames)) k ⌝ }
 {
     let mut best = 0;
-    let mut most: u64 = 0;
+    let mut most: u32 = 0;
     let mut i = 1;
     while i < NODES {
         let weighed = weight(frames, members, counts, ends, k, node_at(k, i));

@@ -2,5 +2,4 @@
 pub mod Stored
 pub mod Fine
 pub mod Groups
-pub mod Above
 pub mod Laid

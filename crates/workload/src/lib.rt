@@ -1,13 +1,11 @@
-// The work that the frames ahead of one bring at fixed alignments, node by node, over the frames of an accepted table.
-mod above;
+// The work that the frames ahead of one bring at fixed alignments, over the frames of an accepted table: node by node, or laid out for
+// a search.
 mod blocking;
 mod groups;
 mod laid;
 mod stored;
 mod work;
 
-pub use above::most_work;
-pub use above::whole_above;
 pub use blocking::frame_blocking;
 pub use groups::GROUP;
 pub use groups::MEMBERS;

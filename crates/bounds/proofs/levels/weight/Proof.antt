@@ -36,17 +36,17 @@ shared-slice-read-to c = search needs
 add-to : tie.Need-add-to
 add-to c = let s = c .before .before .before .before .before .before .before .before .before in omega (arith, lent-inside (s .pre .1 .0) (s .args .j - 1) (omega arith), s .pre .1 .0 .members-size)
 
-sub-most-work : tie.Need-sub-most-work
-sub-most-work c = search needs
+sub-total-length : tie.Need-sub-total-length
+sub-total-length c = search needs
 
-part-most-work-start : tie.Need-part-most-work-start
-part-most-work-start c = search needs
+part-total-length-start : tie.Need-part-total-length-start
+part-total-length-start c = search needs
 
-part-most-work-end : tie.Need-part-most-work-end
-part-most-work-end c = let s = c .before .before .before .before .before .before .before .before .before in lent-inside (s .pre .1 .0) (s .args .j - 1) (omega arith)
+part-total-length-end : tie.Need-part-total-length-end
+part-total-length-end c = let s = c .before .before .before .before .before .before .before .before .before in lent-inside (s .pre .1 .0) (s .args .j - 1) (omega arith)
 
-most-work-requires : tie.Need-most-work-requires
-most-work-requires c κs = let s = c .before .before .before .before .before .before .before .before .before .before in (lent-fine (s .pre .1 .0) (s .args .j - 1) (omega arith) (s .pre .0) .0, omega arith)
+total-length-requires : tie.Need-total-length-requires
+total-length-requires c κs = let s = c .before .before .before .before .before .before .before .before .before .before in lent-fine (s .pre .1 .0) (s .args .j - 1) (omega arith) (s .pre .0) .0
 
 returns-2 : tie.Need-returns-2
 returns-2 c = search needs
@@ -64,8 +64,8 @@ weight-spec =
     mul-to
     shared-slice-read-to
     add-to
-    sub-most-work
-    part-most-work-start
-    part-most-work-end
-    most-work-requires
+    sub-total-length
+    part-total-length-start
+    part-total-length-end
+    total-length-requires
     returns-2)
