@@ -6,8 +6,8 @@ use Rattle.decimal.specs.Decimal.{writeColumn, writeSigned}
 use Rattle.bus_model.specs.declared.Judgement.{Judgement}
 use Rattle.bus_model.specs.Frame.{row}
 use Rattle.bus_model.specs.Judgement.{verdict, judge}
-use Rattle.frame_table.specs.Columns.{field}
-use Rattle.frame_table.specs.Frames.{framesOf}
+use Rattle.table_checks.specs.Columns.{field}
+use Rattle.table_checks.specs.Frames.{framesOf}
 use Rattle.row_judgement.specs.Judge.{claimOf}
 
 -- identifier (10), verdict (3), bound (8), margin (9), and a line feed

@@ -20,7 +20,7 @@ ghost use Rattle.certifier.specs.Steps.{Encodable};
 pub extern "C" fn certifier_judge(table: &[u8], row: u64) -> i64
     ensures { λ r. ⌜ r ≡ encodeJudged (judgeFile (now (table .entry)) row) ⌝ }
 {
-    let mut rows = [0u32; frame_table::MOST_NUMBERS];
+    let mut rows = [0u32; table_checks::MOST_NUMBERS];
     let answer = frame_table::read(table, &mut rows);
     match answer {
         Answer::Refused(refusal) => encode_refusal(of_table(refusal)),
@@ -33,7 +33,7 @@ pub extern "C" fn certifier_judge(table: &[u8], row: u64) -> i64
 pub extern "C" fn certifier_precise_bound(table: &[u8], row: u64) -> i64
     ensures { λ r. ⌜ r ≡ encodeBounded (boundFile (now (table .entry)) row) ⌝ }
 {
-    let mut rows = [0u32; frame_table::MOST_NUMBERS];
+    let mut rows = [0u32; table_checks::MOST_NUMBERS];
     let answer = frame_table::read(table, &mut rows);
     match answer {
         Answer::Refused(refusal) => encode_refusal(of_table(refusal)),

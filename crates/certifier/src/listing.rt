@@ -1,15 +1,16 @@
 // The listing of a table: a line a row, in table order.
 use bus_model::Judgement;
 use frame_table::Answer;
-use frame_table::Cause;
-use frame_table::Refusal;
+use table_checks::Cause;
+use table_checks::Refusal;
 ghost use mathlib.Core.Path.{_≡_};
 ghost use Prim.Native.Nat.{_*_, _/_, _<_, _≤_};
 ghost use mathlib.Core.List.{_++_};
 ghost use lib.ListN.{length, drop};
+ghost use Rattle.table_checks.specs.Checks.{Accepted};
+ghost use Rattle.table_checks.specs.declared.Checked.the-variants.{Passed};
 ghost use Rattle.frame_table.specs.Text.{fieldsOf};
-ghost use Rattle.frame_table.specs.Table.{Accepted, readCheck, answerFor, areaAfter};
-ghost use Rattle.frame_table.specs.declared.Checked.the-variants.{Passed};
+ghost use Rattle.frame_table.specs.Table.{readCheck, answerFor, areaAfter};
 ghost use Rattle.certifier.specs.Listing.{listingLine, lineOf, linesFrom, listingOf};
 
 // The characters of a line with its line feed.
@@ -22,7 +23,7 @@ pub fn list(file: &[u8], out: &mut [u8]) -> Answer
     ensures { λ r. ⌜ r ≡ answerFor (readCheck (now (file .entry))) (listingOf (fieldsOf (now (file .entry)))) (now (out .entry)) ⌝ }
     ensures { λ r. ⌜ now (out .exit) ≡ areaAfter r (listingOf (fieldsOf (now (file .entry)))) (now (out .entry)) ⌝ }
 {
-    let mut rows = [0u32; frame_table::MOST_NUMBERS];
+    let mut rows = [0u32; table_checks::MOST_NUMBERS];
     let answer = frame_table::read(file, &mut rows);
     match answer {
         Answer::Refused(_) => answer,
@@ -36,7 +37,7 @@ fn list_rows(rows: &[u32], out: &mut [u8]) -> Answer
     ensures { λ r. ⌜ r ≡ answerFor Passed (listingOf (now (rows .entry))) (now (out .entry)) ⌝ }
     ensures { λ r. ⌜ now (out .exit) ≡ areaAfter r (listingOf (now (rows .entry))) (now (out .entry)) ⌝ }
 {
-    let lines = rows.len() / frame_table::ROW;
+    let lines = rows.len() / table_checks::ROW;
     if out.len() < LINE * lines {
         return Answer::Refused(Refusal {
             cause: Cause::OutputArea,
@@ -69,7 +70,7 @@ fn write_row(rows: &[u32], i: usize, line: &mut [u8])
     ensures { λ _. ⌜ now (line .exit) ≡ lineOf (now (rows .entry)) i ⌝ }
 {
     let judgement = row_judgement::judge_row(rows, i);
-    write_line(rows[frame_table::ROW * i + 1], judgement, line);
+    write_line(rows[table_checks::ROW * i + 1], judgement, line);
 }
 
 // Writes identifier, verdict, bound and margin, and a line feed.

@@ -8,8 +8,8 @@ use lib.Dec.{eqb}
 use Rattle.decimal.specs.declared.Column.{Column}
 use Rattle.decimal.specs.declared.Column.the-variants.{Value, Broken}
 use Rattle.decimal.specs.Decimal.{readColumn, writeColumn}
-use Rattle.frame_table.specs.Columns.{widthOf, startOf}
-use Rattle.frame_table.specs.Checks.{malformed, unterminated}
+use Rattle.table_checks.specs.Columns.{widthOf, startOf}
+use Rattle.table_checks.specs.Checks.{malformed, unterminated}
 
 -- ---- from a file
 

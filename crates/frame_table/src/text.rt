@@ -1,24 +1,20 @@
 // The text form of a table: lines of seven columns and a line feed.
-use crate::LINE;
-use crate::ROW;
+use table_checks::LINE;
+use table_checks::MALFORMED;
+use table_checks::ROW;
+use table_checks::UNTERMINATED;
 ghost use mathlib.Core.Path.{_≡_};
 ghost use Prim.Native.Nat.{_+_, _*_, _<_, _≤_};
 ghost use mathlib.Core.List.{_++_};
 ghost use lib.ListN.{length, take, drop};
 ghost use Rattle.decimal.specs.Decimal.{readColumn};
-ghost use Rattle.frame_table.specs.Columns.{startOf};
+ghost use Rattle.table_checks.specs.Columns.{startOf};
 ghost use Rattle.frame_table.specs.Text.{fieldOf, columnAt, fieldAt, fieldsFrom, lineOf, linesFrom};
 
 // Where each column starts, and at 7 the line feed.
 const STARTS: [usize; 8] = [0, 3, 13, 16, 18, 26, 34, 42];
 
 const LINE_FEED: u8 = 10;
-
-// What stands for a column that breaks the notation, and for the first field of a line that does not
-// end in a line feed: above all numbers of a column.
-pub const MALFORMED: u64 = 1_000_000_000_000_000_000;
-
-pub const UNTERMINATED: u64 = 1_000_000_000_000_000_001;
 
 fn start(j: usize) -> usize
     requires { ⌜ j < 8 ⌝ }
@@ -78,7 +74,7 @@ fn write_line(rows: &[u32], i: usize, line: &mut [u8])
     while j < ROW {
         let from = start(j);
         let to = start(j + 1);
-        let value = crate::wide(rows[ROW * i + j]);
+        let value = table_checks::wide(rows[ROW * i + j]);
         decimal::write(&mut line[from..to], value);
         j += 1;
     }

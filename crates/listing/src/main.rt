@@ -2,8 +2,8 @@
 // place of the refusal. A table of any length is judged by its true length, though no more is held of it than an
 // accepted one can have. Where standard input cannot be read, nothing is judged, and standard error says so.
 use frame_table::Answer;
-use frame_table::Checked;
-use frame_table::Refusal;
+use table_checks::Checked;
+use table_checks::Refusal;
 
 // More than the longest accepted table.
 const BUFFER: usize = 4096;
@@ -106,7 +106,7 @@ fn print_listing(file: &[u8]) {
 
 // Prints the refusal of a table by its length alone.
 fn print_length(size: usize) {
-    let checked = frame_table::check_length(size);
+    let checked = table_checks::check_length(size);
     if let Checked::Failed(refusal) = checked {
         print_refusal(refusal);
     }
@@ -116,7 +116,7 @@ fn print_length(size: usize) {
 fn print_refusal(refusal: Refusal) {
     let cause = refusal.cause;
     let mut number = [0u8; 3];
-    decimal::write(&mut number, frame_table::number(cause) as u64);
+    decimal::write(&mut number, table_checks::number(cause) as u64);
     io::write_all(1, &number);
     let mut place = [0u8; 6];
     decimal::write(&mut place, refusal.place as u64);

@@ -9,11 +9,11 @@ use Rattle.bus_model.specs.declared.Frame.{Frame}
 use Rattle.bus_model.specs.Frame.{row}
 use Rattle.bus_model.specs.Bounds.{preciseBound}
 use Rattle.bus_model.specs.Judgement.{lacksWindow, tooManyScenarios, certifies, judge}
-use Rattle.frame_table.specs.declared.Checked.{Checked}
-use Rattle.frame_table.specs.declared.Checked.the-variants.{Passed, Failed}
-use Rattle.frame_table.specs.Columns.{field}
-use Rattle.frame_table.specs.Frames.{framesOf}
-use Rattle.frame_table.specs.Table.{rowsCheck}
+use Rattle.table_checks.specs.declared.Checked.{Checked}
+use Rattle.table_checks.specs.declared.Checked.the-variants.{Passed, Failed}
+use Rattle.table_checks.specs.Columns.{field}
+use Rattle.table_checks.specs.Frames.{framesOf}
+use Rattle.table_checks.specs.Checks.{rowsCheck}
 use Rattle.row_judgement.specs.declared.Cause.the-variants.{NoSuchRow, NoWindow, TooManyScenarios}
 use Rattle.row_judgement.specs.declared.Judged.{Judged}
 use Rattle.row_judgement.specs.declared.Judged.the-variants.{Verdict, NotJudged}

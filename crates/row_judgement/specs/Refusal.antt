@@ -1,7 +1,7 @@
 -- The numbers of the causes (document 01, "Where a call is turned back").
 use Prim.Native.Nat.{ℕ}
-use Rattle.frame_table.specs.declared.Refusal.{Refusal as TableRefusal}
-use Rattle.frame_table.specs.Refusal.{numberOf as tableNumberOf}
+use Rattle.table_checks.specs.declared.Refusal.{Refusal as TableRefusal}
+use Rattle.table_checks.specs.Refusal.{numberOf as tableNumberOf}
 use Rattle.row_judgement.specs.declared.Cause.{Cause}
 use Rattle.row_judgement.specs.declared.Cause.the-variants.{Table, NoSuchRow, NoWindow, TooManyScenarios}
 use Rattle.row_judgement.specs.declared.Refusal.{Refusal}

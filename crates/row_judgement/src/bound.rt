@@ -6,13 +6,13 @@ use crate::frames::store;
 use crate::of_table;
 use arith::Found;
 use bus_model::Frame;
-use frame_table::Checked;
+use table_checks::Checked;
 ghost use mathlib.Core.Path.{_≡_};
 ghost use Prim.Native.Nat.{_≤_, _<_};
 ghost use lib.ListN.{length, take};
 ghost use Rattle.bus_model.specs.Frame.{row};
-ghost use Rattle.frame_table.specs.Frames.{framesOf};
-ghost use Rattle.frame_table.specs.Table.{Accepted};
+ghost use Rattle.table_checks.specs.Frames.{framesOf};
+ghost use Rattle.table_checks.specs.Checks.{Accepted};
 ghost use Rattle.workload.specs.Stored.{stored};
 ghost use Rattle.greatest_work.specs.Kept.{Kept};
 ghost use Rattle.workload.specs.Grouped.{FineTable, Grouped};
@@ -22,11 +22,11 @@ ghost use Rattle.row_judgement.specs.Judge.{boundFrame, boundRow};
 pub fn precise_bound(rows: &[u32], row: u64) -> Bounded
     ensures { λ r. ⌜ r ≡ boundRow (now (rows .entry)) row ⌝ }
 {
-    let checked = frame_table::check(rows);
+    let checked = table_checks::check(rows);
     match checked {
         Checked::Failed(refusal) => Bounded::NotBounded(of_table(refusal)),
         Checked::Passed => {
-            if (rows.len() / frame_table::ROW) as u64 <= row {
+            if (rows.len() / table_checks::ROW) as u64 <= row {
                 return Bounded::NotBounded(Refusal {
                     cause: Cause::NoSuchRow,
                     place: 0,
@@ -43,10 +43,10 @@ fn bound_row(rows: &[u32], i: usize) -> Bounded
     requires { ⌜ i < length (framesOf (now rows)) ⌝ }
     ensures { λ r. ⌜ r ≡ boundFrame (framesOf (now (rows .entry))) i ⌝ }
 {
-    let k = frame_table::frame(rows, i);
+    let k = table_checks::frame(rows, i);
     let mut frames = [0u32; workload::FRAMES];
     store(rows, &mut frames);
-    let used = workload::FRAME * (rows.len() / frame_table::ROW);
+    let used = workload::FRAME * (rows.len() / table_checks::ROW);
     bound_stored(&frames, used, k, i)
 }
 

@@ -2,8 +2,8 @@
 ghost use mathlib.Core.Path.{_≡_};
 ghost use Prim.Native.Nat.{_*_, _/_};
 ghost use lib.ListN.{length, take};
-ghost use Rattle.frame_table.specs.Frames.{framesOf};
-ghost use Rattle.frame_table.specs.Table.{Accepted};
+ghost use Rattle.table_checks.specs.Frames.{framesOf};
+ghost use Rattle.table_checks.specs.Checks.{Accepted};
 ghost use Rattle.workload.specs.Stored.{stored};
 
 // Puts the frames of an accepted table into an area.
@@ -12,8 +12,8 @@ pub fn store(rows: &[u32], frames: &mut [u32])
     ensures { λ _. ⌜ stored (take (6 * (length (now (rows .entry)) / 7)) (now (frames .exit))) ≡ framesOf (now (rows .entry)) ⌝ }
 {
     let mut i = 0;
-    while i < rows.len() / frame_table::ROW {
-        workload::put(frames, i, frame_table::frame(rows, i));
+    while i < rows.len() / table_checks::ROW {
+        workload::put(frames, i, table_checks::frame(rows, i));
         i += 1;
     }
 }

@@ -8,7 +8,7 @@ use arith::Found;
 use bus_model::Frame;
 use bus_model::Judgement;
 use bus_model::Outcome;
-use frame_table::Checked;
+use table_checks::Checked;
 ghost use mathlib.Core.Path.{_≡_};
 ghost use Prim.Native.Nat.{_≤_, _<_};
 ghost use lib.Dec.{T};
@@ -17,8 +17,8 @@ ghost use lib.ListN.{length, take};
 ghost use Rattle.bus_model.specs.Frame.{row};
 ghost use Rattle.bus_model.specs.Bus.{MeetsClaim};
 ghost use Rattle.bus_model.specs.Judgement.{verdict, judge};
-ghost use Rattle.frame_table.specs.Frames.{framesOf};
-ghost use Rattle.frame_table.specs.Table.{Accepted};
+ghost use Rattle.table_checks.specs.Frames.{framesOf};
+ghost use Rattle.table_checks.specs.Checks.{Accepted};
 ghost use Rattle.workload.specs.Stored.{stored};
 ghost use Rattle.greatest_work.specs.Kept.{Kept};
 ghost use Rattle.workload.specs.Grouped.{FineTable, Grouped, InTable};
@@ -29,11 +29,11 @@ pub fn judge(rows: &[u32], row: u64) -> Judged
     ensures { λ r. ⌜ r ≡ judgeRow (now (rows .entry)) row ⌝ }
     ensures never_late { λ r. ⌜ (T (certified r) → MeetsClaim (framesOf (now (rows .entry))) row (claimOf (now (rows .entry)) row)) ⌝ }
 {
-    let checked = frame_table::check(rows);
+    let checked = table_checks::check(rows);
     match checked {
         Checked::Failed(refusal) => Judged::NotJudged(of_table(refusal)),
         Checked::Passed => {
-            if (rows.len() / frame_table::ROW) as u64 <= row {
+            if (rows.len() / table_checks::ROW) as u64 <= row {
                 return Judged::NotJudged(Refusal {
                     cause: Cause::NoSuchRow,
                     place: 0,
@@ -50,11 +50,11 @@ pub fn judge_row(rows: &[u32], i: usize) -> Judgement
     requires { ⌜ i < length (framesOf (now rows)) ⌝ }
     ensures { λ r. ⌜ r ≡ judge (framesOf (now (rows .entry))) (row (framesOf (now (rows .entry))) i) (claimOf (now (rows .entry)) i) ⌝ }
 {
-    let k = frame_table::frame(rows, i);
-    let claim = rows[frame_table::ROW * i + 6];
+    let k = table_checks::frame(rows, i);
+    let claim = rows[table_checks::ROW * i + 6];
     let mut frames = [0u32; workload::FRAMES];
     store(rows, &mut frames);
-    let used = workload::FRAME * (rows.len() / frame_table::ROW);
+    let used = workload::FRAME * (rows.len() / table_checks::ROW);
     judge_stored(&frames, used, k, claim)
 }
 

@@ -13,7 +13,7 @@ ghost use Rattle.row_judgement.specs.Refusal.{numberOf, ofTable};
 // Why a call is turned back.
 pub enum Cause {
     // The table's own checks, and an output area that is too short.
-    Table(frame_table::Cause),
+    Table(table_checks::Cause),
     NoSuchRow,
     // For some alignment of the row's node the approximate bound has no busy window.
     NoWindow,
@@ -43,7 +43,7 @@ pub fn number(cause: Cause) -> u32
     ensures { λ r. ⌜ r ≡ numberOf cause ⌝ }
 {
     match cause {
-        Cause::Table(table) => frame_table::number(table),
+        Cause::Table(table) => table_checks::number(table),
         Cause::NoSuchRow => 9,
         Cause::NoWindow => 11,
         Cause::TooManyScenarios => 12,
@@ -51,7 +51,7 @@ pub fn number(cause: Cause) -> u32
 }
 
 // A refusal of the table, as one of these.
-pub fn of_table(refusal: frame_table::Refusal) -> Refusal
+pub fn of_table(refusal: table_checks::Refusal) -> Refusal
     ensures { λ r. ⌜ r ≡ ofTable refusal ⌝ }
 {
     let cause = refusal.cause;

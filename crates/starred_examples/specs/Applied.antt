@@ -9,9 +9,9 @@ use Rattle.bus_model.specs.Bus.{Transmission, Schedule, MeetsClaim}
 use Rattle.bus_model.specs.Judgement.{certifies}
 use Rattle.bus_model.specs.theory.Judged.{certified-meets}
 use Rattle.bus_model.specs.theory.Existence.{longest-schedule}
-use Rattle.frame_table.specs.Frames.{framesOf}
-use Rattle.frame_table.specs.Table.{Accepted}
-use Rattle.frame_table.specs.laws.Accepted.{accepted-valid}
+use Rattle.table_checks.specs.Frames.{framesOf}
+use Rattle.table_checks.specs.Checks.{Accepted}
+use Rattle.table_checks.specs.laws.Accepted.{accepted-valid}
 use Rattle.starred_examples.specs.Compute.{everything}
 use Rattle.starred_examples.specs.Cases.{listing}
 

@@ -12,10 +12,10 @@ use Rattle.bus_model.specs.Pattern.{ofNode, patternReleases}
 use Rattle.bus_model.specs.Bounds.{approximateBound, preciseBound, scenarioCount}
 use Rattle.bus_model.specs.Judgement.{tooManyScenarios, judge, verdict}
 use Rattle.bus_model.specs.theory.Overload.{overloaded-judged}
-use Rattle.frame_table.specs.Frames.{framesOf}
-use Rattle.frame_table.specs.Refusal.{checkReturns}
-use Rattle.frame_table.specs.Table.{rowsCheck}
-use Rattle.frame_table.specs.laws.Accepted.{accepted-valid}
+use Rattle.table_checks.specs.Frames.{framesOf}
+use Rattle.table_checks.specs.Refusal.{checkReturns}
+use Rattle.table_checks.specs.Checks.{rowsCheck}
+use Rattle.table_checks.specs.laws.Accepted.{accepted-valid}
 use Rattle.starred_examples.specs.Compute.{everything}
 
 -- ---- the tables, seven numbers a row

@@ -2,11 +2,10 @@
 -- the bounds and the judgement.
 use Prim.Native.Nat.{ℕ}
 use Rattle.bus_model.specs.examples.Compute.{everything as model}
-use Rattle.frame_table.specs.Columns.{between, isIdentifier}
-use Rattle.frame_table.specs.Frames.{priorityOf, largestLength, frameAt, framesOf}
-use Rattle.frame_table.specs.Refusal.{numberOf, checkReturns}
-use Rattle.frame_table.specs.Checks.{firstOf, rowsSizeCheck, columnCheck, columnsCheck, isSameFrame, standsEarlier, lineCheck, linesCheck, nodeCheck, nodesCheck, tableCheck}
-use Rattle.frame_table.specs.Table.{rowsCheck}
+use Rattle.table_checks.specs.Columns.{between, isIdentifier}
+use Rattle.table_checks.specs.Frames.{priorityOf, largestLength, frameAt, framesOf}
+use Rattle.table_checks.specs.Refusal.{numberOf, checkReturns}
+use Rattle.table_checks.specs.Checks.{firstOf, rowsSizeCheck, columnCheck, columnsCheck, isSameFrame, standsEarlier, lineCheck, linesCheck, nodeCheck, nodesCheck, tableCheck, rowsCheck}
 
 -- its value is of no use
 unfoldable pub everything : ℕ

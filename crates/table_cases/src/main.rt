@@ -4,7 +4,7 @@
 // each number four bytes with the lowest first. A line is the letter, the number (3) and the place (6) of a
 // refusal, or 0 and the count of lines, and for R and W the fingerprint (10) of the lent area.
 use frame_table::Answer;
-use frame_table::Checked;
+use table_checks::Checked;
 
 // What the lent area holds before the call.
 const FILL_WORD: u32 = 7;
@@ -63,7 +63,7 @@ fn run_read(file: &[u8], area: usize, words: &mut [u32]) {
         return;
     }
     let answer = frame_table::read(file, &mut words[0..area]);
-    print_answer(b"R", answer, frame_table::ROW);
+    print_answer(b"R", answer, table_checks::ROW);
     print_column(fingerprint_words(&words[0..area]));
 }
 
@@ -71,12 +71,12 @@ fn run_check(rows: &[u32], count: usize) {
     if rows.len() < count {
         return;
     }
-    let checked = frame_table::check(&rows[0..count]);
+    let checked = table_checks::check(&rows[0..count]);
     match checked {
-        Checked::Passed => print_result(b"C", 0, (count / frame_table::ROW) as u64),
+        Checked::Passed => print_result(b"C", 0, (count / table_checks::ROW) as u64),
         Checked::Failed(refusal) => {
             let cause = refusal.cause;
-            print_result(b"C", frame_table::number(cause), refusal.place as u64);
+            print_result(b"C", table_checks::number(cause), refusal.place as u64);
         }
     }
     io::write_all(1, b"\n");
@@ -95,7 +95,7 @@ fn write_area(rows: &[u32], area: usize, bytes: &mut [u8]) {
         return;
     }
     let answer = frame_table::write(rows, &mut bytes[0..area]);
-    print_answer(b"W", answer, frame_table::LINE);
+    print_answer(b"W", answer, table_checks::LINE);
     print_column(fingerprint_bytes(&bytes[0..area]));
 }
 
@@ -109,7 +109,7 @@ fn print_answer(letter: &[u8], answer: Answer, each: usize) {
         }
         Answer::Refused(refusal) => {
             let cause = refusal.cause;
-            print_result(letter, frame_table::number(cause), refusal.place as u64);
+            print_result(letter, table_checks::number(cause), refusal.place as u64);
         }
     }
 }

@@ -2,12 +2,13 @@
 use Prim.Native.Nat.{ℕ, _≤_}
 use mathlib.Core.List.{List}
 use lib.IntN.{ℤ, pos}
-use Rattle.frame_table.specs.declared.Checked.{Checked}
-use Rattle.frame_table.specs.declared.Checked.the-variants.{Passed, Failed}
+use Rattle.table_checks.specs.declared.Checked.{Checked}
+use Rattle.table_checks.specs.declared.Checked.the-variants.{Passed, Failed}
+use Rattle.table_checks.specs.Checks.{rowsCheck}
 use Rattle.frame_table.specs.declared.Answer.{Answer}
 use Rattle.frame_table.specs.declared.Answer.the-variants.{Done, Refused}
 use Rattle.frame_table.specs.Text.{fieldsOf, textOf}
-use Rattle.frame_table.specs.Table.{readCheck, rowsCheck, answerFor}
+use Rattle.frame_table.specs.Table.{readCheck, answerFor}
 use Rattle.row_judgement.specs.Refusal.{ofTable}
 use Rattle.certifier.specs.Encode.{encodeRefusal}
 use Rattle.certifier.specs.Listing.{listingOf}

@@ -8,14 +8,15 @@ use lib.Dec.{ltb}
 use lib.IntN.{ℤ}
 use lib.ListN.{length}
 use Rattle.arith.specs.laws.Lines.{length-lines}
-use Rattle.frame_table.specs.declared.Cause.the-variants.{OutputArea}
-use Rattle.frame_table.specs.declared.Checked.{Checked}
-use Rattle.frame_table.specs.declared.Checked.the-variants.{Passed, Failed}
+use Rattle.table_checks.specs.declared.Cause.the-variants.{OutputArea}
+use Rattle.table_checks.specs.declared.Checked.{Checked}
+use Rattle.table_checks.specs.declared.Checked.the-variants.{Passed, Failed}
+use Rattle.table_checks.specs.Checks.{rowsCheck}
+use Rattle.table_checks.specs.laws.Accepted.{accepted-size}
 use Rattle.frame_table.specs.declared.Answer.{Answer}
 use Rattle.frame_table.specs.declared.Answer.the-variants.{Done, Refused}
 use Rattle.frame_table.specs.Text.{fieldsOf, textOf}
-use Rattle.frame_table.specs.Table.{readCheck, rowsCheck, answerFor, areaAfter}
-use Rattle.frame_table.specs.laws.Accepted.{accepted-size}
+use Rattle.frame_table.specs.Table.{readCheck, answerFor, areaAfter}
 use Rattle.frame_table.specs.laws.Layout.{table-lines}
 use Rattle.frame_table.specs.laws.RoundTrip.{text-read}
 use Rattle.certifier.specs.Listing.{listingOf}

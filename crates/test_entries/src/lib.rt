@@ -2,10 +2,11 @@
 // number: how many elements were written, 0 for a check that passed, a judgement or a bound as certifier encodes it, or
 // minus (number × 10000 + place) for a refusal.
 use frame_table::Answer;
-use frame_table::Checked;
+use table_checks::Checked;
 ghost use mathlib.Core.Path.{_≡_};
+ghost use Rattle.table_checks.specs.Checks.{rowsCheck};
 ghost use Rattle.frame_table.specs.Text.{fieldsOf, textOf};
-ghost use Rattle.frame_table.specs.Table.{rowsCheck, areaAfter};
+ghost use Rattle.frame_table.specs.Table.{areaAfter};
 ghost use Rattle.row_judgement.specs.Judge.{judgeRow, boundRow};
 ghost use Rattle.certifier.specs.Encode.{encodeJudged, encodeBounded};
 ghost use Rattle.certifier.specs.Listing.{listingOf};
@@ -16,7 +17,7 @@ ghost use Rattle.test_entries.specs.Encode.{readAnswer, writeAnswer, lis
 pub extern "C" fn test_check(rows: &[u32]) -> i64
     ensures { λ r. ⌜ r ≡ encodeChecked (rowsCheck (now (rows .entry))) ⌝ }
 {
-    let checked = frame_table::check(rows);
+    let checked = table_checks::check(rows);
     match checked {
         Checked::Passed => 0,
         Checked::Failed(refusal) => certifier::encode_refusal(certifier::of_table(refusal)),

@@ -16,19 +16,19 @@ use Rattle.bus_model.specs.declared.Judgement.{Judgement}
 use Rattle.bus_model.specs.Frame.{row}
 use Rattle.bus_model.specs.Pattern.{ofNode, hyperperiod, patternReleases}
 use Rattle.bus_model.specs.Judgement.{verdict, lacksWindow, tooManyScenarios}
-use Rattle.frame_table.specs.declared.Cause.{Cause as TableCause}
-use Rattle.frame_table.specs.declared.Cause.the-variants.{FileLength, LineFeed, TooManyLines, Notation, Limit, Duplicate, Hyperperiod, Releases, OutputArea, RowsLength}
-use Rattle.frame_table.specs.declared.Checked.{Checked}
-use Rattle.frame_table.specs.declared.Checked.the-variants.{Passed, Failed}
-use Rattle.frame_table.specs.Columns.{field, within}
-use Rattle.frame_table.specs.Frames.{framesOf}
-use Rattle.frame_table.specs.Refusal.{numberOf as tableNumberOf}
-use Rattle.frame_table.specs.Checks.{first, firstOf, fileSizeCheck, rowsSizeCheck, malformed, unterminated, columnCheck, columnsCheck, standsEarlier, lineCheck, linesCheck, nodeCheck, nodesCheck, tableCheck}
+use Rattle.table_checks.specs.declared.Cause.{Cause as TableCause}
+use Rattle.table_checks.specs.declared.Cause.the-variants.{FileLength, LineFeed, TooManyLines, Notation, Limit, Duplicate, Hyperperiod, Releases, OutputArea, RowsLength}
+use Rattle.table_checks.specs.declared.Checked.{Checked}
+use Rattle.table_checks.specs.declared.Checked.the-variants.{Passed, Failed}
+use Rattle.table_checks.specs.Columns.{field, within}
+use Rattle.table_checks.specs.Frames.{framesOf}
+use Rattle.table_checks.specs.Refusal.{numberOf as tableNumberOf}
+use Rattle.table_checks.specs.Checks.{first, firstOf, fileSizeCheck, rowsSizeCheck, malformed, unterminated, columnCheck, columnsCheck, standsEarlier, lineCheck, linesCheck, nodeCheck, nodesCheck, tableCheck, rowsCheck}
+use Rattle.table_checks.specs.laws.Accepted.{accepted-size}
+use Rattle.table_checks.specs.laws.Sizes.{file-size, rows-size}
 use Rattle.frame_table.specs.Text.{fieldsOf}
-use Rattle.frame_table.specs.Table.{readCheck, rowsCheck}
-use Rattle.frame_table.specs.laws.Accepted.{accepted-size}
+use Rattle.frame_table.specs.Table.{readCheck}
 use Rattle.frame_table.specs.laws.Layout.{length-fields}
-use Rattle.frame_table.specs.laws.Sizes.{file-size, rows-size}
 use Rattle.row_judgement.specs.declared.Cause.{Cause}
 use Rattle.row_judgement.specs.declared.Cause.the-variants.{Table, NoSuchRow, NoWindow as NoWindowCause, TooManyScenarios}
 use Rattle.row_judgement.specs.declared.Refusal.{Refusal}

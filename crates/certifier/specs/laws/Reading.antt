@@ -6,14 +6,15 @@ use native.Mathlib.Omega.{arith}
 use borrow.Author.Tests.{le-ltb}
 use lib.ListN.{length, take, drop, length-take}
 use lib.Seq.{take-at}
-use Rattle.frame_table.specs.declared.Refusal.{Refusal}
-use Rattle.frame_table.specs.declared.Checked.{Checked}
-use Rattle.frame_table.specs.declared.Checked.the-variants.{Passed, Failed}
+use Rattle.table_checks.specs.declared.Refusal.{Refusal}
+use Rattle.table_checks.specs.declared.Checked.{Checked}
+use Rattle.table_checks.specs.declared.Checked.the-variants.{Passed, Failed}
+use Rattle.table_checks.specs.Checks.{Accepted}
+use Rattle.table_checks.specs.laws.Accepted.{accepted-size}
 use Rattle.frame_table.specs.declared.Answer.{Answer}
 use Rattle.frame_table.specs.declared.Answer.the-variants.{Done, Refused}
 use Rattle.frame_table.specs.Text.{fieldsOf}
-use Rattle.frame_table.specs.Table.{readCheck, Accepted, answerFor, areaAfter}
-use Rattle.frame_table.specs.laws.Accepted.{accepted-size}
+use Rattle.frame_table.specs.Table.{readCheck, answerFor, areaAfter}
 use Rattle.frame_table.specs.laws.RoundTrip.{text-read}
 
 -- the first n numbers of the area are the accepted table of the file

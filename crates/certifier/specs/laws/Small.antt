@@ -10,7 +10,7 @@ use Rattle.bus_model.specs.declared.Outcome.the-variants.{CertifiedApproximate,
 use Rattle.bus_model.specs.Bounds.{windowLimit}
 use Rattle.bus_model.specs.Judgement.{boundUsed, marginOf, judge}
 use Rattle.bus_model.specs.theory.Judged.{judged-le-limit}
-use Rattle.frame_table.specs.laws.Accepted.{accepted-limits, accepted-valid}
+use Rattle.table_checks.specs.laws.Accepted.{accepted-limits, accepted-valid}
 use Rattle.row_judgement.specs.Judge.{claimOf, judgeRow}
 use Rattle.row_judgement.specs.laws.Judged.{row-inside, by-judged}
 use Rattle.certifier.specs.Steps.{Encodable}

@@ -5,13 +5,13 @@ use mathlib.Core.List.{List}
 use native.Mathlib.Omega.{arith}
 use borrow.Author.Needs.{needs}
 use lib.ListN.{length, length-take}
+use Rattle.table_checks.specs.declared.Checked.{Checked}
+use Rattle.table_checks.specs.Checks.{tableCheck}
+use Rattle.table_checks.specs.laws.Sizes.{file-size}
 use Rattle.frame_table.specs.declared.Answer.{Answer}
-use Rattle.frame_table.specs.declared.Checked.{Checked}
-use Rattle.frame_table.specs.Checks.{tableCheck}
 use Rattle.frame_table.specs.Text.{fieldsOf}
 use Rattle.frame_table.specs.Table.{answerFor, areaAfter}
-use Rattle.frame_table.specs.laws.Limits.{storable}
-use Rattle.frame_table.specs.laws.Sizes.{file-size}
+use Rattle.frame_table.specs.laws.Storable.{storable}
 use Rattle.frame_table.proofs.read_lines.Statement.{statement}
 use Rattle.frame_table.proofs.read_lines.Tie as tie
 

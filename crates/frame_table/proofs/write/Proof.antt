@@ -1,9 +1,9 @@
 -- `frame_table::write` meets its contract: rows that passed are written where their text has room, and else the area is left.
 use mathlib.Core.Path.{_≡_, refl, sym, _∙_}
 use borrow.Author.Needs.{needs}
-use Rattle.frame_table.specs.declared.Checked.the-variants.{Passed}
+use Rattle.table_checks.specs.declared.Checked.the-variants.{Passed}
+use Rattle.table_checks.specs.Checks.{rowsCheck}
 use Rattle.frame_table.specs.Text.{textOf}
-use Rattle.frame_table.specs.Table.{rowsCheck}
 use Rattle.frame_table.specs.laws.Layout.{length-text}
 use Rattle.frame_table.specs.laws.Areas.{area-refused, area-short, area-written}
 use Rattle.frame_table.proofs.write.Statement.{statement}

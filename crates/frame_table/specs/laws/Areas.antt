@@ -4,10 +4,10 @@ use mathlib.Core.Path.{_≡_, refl}
 use mathlib.Core.List.{List, _++_}
 use borrow.Author.Tests.{lt-ltb, le-ltb}
 use lib.ListN.{length, drop}
-use Rattle.frame_table.specs.declared.Cause.the-variants.{OutputArea}
-use Rattle.frame_table.specs.declared.Refusal.{Refusal}
-use Rattle.frame_table.specs.declared.Checked.{Checked}
-use Rattle.frame_table.specs.declared.Checked.the-variants.{Passed, Failed}
+use Rattle.table_checks.specs.declared.Cause.the-variants.{OutputArea}
+use Rattle.table_checks.specs.declared.Refusal.{Refusal}
+use Rattle.table_checks.specs.declared.Checked.{Checked}
+use Rattle.table_checks.specs.declared.Checked.the-variants.{Passed, Failed}
 use Rattle.frame_table.specs.declared.Answer.{Answer}
 use Rattle.frame_table.specs.declared.Answer.the-variants.{Done, Refused}
 use Rattle.frame_table.specs.Table.{answerFor, areaAfter}

@@ -10,9 +10,9 @@ use lib.Seq.{drop-drop, drop-at, take-at, getD-drop}
 use Rattle.arith.specs.laws.Lines.{Lines, length-lines}
 use Rattle.decimal.specs.Decimal.{writeColumn}
 use Rattle.decimal.specs.Laws.{length-write}
-use Rattle.frame_table.specs.Columns.{field, widthOf, startOf}
+use Rattle.table_checks.specs.Columns.{field, widthOf, startOf}
+use Rattle.table_checks.specs.laws.Limits.{by-column}
 use Rattle.frame_table.specs.Text.{fieldAt, fieldsFrom, columnsFrom, lineOf, linesFrom, textOf}
-use Rattle.frame_table.specs.laws.Limits.{by-column}
 
 -- ---- a column
 

@@ -16,15 +16,16 @@ use Rattle.decimal.specs.declared.Column.{Column}
 use Rattle.decimal.specs.declared.Column.the-variants.{Value, Broken}
 use Rattle.decimal.specs.Decimal.{readColumn, writeColumn}
 use Rattle.decimal.specs.Laws.{read-write, write-read}
-use Rattle.frame_table.specs.declared.Checked.the-variants.{Passed}
-use Rattle.frame_table.specs.Columns.{field, widthOf, startOf}
-use Rattle.frame_table.specs.Checks.{unterminated, tableCheck}
+use Rattle.table_checks.specs.declared.Checked.the-variants.{Passed}
+use Rattle.table_checks.specs.Columns.{field, widthOf, startOf}
+use Rattle.table_checks.specs.Checks.{unterminated, tableCheck, rowsCheck}
+use Rattle.table_checks.specs.laws.First.{first-passed}
+use Rattle.table_checks.specs.laws.Limits.{Limits, identified-max, by-column, field-small, lines-each}
+use Rattle.table_checks.specs.laws.Sizes.{FileSize, RowsSize, file-size, file-sized, rows-size, rows-sized}
 use Rattle.frame_table.specs.Text.{fieldOf, columnAt, terminated, fieldAt, fieldsFrom, fieldsOf, linesFrom, textOf}
-use Rattle.frame_table.specs.Table.{readCheck, rowsCheck}
-use Rattle.frame_table.specs.laws.First.{first-passed}
-use Rattle.frame_table.specs.laws.Limits.{Limits, identified-max, by-column, field-small, lines-each, storable}
+use Rattle.frame_table.specs.Table.{readCheck}
+use Rattle.frame_table.specs.laws.Storable.{storable}
 use Rattle.frame_table.specs.laws.Layout.{start-next, end-most, line-column, line-feed, table-lines, length-fields, field-at, field-in}
-use Rattle.frame_table.specs.laws.Sizes.{FileSize, RowsSize, file-size, file-sized, rows-size, rows-sized}
 
 -- ---- what stands in the text of rows
 

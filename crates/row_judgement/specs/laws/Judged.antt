@@ -21,11 +21,11 @@ use Rattle.bus_model.specs.Bounds.{approximateBound, preciseBound, scenarioCoun
 use Rattle.bus_model.specs.Judgement.{scenarioLimit, lacksWindow, tooManyScenarios, preciseOutcome, refinedOutcome, windowedOutcome, outcomeOf, boundUsed, marginOf, judge}
 use Rattle.bus_model.specs.theory.Approximate.{approximateFound, approximate-none, approximate-at}
 use Rattle.bus_model.specs.theory.Judged.{certified-meets}
-use Rattle.frame_table.specs.declared.Checked.{Checked}
-use Rattle.frame_table.specs.declared.Checked.the-variants.{Passed, Failed}
-use Rattle.frame_table.specs.Frames.{framesOf}
-use Rattle.frame_table.specs.Table.{rowsCheck, Accepted}
-use Rattle.frame_table.specs.laws.Accepted.{length-frames, accepted-size, accepted-valid}
+use Rattle.table_checks.specs.declared.Checked.{Checked}
+use Rattle.table_checks.specs.declared.Checked.the-variants.{Passed, Failed}
+use Rattle.table_checks.specs.Frames.{framesOf}
+use Rattle.table_checks.specs.Checks.{rowsCheck, Accepted}
+use Rattle.table_checks.specs.laws.Accepted.{length-frames, accepted-size, accepted-valid}
 use Rattle.workload.specs.Grouped.{FineTable, InTable}
 use Rattle.row_judgement.specs.declared.Cause.{Cause}
 use Rattle.row_judgement.specs.declared.Refusal.{Refusal}

@@ -6,12 +6,12 @@ use mathlib.Core.Logic.{inl, inr}
 use native.Mathlib.Omega.{arith}
 use lib.ListN.{length, take}
 use Rattle.bus_model.specs.Frame.{row}
-use Rattle.frame_table.specs.Columns.{field}
-use Rattle.frame_table.specs.Frames.{priorityOf, frameAt, framesOf}
-use Rattle.frame_table.specs.Table.{Accepted}
-use Rattle.frame_table.specs.laws.Lengths.{length-bounds}
-use Rattle.frame_table.specs.laws.Limits.{identified-cases}
-use Rattle.frame_table.specs.laws.Accepted.{length-frames, frame-row, accepted-size, accepted-limits, accepted-pattern, accepted-valid}
+use Rattle.table_checks.specs.Columns.{field}
+use Rattle.table_checks.specs.Frames.{priorityOf, frameAt, framesOf}
+use Rattle.table_checks.specs.Checks.{Accepted}
+use Rattle.table_checks.specs.laws.Lengths.{length-bounds}
+use Rattle.table_checks.specs.laws.Limits.{identified-cases}
+use Rattle.table_checks.specs.laws.Accepted.{length-frames, frame-row, accepted-size, accepted-limits, accepted-pattern, accepted-valid}
 use Rattle.workload.specs.Stored.{stored}
 use Rattle.workload.specs.Grouped.{Fine, FineTable}
 use Rattle.workload.specs.laws.Stored.{StoredTo, stored-all}

@@ -1,7 +1,7 @@
 -- `certifier::listing::list_rows` meets its contract: the lines are written where they have room, and else the area is left.
 use mathlib.Core.Path.{refl}
 use borrow.Author.Needs.{needs}
-use Rattle.frame_table.specs.declared.Checked.the-variants.{Passed}
+use Rattle.table_checks.specs.declared.Checked.the-variants.{Passed}
 use Rattle.frame_table.specs.laws.Areas.{area-short, area-written}
 use Rattle.certifier.specs.Listing.{listingOf}
 use Rattle.certifier.specs.laws.Listing.{length-listing}

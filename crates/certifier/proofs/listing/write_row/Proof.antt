@@ -1,7 +1,7 @@
 -- `certifier::listing::write_row` meets its contract: the line is written from the identifier of the row and from its judgement.
 use mathlib.Core.Path.{ap, _∙_}
 use borrow.Author.Needs.{needs}
-use Rattle.frame_table.specs.laws.Accepted.{length-frames}
+use Rattle.table_checks.specs.laws.Accepted.{length-frames}
 use Rattle.certifier.specs.Listing.{listingLine, lineOf}
 use Rattle.certifier.proofs.listing.write_row.Statement.{statement}
 use Rattle.certifier.proofs.listing.write_row.Tie as tie

@@ -4,7 +4,7 @@ use mathlib.Core.Path.{_≡_, sym, ap, _∙_}
 use native.Mathlib.Omega.{arith}
 use borrow.Author.Needs.{needs}
 use Rattle.decimal.specs.Decimal.{readColumn}
-use Rattle.frame_table.specs.Columns.{widthOf}
+use Rattle.table_checks.specs.Columns.{widthOf}
 use Rattle.frame_table.specs.Text.{columnAt, fieldOf}
 use Rattle.frame_table.specs.laws.Layout.{start-next, end-most, column-place}
 use Rattle.frame_table.proofs.text.column.Statement.{statement}

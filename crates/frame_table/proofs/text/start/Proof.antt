@@ -5,8 +5,8 @@ use mathlib.Core.List.{[], _∷_}
 use native.Mathlib.Nat.{le-of-suc-le-suc}
 use borrow.Author.Needs.{needs}
 use lib.ListN.{getD}
-use Rattle.frame_table.specs.Columns.{startOf}
-use Rattle.frame_table.specs.laws.Limits.{by-column}
+use Rattle.table_checks.specs.Columns.{startOf}
+use Rattle.table_checks.specs.laws.Limits.{by-column}
 use Rattle.frame_table.proofs.text.start.Statement.{statement}
 use Rattle.frame_table.proofs.text.start.Tie as tie
 

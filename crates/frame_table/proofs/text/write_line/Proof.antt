@@ -8,7 +8,7 @@ use borrow.Rule.Slice.PartMut.{midOf, mid-len}
 use lib.ListN.{length, take, drop, length-set, drop-of-length-le}
 use Rattle.arith.specs.laws.Overwriting.{over, over-part, over-element, over-all}
 use Rattle.decimal.specs.Decimal.{writeColumn}
-use Rattle.frame_table.specs.Columns.{field, startOf, widthOf}
+use Rattle.table_checks.specs.Columns.{field, startOf, widthOf}
 use Rattle.frame_table.specs.Text.{lineOf}
 use Rattle.frame_table.specs.laws.Layout.{start-next, end-most, column-place, length-line, line-column, line-feed}
 use Rattle.frame_table.proofs.text.write_line.Statement.{statement}

@@ -5,7 +5,7 @@ use mathlib.Core.Path.{_≡_, sym, ap, subst, _∙_}
 use native.Mathlib.Omega.{arith}
 use lib.ListN.{length}
 use Rattle.bus_model.specs.Frame.{row}
-use Rattle.frame_table.specs.laws.Accepted.{accepted-size}
+use Rattle.table_checks.specs.laws.Accepted.{accepted-size}
 use Rattle.workload.specs.Grouped.{FineTable}
 use Rattle.row_judgement.specs.Judge.{boundFrame}
 use Rattle.row_judgement.specs.laws.Stored.{accepted-fine}

@@ -2,7 +2,7 @@
 use borrow.Author.Needs.{needs}
 use mathlib.Core.Path.{sym, _∙_}
 use borrow.Author.Tests.{lt-leb, le-leb}
-use Rattle.frame_table.specs.Table.{Accepted}
+use Rattle.table_checks.specs.Checks.{Accepted}
 use Rattle.row_judgement.specs.Judge.{boundRow, boundChecked}
 use Rattle.row_judgement.specs.laws.Judged.{row-inside}
 use Rattle.row_judgement.proofs.bound.precise_bound.Statement.{statement}

@@ -4,8 +4,8 @@ use Prim.Native.Nat.{_-_, _/_, _≤_}
 use mathlib.Core.Path.{sym, _∙_}
 use native.Mathlib.Omega.{arith}
 use lib.ListN.{length}
-use Rattle.frame_table.specs.Frames.{frameAt}
-use Rattle.frame_table.specs.laws.Accepted.{frame-row, accepted-size}
+use Rattle.table_checks.specs.Frames.{frameAt}
+use Rattle.table_checks.specs.laws.Accepted.{frame-row, accepted-size}
 use Rattle.workload.specs.laws.Stored.{StoredTo, put-more}
 use Rattle.row_judgement.specs.laws.Stored.{priority-short, all-stored}
 use Rattle.row_judgement.proofs.frames.store.Statement.{statement}

@@ -5,8 +5,8 @@ use mathlib.Core.Path.{_≡_, sym, ap, subst, _∙_}
 use native.Mathlib.Omega.{arith}
 use lib.ListN.{length}
 use Rattle.bus_model.specs.Judgement.{judge}
-use Rattle.frame_table.specs.Frames.{framesOf}
-use Rattle.frame_table.specs.laws.Accepted.{accepted-size}
+use Rattle.table_checks.specs.Frames.{framesOf}
+use Rattle.table_checks.specs.laws.Accepted.{accepted-size}
 use Rattle.workload.specs.Grouped.{FineTable, InTable}
 use Rattle.row_judgement.specs.Judge.{claimOf}
 use Rattle.row_judgement.specs.laws.Stored.{accepted-fine}

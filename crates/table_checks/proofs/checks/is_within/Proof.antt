@@ -1,0 +1,67 @@
+-- `table_checks::checks::is_within` meets its contract: each column has its limits.
+use mathlib.Core.Path.{_≡_, refl, sym}
+use mathlib.Core.Bool.{false}
+use native.Mathlib.Nat.{lt-of-not-le, suc-le-suc-iff}
+use lib.ListN.{List·getD-eq-default}
+use borrow.Author.Needs.{needs}
+use Rattle.table_checks.specs.Columns.{limits}
+use Rattle.table_checks.specs.laws.Limits.{by-column}
+use Rattle.table_checks.proofs.checks.is_within.Statement.{statement}
+use Rattle.table_checks.proofs.checks.is_within.Tie as tie
+
+is-between-requires : tie.Need-is-between-requires
+is-between-requires c κs = search needs
+
+is-identifier-requires : tie.Need-is-identifier-requires
+is-identifier-requires c κs = search needs
+
+is-between-requires-2 : tie.Need-is-between-requires-2
+is-between-requires-2 c κs = search needs
+
+is-between-requires-3 : tie.Need-is-between-requires-3
+is-between-requires-3 c κs = search needs
+
+returns : tie.Need-returns
+returns c = rw (c .before .match .keys1) (c .is-between .ensures)
+
+returns-2 : tie.Need-returns-2
+returns-2 c = search needs
+
+returns-3 : tie.Need-returns-3
+returns-3 c = rw (c .before .match .keys3) (c .is-identifier .ensures)
+
+returns-4 : tie.Need-returns-4
+returns-4 c = rw (c .match .keys4)
+
+returns-5 : tie.Need-returns-5
+returns-5 c = rw (c .before .match .keys5) (c .is-between2 .ensures)
+
+returns-6 : tie.Need-returns-6
+returns-6 c = rw (c .match .keys6)
+
+returns-7 : tie.Need-returns-7
+returns-7 c = rw (c .before .match .keys7) (c .is-between3 .ensures)
+
+returns-8 : tie.Need-returns-8
+returns-8 c =
+    let j = c .before .args .j in
+    let r = c .match .rest in
+    let other = by-column (λ k. j ≡ k → ⊥) (r .0 .0 .0 .0 .0 .0 .1) (r .0 .0 .0 .0 .0 .1) (r .0 .0 .0 .0 .1) (r .0 .0 .0 .1) (r .0 .0 .1) (r .0 .1) (r .1) in
+    sym (List·getD-eq-default (limits (c .before .args .before) (c .before .args .v)) false (lt-of-not-le {m = 6} (λ l. other j (suc-le-suc-iff .1 l) refl)))
+
+pub is-within-spec : {M : Type 1} → statement M
+is-within-spec =
+    tie.close
+    (tie.spec
+    is-between-requires
+    is-identifier-requires
+    is-between-requires-2
+    is-between-requires-3
+    returns
+    returns-2
+    returns-3
+    returns-4
+    returns-5
+    returns-6
+    returns-7
+    returns-8)

@@ -1,0 +1,58 @@
+-- `table_checks::checks::line` meets its contract: a cause against the columns comes first.
+use mathlib.Core.Path.{sym, _∙_}
+use borrow.Author.Needs.{needs}
+use Rattle.table_checks.specs.Checks.{lineCheck}
+use Rattle.table_checks.proofs.checks.line.Statement.{statement}
+use Rattle.table_checks.proofs.checks.line.Tie as tie
+
+columns-requires : tie.Need-columns-requires
+columns-requires c κs = search needs
+
+enum-told : tie.Need-enum-told
+enum-told c = search needs
+
+enum-told-2 : tie.Need-enum-told-2
+enum-told-2 c = search needs
+
+returns : tie.Need-returns
+unfolding lineCheck
+returns c = rw (← c .before .before .columns .ensures, c .enum-told2 .given .1)
+
+stands-earlier-requires : tie.Need-stands-earlier-requires
+stands-earlier-requires c κs = search needs
+
+add-fail : tie.Need-add-fail
+add-fail c = search needs
+
+cast-fail : tie.Need-cast-fail
+cast-fail c = search needs
+
+fail-requires : tie.Need-fail-requires
+fail-requires c κs = search needs
+
+returns-2 : tie.Need-returns-2
+unfolding lineCheck
+returns-2 c =
+    let e = c .before .before .before in
+    simp (sym (e .before .before .columns .ensures) ∙ e .enum-told .given .1, sym (c .before .before .stands-earlier .ensures) ∙ c .before .if1 .taken) (c .fail .ensures)
+
+returns-3 : tie.Need-returns-3
+unfolding lineCheck
+returns-3 c =
+    let e = c .before .before in
+    simp (sym (e .before .before .columns .ensures) ∙ e .enum-told .given .1, sym (c .before .stands-earlier .ensures) ∙ c .if1 .left)
+
+pub line-spec : {M : Type 1} → statement M
+line-spec =
+    tie.close
+    (tie.spec
+    columns-requires
+    enum-told
+    enum-told-2
+    returns
+    stands-earlier-requires
+    add-fail
+    cast-fail
+    fail-requires
+    returns-2
+    returns-3)

@@ -1,0 +1,60 @@
+-- `table_checks::checks::lines` meets its contract: the invariant says that the lines left decide.
+use Prim.Native.Nat.{_-_, _/_, _≤_}
+use mathlib.Core.Path.{_≡_, _∙_}
+use native.Mathlib.Nat.{sub-zero}
+use lib.ListN.{length}
+use borrow.Author.Needs.{needs}
+use Rattle.table_checks.specs.Checks.{firstOf, lineCheck, linesCheck}
+use Rattle.table_checks.specs.laws.First.{first-stop, first-go, first-end}
+use Rattle.table_checks.proofs.checks.lines.Statement.{statement}
+use Rattle.table_checks.proofs.checks.lines.Tie as tie
+
+abbrev Inv-loop : tie.InvT-loop
+Inv-loop t i₀ i = (firstOf (lineCheck t) (length t / 7 - i) i ≡ linesCheck t) × (i ≤ length t / 7)
+
+abbrev μ-loop : tie.MeasureT-loop
+μ-loop t i₀ i = length t / 7 - i
+
+loop-holds : tie.Need-loop-holds Inv-loop μ-loop
+unfolding linesCheck
+loop-holds c = (rw sub-zero, search needs)
+
+line-requires : tie.Need-line-requires Inv-loop μ-loop
+line-requires c κs = search needs
+
+enum-told : tie.Need-enum-told Inv-loop μ-loop
+enum-told c = search needs
+
+enum-told-2 : tie.Need-enum-told-2 Inv-loop μ-loop
+enum-told-2 c = search needs
+
+returns : tie.Need-returns Inv-loop μ-loop
+returns c = first-stop _ _ _ _ _ (c .before .before .before .loop-test .taken) (c .before .before .line .ensures) (c .enum-told2 .given .1) ∙ c .before .before .before .before .loop .inv .0
+
+add-i : tie.Need-add-i Inv-loop μ-loop
+add-i c = search needs
+
+loop-less : tie.Need-loop-less Inv-loop μ-loop
+loop-less c = search needs
+
+loop-again : tie.Need-loop-again Inv-loop μ-loop
+loop-again c = (first-go _ _ _ _ (c .before .before .before .loop-test .taken) (c .before .before .line .ensures) (c .enum-told .given .1) ∙ c .before .before .before .before .loop .inv .0, search needs)
+
+returns-2 : tie.Need-returns-2 Inv-loop μ-loop
+returns-2 c = first-end _ _ _ (c .loop-test .left) ∙ c .before .loop .inv .0
+
+pub lines-spec : {M : Type 1} → statement M
+lines-spec =
+    tie.close
+    (tie.spec
+    Inv-loop
+    μ-loop
+    loop-holds
+    line-requires
+    enum-told
+    enum-told-2
+    returns
+    add-i
+    loop-less
+    loop-again
+    returns-2)

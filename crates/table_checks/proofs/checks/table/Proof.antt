@@ -1,0 +1,31 @@
+-- `table_checks::checks::table` meets its contract: the lines come first, and where they pass, the periods are within their limits.
+use mathlib.Core.Path.{sym, _∙_}
+use borrow.Author.Needs.{needs}
+use Rattle.table_checks.specs.Checks.{tableCheck}
+use Rattle.table_checks.specs.laws.Limits.{lines-periods}
+use Rattle.table_checks.proofs.checks.table.Statement.{statement}
+use Rattle.table_checks.proofs.checks.table.Tie as tie
+
+lines-requires : tie.Need-lines-requires
+lines-requires c κs = search needs
+
+enum-told : tie.Need-enum-told
+enum-told c = search needs
+
+enum-told-2 : tie.Need-enum-told-2
+enum-told-2 c = search needs
+
+returns : tie.Need-returns
+unfolding tableCheck
+returns c = rw (← c .before .before .lines .ensures, c .enum-told2 .given .1)
+
+nodes-requires : tie.Need-nodes-requires
+nodes-requires c κs = (lines-periods _ (sym (c .before .before .lines .ensures) ∙ c .enum-told .given .1), search needs)
+
+returns-2 : tie.Need-returns-2
+unfolding tableCheck
+returns-2 c = simp (sym (c .before .before .before .lines .ensures) ∙ c .before .enum-told .given .1) (c .nodes .ensures)
+
+pub table-spec : {M : Type 1} → statement M
+table-spec =
+    tie.close (tie.spec lines-requires enum-told enum-told-2 returns nodes-requires returns-2)

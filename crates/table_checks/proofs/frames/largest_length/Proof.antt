@@ -1,0 +1,51 @@
+-- `table_checks::frames::largest_length` meets its contract: it reads the table that the definition reads.
+use mathlib.Core.Path.{sym}
+use borrow.Author.Tests.{eq-eqb, ne-eqb}
+use Rattle.table_checks.specs.Frames.{largestLength}
+use Rattle.table_checks.specs.laws.Lengths.{too-long}
+use borrow.Author.Needs.{needs}
+use Rattle.table_checks.proofs.frames.largest_length.Statement.{statement}
+use Rattle.table_checks.proofs.frames.largest_length.Tie as tie
+
+returns : tie.Need-returns
+returns c = sym (too-long (c .before .args .kind) _ (c .if1 .taken))
+
+mul-result : tie.Need-mul-result
+mul-result c = search needs
+
+index-1-result : tie.Need-index-1-result
+index-1-result c = search needs
+
+index-2-result : tie.Need-index-2-result
+index-2-result c = search needs
+
+mul-result-2 : tie.Need-mul-result-2
+mul-result-2 c = search needs
+
+index-1-result-2 : tie.Need-index-1-result-2
+index-1-result-2 c = search needs
+
+index-2-result-2 : tie.Need-index-2-result-2
+index-2-result-2 c = search needs
+
+returns-2 : tie.Need-returns-2
+unfolding largestLength
+returns-2 c = rw (eq-eqb _ _ (c .before .if2 .taken))
+
+returns-3 : tie.Need-returns-3
+unfolding largestLength
+returns-3 c = rw (ne-eqb _ _ (c .before .if2 .left))
+
+pub largest-length-spec : {M : Type 1} → statement M
+largest-length-spec =
+    tie.close
+    (tie.spec
+    returns
+    mul-result
+    index-1-result
+    index-2-result
+    mul-result-2
+    index-1-result-2
+    index-2-result-2
+    returns-2
+    returns-3)

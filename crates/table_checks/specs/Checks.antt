@@ -1,0 +1,102 @@
+-- The checks on tables and their order (document 01, "Where a call is turned back").
+-- A table is given by its fields: those of a file as frame_table's Text.antt has them, or the numbers in memory.
+use Prim.Native.Nat.{ℕ, zero, suc, _+_, _-_, _/_, _%_}
+use mathlib.Core.Bool.{Bool, cond, not, _&&_, _||_}
+use mathlib.Core.List.{List}
+use mathlib.Core.Path.{_≡_}
+use lib.ListN.{length}
+use lib.Dec.{ltb, eqb}
+use Rattle.arith.specs.Lists.{exists, range}
+use Rattle.bus_model.specs.declared.Frame.{Frame}
+use Rattle.bus_model.specs.Pattern.{ofNode, hyperperiod, patternReleases}
+use Rattle.table_checks.specs.declared.Cause.the-variants.{FileLength, LineFeed, TooManyLines, Notation, Limit, Duplicate, Hyperperiod, Releases, RowsLength}
+use Rattle.table_checks.specs.declared.Checked.{Checked}
+use Rattle.table_checks.specs.declared.Checked.the-variants.{Passed, Failed}
+use Rattle.table_checks.specs.Columns.{field, within}
+use Rattle.table_checks.specs.Frames.{framesOf}
+use Rattle.table_checks.specs.Refusal.{failed}
+
+-- ---- the first check that fails
+
+-- of two
+abbrev pub first : Checked → Checked → Checked
+first Passed next = next
+first (Failed r) next = Failed r
+
+-- of the checks number n, n + 1, .., n + m - 1
+unfoldable pub firstOf : (ℕ → Checked) → ℕ → ℕ → Checked
+firstOf check zero n = Passed
+firstOf check (suc m) n = first (check n) (firstOf check m (n + 1))
+
+-- ---- sizes
+
+-- a file's length: 1, then 2
+unfoldable pub fileSizeCheck : ℕ → Checked
+fileSizeCheck size =
+    cond (eqb size 0 || not (eqb (size % 43) 0)) (failed FileLength 0)
+    (cond (ltb 64 (size / 43)) (failed TooManyLines 0) Passed)
+
+-- the number of numbers in memory: 10
+unfoldable pub rowsSizeCheck : ℕ → Checked
+rowsSizeCheck size = cond (eqb size 0 || (not (eqb (size % 7) 0) || ltb 448 size)) (failed RowsLength 0) Passed
+
+-- ---- a line
+
+-- in a file a field is a number, or one of two marks above all numbers: the column breaks the notation,
+-- or, at the first field of a line, the line does not end in a line feed
+abbrev pub malformed : ℕ
+malformed = 1_000_000_000_000_000_000
+
+abbrev pub unterminated : ℕ
+unterminated = 1_000_000_000_000_000_001
+
+-- column j of line i, which counts from 0: 1, 3, 4
+unfoldable pub columnCheck : List ℕ → ℕ → ℕ → Checked
+columnCheck t i j =
+    cond (eqb (field t i j) unterminated) (failed LineFeed (i + 1))
+    (cond (eqb (field t i j) malformed) (failed Notation (i + 1))
+    (cond (within j (field t i (j - 1)) (field t i j)) Passed (failed Limit (i + 1))))
+
+unfoldable pub columnsCheck : List ℕ → ℕ → Checked
+columnsCheck t i = firstOf (columnCheck t i) 7 0
+
+-- whether the identifier and kind of line i stand on line m
+unfoldable pub isSameFrame : List ℕ → ℕ → ℕ → Bool
+isSameFrame t i m = eqb (field t m 1) (field t i 1) && eqb (field t m 2) (field t i 2)
+
+-- whether they stand on an earlier line
+unfoldable pub standsEarlier : List ℕ → ℕ → Bool
+standsEarlier t i = exists (isSameFrame t i) (range 0 i)
+
+-- line i: its columns, then 5
+unfoldable pub lineCheck : List ℕ → ℕ → Checked
+lineCheck t i = first (columnsCheck t i) (cond (standsEarlier t i) (failed Duplicate (i + 1)) Passed)
+
+unfoldable pub linesCheck : List ℕ → Checked
+linesCheck t = firstOf (lineCheck t) (length t / 7) 0
+
+-- ---- a node
+
+-- "Pattern" of node j: 6, then 7
+unfoldable pub nodeCheck : List Frame → ℕ → Checked
+nodeCheck fs j =
+    cond (ltb 1_000_000 (hyperperiod (ofNode fs j))) (failed Hyperperiod j)
+    (cond (ltb 256 (patternReleases (ofNode fs j))) (failed Releases j) Passed)
+
+-- the nodes, rising
+unfoldable pub nodesCheck : List Frame → Checked
+nodesCheck fs = firstOf (nodeCheck fs) 16 1
+
+-- ---- a table: line by line, then the nodes
+
+unfoldable pub tableCheck : List ℕ → Checked
+tableCheck t = first (linesCheck t) (nodesCheck (framesOf t))
+
+-- ---- rows in memory: their size, then the table
+
+unfoldable pub rowsCheck : List ℕ → Checked
+rowsCheck rows = first (rowsSizeCheck (length rows)) (tableCheck rows)
+
+-- "accepted": no check on tables turns the rows back
+abbrev pub Accepted : List ℕ → Type 0
+Accepted rows = rowsCheck rows ≡ Passed

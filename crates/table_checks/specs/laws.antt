@@ -1,0 +1,6 @@
+-- What is proved of the definitions, each file over those before it.
+pub mod First
+pub mod Limits
+pub mod Lengths
+pub mod Sizes
+pub mod Accepted

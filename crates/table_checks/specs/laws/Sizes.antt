@@ -1,0 +1,55 @@
+-- What is known of a size that passed its check.
+use Prim.Native.Nat.{ℕ, _/_, _%_, _≤_, _<_}
+use mathlib.Core.Path.{_≡_}
+use native.Mathlib.Omega.{arith}
+use borrow.Author.Tests.{eqb-true, eqb-false, ltb-false, eq-eqb, ne-eqb, le-ltb}
+use lib.Dec.{ltb, eqb}
+use Rattle.arith.specs.laws.Tests.{by-test}
+use Rattle.table_checks.specs.declared.Cause.the-variants.{FileLength, TooManyLines, RowsLength}
+use Rattle.table_checks.specs.declared.Checked.the-variants.{Passed}
+use Rattle.table_checks.specs.Checks.{fileSizeCheck, rowsSizeCheck}
+use Rattle.table_checks.specs.laws.Limits.{not-passed}
+
+-- ---- a file's
+
+pub record FileSize (size : ℕ) : Type 0 where
+  pub some : 0 < size
+  pub whole : size % 43 ≡ 0
+  pub most : size / 43 ≤ 64
+
+pub file-size : (size : ℕ) → fileSizeCheck size ≡ Passed → FileSize size
+unfolding fileSizeCheck
+file-size size e =
+    by-test (eqb size 0) (λ a. not-passed {cause = FileLength} {place = 0} (simp a at e))
+    (λ a. by-test (eqb (size % 43) 0)
+    (λ b. by-test (ltb 64 (size / 43)) (λ c. not-passed {cause = TooManyLines} {place = 0} (simp (a, b, c) at e))
+    (λ c. let n = eqb-false size 0 a in record { some = omega arith; whole = eqb-true _ _ b; most = ltb-false _ _ c }))
+    (λ b. not-passed {cause = FileLength} {place = 0} (simp (a, b) at e)))
+
+pub file-sized : (size : ℕ) → FileSize size → fileSizeCheck size ≡ Passed
+unfolding fileSizeCheck
+file-sized size s =
+    let n : size ≡ 0 → ⊥ = omega (arith, s .some) in
+    simp (ne-eqb _ _ n, eq-eqb _ _ (s .whole), le-ltb _ _ (s .most))
+
+-- ---- that of rows in memory
+
+pub record RowsSize (size : ℕ) : Type 0 where
+  pub some : 0 < size
+  pub whole : size % 7 ≡ 0
+  pub most : size ≤ 448
+
+pub rows-size : (size : ℕ) → rowsSizeCheck size ≡ Passed → RowsSize size
+unfolding rowsSizeCheck
+rows-size size e =
+    by-test (eqb size 0) (λ a. not-passed {cause = RowsLength} {place = 0} (simp a at e))
+    (λ a. by-test (eqb (size % 7) 0)
+    (λ b. by-test (ltb 448 size) (λ c. not-passed {cause = RowsLength} {place = 0} (simp (a, b, c) at e))
+    (λ c. let n = eqb-false size 0 a in record { some = omega arith; whole = eqb-true _ _ b; most = ltb-false _ _ c }))
+    (λ b. not-passed {cause = RowsLength} {place = 0} (simp (a, b) at e)))
+
+pub rows-sized : (size : ℕ) → RowsSize size → rowsSizeCheck size ≡ Passed
+unfolding rowsSizeCheck
+rows-sized size s =
+    let n : size ≡ 0 → ⊥ = omega (arith, s .some) in
+    simp (ne-eqb _ _ n, eq-eqb _ _ (s .whole), le-ltb _ _ (s .most))

@@ -1,0 +1,299 @@
+// The checks on a table's fields: the first cause against it, or none.
+use crate::Cause;
+use crate::Checked;
+use crate::LINE;
+use crate::MALFORMED;
+use crate::MOST_LINES;
+use crate::MOST_NUMBERS;
+use crate::ROW;
+use crate::Refusal;
+use crate::UNTERMINATED;
+ghost use mathlib.Core.Path.{_≡_};
+ghost use mathlib.Core.Bool.{cond};
+ghost use Prim.Native.Nat.{min, _+_, _-_, _*_, _/_, _<_, _≤_};
+ghost use lib.ListN.{length};
+ghost use lib.Dec.{eqb};
+ghost use Rattle.arith.specs.Multiples.{lcm};
+ghost use Rattle.arith.specs.Lists.{sum};
+ghost use Rattle.bus_model.specs.Pattern.{ofNode, hyperperiod};
+ghost use Rattle.table_checks.specs.Columns.{between, isIdentifier, within};
+ghost use Rattle.table_checks.specs.Frames.{framesOf};
+ghost use Rattle.table_checks.specs.Refusal.{failed};
+ghost use Rattle.table_checks.specs.Checks.{fileSizeCheck, rowsSizeCheck, columnCheck, columnsCheck, isSameFrame, standsEarlier, lineCheck, linesCheck, nodeCheck, nodesCheck, tableCheck};
+ghost use Rattle.table_checks.specs.Steps.{Periods};
+
+// A node's hyperperiod is at most this, and so many releases are in one.
+const MOST_TICKS: u64 = 1_000_000;
+
+const MOST_RELEASES: u64 = 256;
+
+const NODES: u64 = 16;
+
+fn fail(cause: Cause, place: u32) -> Checked
+    ensures { λ r. ⌜ r ≡ failed cause place ⌝ }
+{
+    Checked::Failed(Refusal { cause, place })
+}
+
+// The check of a file's length.
+pub fn check_length(size: usize) -> Checked
+    ensures { λ r. ⌜ r ≡ fileSizeCheck size ⌝ }
+{
+    if size == 0 {
+        return fail(Cause::FileLength, 0);
+    }
+    if size % LINE != 0 {
+        return fail(Cause::FileLength, 0);
+    }
+    if MOST_LINES < size / LINE {
+        return fail(Cause::TooManyLines, 0);
+    }
+    Checked::Passed
+}
+
+// The check of how many numbers stand in memory.
+pub fn rows_size(size: usize) -> Checked
+    ensures { λ r. ⌜ r ≡ rowsSizeCheck size ⌝ }
+{
+    if size == 0 {
+        return fail(Cause::RowsLength, 0);
+    }
+    if size % ROW != 0 {
+        return fail(Cause::RowsLength, 0);
+    }
+    if MOST_NUMBERS < size {
+        return fail(Cause::RowsLength, 0);
+    }
+    Checked::Passed
+}
+
+// Whether v is within low..high.
+fn is_between(low: u64, high: u64, v: u64) -> bool
+    ensures { λ r. ⌜ r ≡ between low high v ⌝ }
+{
+    low <= v && v <= high
+}
+
+// Whether the identifier is within the limits of its kind.
+fn is_identifier(kind: u64, identifier: u64) -> bool
+    ensures { λ r. ⌜ r ≡ isIdentifier kind identifier ⌝ }
+{
+    if kind == 11 {
+        identifier <= 2047
+    } else {
+        kind == 29 && identifier <= 536_870_911
+    }
+}
+
+// Whether v is within the limits of column j, where `before` stands in the column before it.
+fn is_within(j: usize, before: u64, v: u64) -> bool
+    ensures { λ r. ⌜ r ≡ within j before v ⌝ }
+{
+    match j {
+        0 => is_between(1, 16, v),
+        1 => true,
+        2 => is_identifier(v, before),
+        3 => v <= 8,
+        4 => is_between(1, 1_000_000, v),
+        5 => v < before,
+        6 => is_between(1, 1_000_000, v),
+        _ => false,
+    }
+}
+
+// The column before column j, or the first.
+fn previous(j: usize) -> usize
+    ensures { λ r. ⌜ r ≡ j - 1 ⌝ }
+{
+    if j == 0 { 0 } else { j - 1 }
+}
+
+// The check of column j of line i.
+fn column(t: &[u64], i: usize, j: usize) -> Checked
+    requires { ⌜ (7 * i + 7 ≤ length (now t)) × (i < 64) × (j < 7) ⌝ }
+    ensures { λ r. ⌜ r ≡ columnCheck (now (t .entry)) i j ⌝ }
+{
+    let line = (i + 1) as u32;
+    let v = t[ROW * i + j];
+    if v == UNTERMINATED {
+        return fail(Cause::LineFeed, line);
+    }
+    if v == MALFORMED {
+        return fail(Cause::Notation, line);
+    }
+    let before = t[ROW * i + previous(j)];
+    if is_within(j, before, v) {
+        Checked::Passed
+    } else {
+        fail(Cause::Limit, line)
+    }
+}
+
+// The check of the columns of line i.
+fn columns(t: &[u64], i: usize) -> Checked
+    requires { ⌜ (7 * i + 7 ≤ length (now t)) × (i < 64) ⌝ }
+    ensures { λ r. ⌜ r ≡ columnsCheck (now (t .entry)) i ⌝ }
+{
+    let mut j = 0;
+    while j < ROW {
+        let checked = column(t, i, j);
+        let Checked::Passed = checked else {
+            return checked;
+        };
+        j += 1;
+    }
+    Checked::Passed
+}
+
+// Whether the kind and identifier of line i stand on line m.
+fn is_same_frame(t: &[u64], i: usize, m: usize) -> bool
+    requires { ⌜ (7 * i + 7 ≤ length (now t)) × (7 * m + 7 ≤ length (now t)) ⌝ }
+    ensures { λ r. ⌜ r ≡ isSameFrame (now (t .entry)) i m ⌝ }
+{
+    t[ROW * m + 1] == t[ROW * i + 1] && t[ROW * m + 2] == t[ROW * i + 2]
+}
+
+// Whether they stand on an earlier line.
+fn stands_earlier(t: &[u64], i: usize) -> bool
+    requires { ⌜ 7 * i + 7 ≤ length (now t) ⌝ }
+    ensures { λ r. ⌜ r ≡ standsEarlier (now (t .entry)) i ⌝ }
+{
+    let mut m = 0;
+    while m < i {
+        if is_same_frame(t, i, m) {
+            return true;
+        }
+        m += 1;
+    }
+    false
+}
+
+// The check of line i.
+fn line(t: &[u64], i: usize) -> Checked
+    requires { ⌜ (7 * i + 7 ≤ length (now t)) × (i < 64) ⌝ }
+    ensures { λ r. ⌜ r ≡ lineCheck (now (t .entry)) i ⌝ }
+{
+    let checked = columns(t, i);
+    let Checked::Passed = checked else {
+        return checked;
+    };
+    if stands_earlier(t, i) {
+        fail(Cause::Duplicate, (i + 1) as u32)
+    } else {
+        Checked::Passed
+    }
+}
+
+// The check of the lines.
+fn lines(t: &[u64]) -> Checked
+    requires { ⌜ length (now t) ≤ 448 ⌝ }
+    ensures { λ r. ⌜ r ≡ linesCheck (now (t .entry)) ⌝ }
+{
+    let mut i = 0;
+    while i < t.len() / ROW {
+        let checked = line(t, i);
+        let Checked::Passed = checked else {
+            return checked;
+        };
+        i += 1;
+    }
+    Checked::Passed
+}
+
+// The least common multiple of h and the period of a frame, where it is the node's.
+fn joined(h: u64, node: u64, frame_node: u64, period: u64) -> u64
+    requires { ⌜ (0 < h) × (h ≤ 1000000) × (period ≤ 1000000) ⌝ }
+    ensures { λ r. ⌜ r ≡ cond (eqb «frame_node» node) (lcm period h) h ⌝ }
+{
+    if frame_node == node {
+        arith::lcm(period, h)
+    } else {
+        h
+    }
+}
+
+// The node's hyperperiod, or 1000001 where it is greater than that.
+fn bounded_hyperperiod(t: &[u64], node: u64) -> u64
+    requires { ⌜ Periods (now t) ⌝ }
+    ensures { λ r. ⌜ r ≡ min (hyperperiod (ofNode (framesOf (now (t .entry))) node)) 1000001 ⌝ }
+{
+    let mut h = 1;
+    let mut i = t.len() / ROW;
+    while 0 < i {
+        i -= 1;
+        h = joined(h, node, t[ROW * i], t[ROW * i + 4]);
+        if MOST_TICKS < h {
+            return MOST_TICKS + 1;
+        }
+    }
+    h
+}
+
+// The releases of a frame in a hyperperiod, where it is the node's.
+fn frame_releases(h: u64, node: u64, frame_node: u64, period: u64) -> u64
+    requires { ⌜ 0 < period ⌝ }
+    ensures { λ r. ⌜ r ≡ cond (eqb «frame_node» node) (h / period) 0 ⌝ }
+{
+    if frame_node == node { h / period } else { 0 }
+}
+
+// The releases of the node's frames in a hyperperiod.
+fn node_releases(t: &[u64], node: u64, h: u64) -> u64
+    requires { ⌜ Periods (now t) ⌝ }
+    requires { ⌜ (length (now t) ≤ 448) × (h ≤ 1000000) ⌝ }
+    ensures { λ r. ⌜ r ≡ sum (λ g. h / g .period) (ofNode (framesOf (now (t .entry))) node) ⌝ }
+{
+    let mut sum = 0;
+    let mut i = t.len() / ROW;
+    while 0 < i {
+        i -= 1;
+        sum = frame_releases(h, node, t[ROW * i], t[ROW * i + 4]) + sum;
+    }
+    sum
+}
+
+// The check of a node.
+fn node(t: &[u64], node: u64) -> Checked
+    requires { ⌜ Periods (now t) ⌝ }
+    requires { ⌜ (length (now t) ≤ 448) × (node ≤ 16) ⌝ }
+    ensures { λ r. ⌜ r ≡ nodeCheck (framesOf (now (t .entry))) node ⌝ }
+{
+    let h = bounded_hyperperiod(t, node);
+    if MOST_TICKS < h {
+        return fail(Cause::Hyperperiod, node as u32);
+    }
+    if MOST_RELEASES < node_releases(t, node, h) {
+        fail(Cause::Releases, node as u32)
+    } else {
+        Checked::Passed
+    }
+}
+
+// The check of the nodes.
+fn nodes(t: &[u64]) -> Checked
+    requires { ⌜ Periods (now t) ⌝ }
+    requires { ⌜ length (now t) ≤ 448 ⌝ }
+    ensures { λ r. ⌜ r ≡ nodesCheck (framesOf (now (t .entry))) ⌝ }
+{
+    let mut j = 1;
+    while j <= NODES {
+        let checked = node(t, j);
+        let Checked::Passed = checked else {
+            return checked;
+        };
+        j += 1;
+    }
+    Checked::Passed
+}
+
+// The check of a table.
+pub fn table(t: &[u64]) -> Checked
+    requires { ⌜ length (now t) ≤ 448 ⌝ }
+    ensures { λ r. ⌜ r ≡ tableCheck (now (t .entry)) ⌝ }
+{
+    let checked = lines(t);
+    let Checked::Passed = checked else {
+        return checked;
+    };
+    nodes(t)
+}

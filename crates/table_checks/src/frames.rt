@@ -1,0 +1,64 @@
+// A row as a frame: its priority and its largest length.
+use crate::ROW;
+use bus_model::Frame;
+ghost use mathlib.Core.Path.{_≡_};
+ghost use Rattle.bus_model.specs.Frame.{row};
+ghost use Rattle.table_checks.specs.Frames.{priorityOf, largestLength, framesOf};
+
+// Largest lengths in ticks: kind 11, then kind 29; by payload bytes.
+const LENGTHS: [[u32; 9]; 2] = [
+    [55, 65, 75, 85, 95, 105, 115, 125, 135],
+    [80, 90, 100, 110, 120, 130, 140, 150, 160],
+];
+
+// The place of a frame in the order in which waiting frames are sent: the smaller goes first.
+pub fn priority(kind: u32, identifier: u32) -> u64
+    ensures { λ r. ⌜ r ≡ priorityOf kind identifier ⌝ }
+{
+    if kind == 11 {
+        identifier as u64
+    } else {
+        2048 + identifier as u64
+    }
+}
+
+// The largest length of a frame, 0 where the payload is none that a frame can have.
+pub fn largest_length(kind: u32, payload: u32) -> u32
+    ensures { λ r. ⌜ r ≡ largestLength kind payload ⌝ }
+{
+    if 8 < payload {
+        return 0;
+    }
+    let s = payload as usize;
+    if kind == 11 {
+        LENGTHS[0][s]
+    } else {
+        LENGTHS[1][s]
+    }
+}
+
+// The frame in row i, all zeros where there is no such row.
+pub fn frame(rows: &[u32], i: usize) -> Frame
+    ensures { λ r. ⌜ r ≡ row (framesOf (now (rows .entry))) i ⌝ }
+{
+    if rows.len() / ROW <= i {
+        return Frame {
+            node: 0,
+            priority: 0,
+            length: 0,
+            period: 0,
+            offset: 0,
+        };
+    }
+    let at = ROW * i;
+    let identifier = rows[at + 1];
+    let kind = rows[at + 2];
+    let payload = rows[at + 3];
+    Frame {
+        node: rows[at],
+        priority: priority(kind, identifier),
+        length: largest_length(kind, payload),
+        period: rows[at + 4],
+        offset: rows[at + 5],
+    }
+}

@@ -1,0 +1,118 @@
+// What is checked of a frame table, why one is turned back, and its rows as frames.
+// A table is a row of seven numbers a line: node, identifier, kind, payload bytes, period, offset, claim.
+mod checks;
+mod frames;
+
+pub use checks::check_length;
+pub use checks::table;
+pub use frames::frame;
+pub use frames::largest_length;
+pub use frames::priority;
+ghost use mathlib.Core.Path.{_≡_};
+ghost use Prim.Native.Nat.{_≤_};
+ghost use mathlib.Core.List.{_++_};
+ghost use lib.ListN.{length, drop};
+ghost use Rattle.table_checks.specs.Refusal.{numberOf};
+ghost use Rattle.table_checks.specs.Checks.{rowsCheck};
+
+// The numbers of a row, the characters of a line with its line feed, and the most lines of a table.
+pub const ROW: usize = 7;
+
+pub const LINE: usize = 43;
+
+pub const MOST_LINES: usize = 64;
+
+// The numbers of the longest table.
+pub const MOST_NUMBERS: usize = 448;
+
+// Marks among a table's fields, for a column that breaks the notation, and for the first field of a line
+// that does not end in a line feed: above all numbers of a column.
+pub const MALFORMED: u64 = 1_000_000_000_000_000_000;
+
+pub const UNTERMINATED: u64 = 1_000_000_000_000_000_001;
+
+// Why a table is turned back.
+pub enum Cause {
+    // The file's length is 0 or no multiple of a line's.
+    FileLength,
+    // A line's last character is no line feed.
+    LineFeed,
+    TooManyLines,
+    // A column breaks the notation.
+    Notation,
+    // A value is outside its limits.
+    Limit,
+    // Kind and identifier stand on an earlier line.
+    Duplicate,
+    // A node's hyperperiod is too great.
+    Hyperperiod,
+    // A node has too many releases in its hyperperiod.
+    Releases,
+    // The output area is shorter than the result.
+    OutputArea,
+    // The number of numbers in memory is 0, no multiple of a row's, or too great.
+    RowsLength,
+}
+
+// A cause, and the line (from 1) or the node where it was found, or 0.
+pub struct Refusal {
+    pub cause: Cause,
+    pub place: u32,
+}
+
+// What checking a table finds: nothing against it, or the first cause against it.
+pub enum Checked {
+    Passed,
+    Failed(Refusal),
+}
+
+// The number of a cause in document 01.
+pub fn number(cause: Cause) -> u32
+    ensures { λ r. ⌜ r ≡ numberOf cause ⌝ }
+{
+    match cause {
+        Cause::FileLength => 1,
+        Cause::LineFeed => 1,
+        Cause::TooManyLines => 2,
+        Cause::Notation => 3,
+        Cause::Limit => 4,
+        Cause::Duplicate => 5,
+        Cause::Hyperperiod => 6,
+        Cause::Releases => 7,
+        Cause::OutputArea => 8,
+        Cause::RowsLength => 10,
+    }
+}
+
+// Checks rows in memory.
+pub fn check(rows: &[u32]) -> Checked
+    ensures { λ r. ⌜ r ≡ rowsCheck (now (rows .entry)) ⌝ }
+{
+    let size = rows.len();
+    let sized = checks::rows_size(size);
+    let Checked::Passed = sized else {
+        return sized;
+    };
+    let mut fields = [0u64; MOST_NUMBERS];
+    widen(rows, &mut fields);
+    checks::table(&fields[..size])
+}
+
+// Copies rows to the start of wider fields.
+fn widen(rows: &[u32], fields: &mut [u64])
+    requires { ⌜ length (now rows) ≤ length (now fields) ⌝ }
+    ensures { λ _. ⌜ now (fields .exit) ≡ now (rows .entry) ++ drop (length (now (rows .entry))) (now (fields .entry)) ⌝ }
+{
+    let mut k = 0;
+    while k < rows.len() {
+        fields[k] = wide(rows[k]);
+        k += 1;
+    }
+}
+
+// A number of a row as a field.
+pub fn wide(x: u32) -> u64
+    ensures { λ r. ⌜ r ≡ x ⌝ }
+{
+    x as u64
+}
