@@ -6,6 +6,14 @@ pub const HINTS: usize = 4096;
 // So many are kept for each window or instance, the last first; those for place `at` stand from KEPT * at on.
 pub const KEPT: usize = 8;
 
+// So many instances have a place of their own, behind that of the window; the others share these.
+const INSTANCES: u32 = 511;
+
+// The place of instance q.
+pub fn place_of(q: u32) -> usize {
+    (q % INSTANCES) as usize + 1
+}
+
 // Hint number i for a place, and 0 where there is none.
 pub fn recall(hints: &[u32], at: usize, i: usize) -> u32 {
     if KEPT <= i {

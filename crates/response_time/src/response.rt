@@ -1,4 +1,5 @@
 // The response times of k in a scenario.
+use crate::hints::place_of;
 use crate::hints::remember;
 use crate::search::WINDOW_LIMIT;
 use crate::search::settle;
@@ -93,7 +94,7 @@ fn greatest_response(
             sums,
         );
         let delay = or_zero(found);
-        remember(hints, q as usize + 1, delay);
+        remember(hints, place_of(q), delay);
         best = bigger(best, response(delay, k.length, d + q * k.period));
         from = delay + k.length;
         q += 1;

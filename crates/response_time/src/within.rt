@@ -1,9 +1,11 @@
-// Whether no response of a scenario exceeds a number, by starts that are looked at once.
+// Whether no response of a scenario exceeds a number, by starts that are looked at once and, where none of these serves, searched for.
 use crate::hints::KEPT;
+use crate::hints::place_of;
 use crate::hints::recall;
 use crate::search::WINDOW_LIMIT;
 use crate::search::is_held;
 use crate::search::load;
+use crate::search::settle;
 use arith::Found;
 use bus_model::Choice;
 use bus_model::Frame;
@@ -191,7 +193,7 @@ fn served_like(
 
 // A start by `latest`, as far as some that are tried tell. Where a node is open, the work of the frames laid out is tried before
 // the loads themselves, for which all alignments are visited.
-fn served_by(
+fn served_tried(
     frames: &[u32],
     members: &[u8],
     counts: &[usize],
@@ -274,6 +276,124 @@ fn served_by(
     )
 }
 
+// Searches for a start from a number on, where none that was tried serves.
+fn served_late(
+    frames: &[u32],
+    members: &[u8],
+    counts: &[usize],
+    ends: &[u32],
+    k: Frame,
+    choices: [Choice; 16],
+    own: u32,
+    base: u64,
+    from: u32,
+    latest: u32,
+    sums: &mut [u64],
+) -> Served
+    requires { ⌜ FineTable (stored (now frames)) ⌝ }
+    requires { ⌜ Grouped (stored (now frames)) k (now members) (now counts) (now ends) ⌝ }
+    requires { ⌜ InTable (stored (now frames)) k ⌝ }
+    requires { ⌜ (choiceOf choices (k .node) ≡ Fixed own) × (base ≤ 1000000000) × (latest ≤ 1000000) ⌝ }
+    requires { ⌜ Kept (stored (now frames)) k (now sums) ⌝ }
+    ensures { λ r. ⌜ Serves (stored (now (frames .entry))) k choices base latest (r .start) (r .count) ⌝ }
+    ensures small { λ r. ⌜ r .count ≤ 1000001 ⌝ }
+    ensures kept { λ _. ⌜ Kept (stored (now (frames .entry))) k (now (sums .exit)) ⌝ }
+{
+    let found = settle(
+        frames,
+        members,
+        counts,
+        ends,
+        k,
+        choices,
+        own,
+        true,
+        base,
+        from,
+        latest + 1,
+        sums,
+    );
+    let Found::At(x) = found else {
+        return Served { start: 0, count: 0 };
+    };
+    served_at(
+        frames,
+        members,
+        counts,
+        ends,
+        k,
+        choices,
+        own,
+        base,
+        x,
+        latest,
+        sums,
+    )
+}
+
+// A start by `latest`: one that is tried, or else the first one from a number on.
+fn served_by(
+    frames: &[u32],
+    members: &[u8],
+    counts: &[usize],
+    ends: &[u32],
+    k: Frame,
+    choices: [Choice; 16],
+    own: u32,
+    base: u64,
+    from: u32,
+    latest: u32,
+    open: bool,
+    laid: &[u32],
+    hints: &[u32],
+    at: usize,
+    sums: &mut [u64],
+) -> Served
+    requires { ⌜ FineTable (stored (now frames)) ⌝ }
+    requires { ⌜ Grouped (stored (now frames)) k (now members) (now counts) (now ends) ⌝ }
+    requires { ⌜ InTable (stored (now frames)) k ⌝ }
+    requires { ⌜ (choiceOf choices (k .node) ≡ Fixed own) × (base ≤ 1000000000) × (latest ≤ 1000000) ⌝ }
+    requires { ⌜ stored (now laid) ≡ laidOut (stored (now frames)) k true choices ⌝ }
+    requires { ⌜ Kept (stored (now frames)) k (now sums) ⌝ }
+    ensures { λ r. ⌜ Serves (stored (now (frames .entry))) k choices base latest (r .start) (r .count) ⌝ }
+    ensures small { λ r. ⌜ r .count ≤ 1000001 ⌝ }
+    ensures kept { λ _. ⌜ Kept (stored (now (frames .entry))) k (now (sums .exit)) ⌝ }
+{
+    let tried = served_tried(
+        frames,
+        members,
+        counts,
+        ends,
+        k,
+        choices,
+        own,
+        base,
+        from,
+        latest,
+        open,
+        laid,
+        hints,
+        at,
+        sums,
+    );
+    if 0 < tried.count {
+        return tried;
+    }
+    served_late(
+        frames,
+        members,
+        counts,
+        ends,
+        k,
+        choices,
+        own,
+        base,
+        from,
+        latest,
+        sums,
+    )
+}
+
 // A length that the scenario's window does not exceed, where `limit` is one: the last window, if it would do here and has fewer
 // releases.
 fn window_limit(
@@ -329,7 +449,7 @@ fn next_from(from: u32, start: u32, latest: u32) -> u32 {
     if start < latest { start } else { from }
 }
 
-// Whether no response of the scenario exceeds `most`, as far as the starts that are tried tell. If one does, they never do.
+// Whether no response of the scenario exceeds `most`, as far as the starts tell that are found. If one does, they never do.
 pub fn is_within(
     frames: &[u32],
     members: &[u8],
@@ -382,7 +502,7 @@ pub fn is_within(
         let Found::At(latest) = found else {
             return false;
         };
-        let at = q as usize + 1;
+        let at = place_of(q);
         let served = served_by(
             frames,
             members,

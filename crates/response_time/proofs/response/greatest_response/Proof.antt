@@ -76,31 +76,28 @@ settle-requires c κs =
 or-zero-requires : tie.Need-or-zero-requires Inv-loop μ-loop
 or-zero-requires c κs = search needs
 
-cast-remember : tie.Need-cast-remember Inv-loop μ-loop
-cast-remember c = search needs
-
-add-remember : tie.Need-add-remember Inv-loop μ-loop
-add-remember c = search needs
+place-of-requires : tie.Need-place-of-requires Inv-loop μ-loop
+place-of-requires c κs = search needs
 
 remember-requires : tie.Need-remember-requires Inv-loop μ-loop
 remember-requires c κs = search needs
 
 mul-response : tie.Need-mul-response Inv-loop μ-loop
-mul-response c = omega (arith, fits (c .before .before .before .before .before .before .before .before .before .before .before) .1)
+mul-response c = omega (arith, fits (c .before .before .before .before .before .before .before .before .before .before .before .before) .1)
 
 add-response : tie.Need-add-response Inv-loop μ-loop
-add-response c = omega (arith, fits (c .before .before .before .before .before .before .before .before .before .before .before) .1)
+add-response c = omega (arith, fits (c .before .before .before .before .before .before .before .before .before .before .before .before) .1)
 
 response-requires : tie.Need-response-requires Inv-loop μ-loop
 response-requires c κs =
-    let s = c .before .before .before .before .before .before .before .before .before .before .before .before .before .before .before .before .before .before .before .before .before in
-    (omega (arith, ends (c .before .before .before .before .before)), in-table-fine _ (s .pre .0) (s .pre .1 .1 .0) .length-high)
+    let s = c .before .before .before .before .before .before .before .before .before .before .before .before .before .before .before .before .before .before .before .before .before .before in
+    (omega (arith, ends (c .before .before .before .before .before .before)), in-table-fine _ (s .pre .0) (s .pre .1 .1 .0) .length-high)
 
 bigger-requires : tie.Need-bigger-requires Inv-loop μ-loop
 bigger-requires c κs = search needs
 
 add-from : tie.Need-add-from Inv-loop μ-loop
-add-from c = omega (arith, ends (c .before .before .before .before .before .before .before .before))
+add-from c = omega (arith, ends (c .before .before .before .before .before .before .before .before .before))
 
 add-q : tie.Need-add-q Inv-loop μ-loop
 add-q c = search needs
@@ -110,9 +107,9 @@ loop-less c = search needs
 
 loop-again : tie.Need-loop-again Inv-loop μ-loop
 loop-again c =
-    let l = c .before .before .before .before .before .before .before .before .before .before .before .before .before .before .before .loop in
-    let turn = turn-more (window (c .before .before .before .before .before .before .before .before .before .before .before .before .before .before .before .before)) (l .inv .2) (c .before .before .before .before .before .before .before .before .before .before .before .before .before .before .loop-test .taken) (c .before .before .before .before .before .before .before .before .before .before .before .before .before .before .before .before .before .before .before .before .before .before .before .before .pre .1 .1 .1 .0 .1) (c .before .before .before .before .before .before .before .before .before .before .before .settle .ensures .0) (c .before .before .before .before .before .before .before .before .or-zero .ensures) (c .before .before .response .ensures) (c .before .bigger .ensures) in
-    (omega (arith, c .before .before .before .before .before .before .remember .kept .0, l .inv .0), c .before .before .before .before .before .before .before .before .before .before .before .settle .ensures .1, turn)
+    let l = c .before .before .before .before .before .before .before .before .before .before .before .before .before .before .before .before .loop in
+    let turn = turn-more (window (c .before .before .before .before .before .before .before .before .before .before .before .before .before .before .before .before .before)) (l .inv .2) (c .before .before .before .before .before .before .before .before .before .before .before .before .before .before .before .loop-test .taken) (c .before .before .before .before .before .before .before .before .before .before .before .before .before .before .before .before .before .before .before .before .before .before .before .before .before .pre .1 .1 .1 .0 .1) (c .before .before .before .before .before .before .before .before .before .before .before .before .settle .ensures .0) (c .before .before .before .before .before .before .before .before .before .or-zero .ensures) (c .before .before .response .ensures) (c .before .bigger .ensures) in
+    (omega (arith, c .before .before .before .before .before .before .remember .kept .0, l .inv .0), c .before .before .before .before .before .before .before .before .before .before .before .before .settle .ensures .1, turn)
 
 same-length : tie.Need-same-length Inv-loop μ-loop
 same-length c = search needs
@@ -138,8 +135,7 @@ greatest-response-spec =
     add-base
     settle-requires
     or-zero-requires
-    cast-remember
-    add-remember
+    place-of-requires
     remember-requires
     mul-response
     add-response

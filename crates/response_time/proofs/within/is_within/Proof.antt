@@ -100,11 +100,8 @@ same-length c = c .before .before .before .before .before .before .loop .inv .1 
 returns-2 : tie.Need-returns-2 Inv-loop μ-loop
 returns-2 c = (λ t. absurd t, c .before .before .before .before .before .before .loop .inv .1)
 
-cast-at : tie.Need-cast-at Inv-loop μ-loop
-cast-at c = search needs
-
-add-at : tie.Need-add-at Inv-loop μ-loop
-add-at c = search needs
+place-of-requires : tie.Need-place-of-requires Inv-loop μ-loop
+place-of-requires c κs = search needs
 
 sub-served-by : tie.Need-sub-served-by Inv-loop μ-loop
 sub-served-by c = search needs
@@ -117,12 +114,12 @@ part-served-by-end c = search needs
 
 served-by-requires : tie.Need-served-by-requires Inv-loop μ-loop
 served-by-requires c κs =
-    let s = c .before .before .before .before .before .before .before .before .before .before .before .before .before .before .before .before .before .before .before .before .before .before .before .before .before .before .before in
-    let latest = latest-start-fits _ _ _ (sym (c .before .before .before .before .before .before .latest-start .ensures) ∙ c .before .before .before .before .found .given .1) in
-    (s .pre .0, (s .pre .1 .0, (s .pre .1 .1 .0, ((s .pre .1 .1 .1 .0 .0, fits (c .before .before .before .before .before .before .before .before .before) .0, omega (arith, latest .1)), (rw sub-zero (c .before .before .before .before .before .before .before .before .before .before .before .before .lay-out .ensures .0), c .before .before .before .before .before .before .before .before .before .before .loop .inv .1)))))
+    let s = c .before .before .before .before .before .before .before .before .before .before .before .before .before .before .before .before .before .before .before .before .before .before .before .before .before .before .before .before in
+    let latest = latest-start-fits _ _ _ (sym (c .before .before .before .before .before .before .before .latest-start .ensures) ∙ c .before .before .before .before .before .found .given .1) in
+    (s .pre .0, (s .pre .1 .0, (s .pre .1 .1 .0, ((s .pre .1 .1 .1 .0 .0, fits (c .before .before .before .before .before .before .before .before .before .before) .0, omega (arith, latest .1)), (rw sub-zero (c .before .before .before .before .before .before .before .before .before .before .before .before .before .lay-out .ensures .0), c .before .before .before .before .before .before .before .before .before .before .before .loop .inv .1)))))
 
 same-length-2 : tie.Need-same-length-2 Inv-loop μ-loop
-same-length-2 c = c .before .before .before .before .served-by .ensures .1 .1 .size ∙ sym (c .before .before .before .before .before .before .before .before .before .before .before .before .before .before .before .before .before .before .before .before .before .before .before .before .before .before .before .before .before .before .before .before .pre .1 .1 .1 .1 .1 .size)
+same-length-2 c = c .before .before .before .before .served-by .ensures .1 .1 .size ∙ sym (c .before .before .before .before .before .before .before .before .before .before .before .before .before .before .before .before .before .before .before .before .before .before .before .before .before .before .before .before .before .before .before .before .before .pre .1 .1 .1 .1 .1 .size)
 
 returns-3 : tie.Need-returns-3 Inv-loop μ-loop
 returns-3 c = (λ t. absurd t, c .before .before .before .before .served-by .ensures .1 .1)
@@ -132,17 +129,17 @@ next-from-requires c κs = search needs
 
 add-q : tie.Need-add-q Inv-loop μ-loop
 add-q c =
-    record { fits = omega (arith, fits (c .before .before .before .before .before .before .before .before .before .before .before .before .before .before .before .before) .2, c .before .before .before .before .before .before .served-by .ensures .1 .0) }
+    record { fits = omega (arith, fits (c .before .before .before .before .before .before .before .before .before .before .before .before .before .before .before .before .before) .2, c .before .before .before .before .before .before .served-by .ensures .1 .0) }
 
 loop-less : tie.Need-loop-less Inv-loop μ-loop
 loop-less c =
-    omega (arith, c .before .before .before .before .before .before .before .before .before .before .before .before .before .before .before .before .loop-test .taken, c .before .before .if2 .left)
+    omega (arith, c .before .before .before .before .before .before .before .before .before .before .before .before .before .before .before .before .before .loop-test .taken, c .before .before .if2 .left)
 
 loop-again : tie.Need-loop-again Inv-loop μ-loop
 loop-again c =
-    let s = c .before .before .before .before .before .before .before .before .before .before .before .before .before .before .before .before .before .before .before .before .before .before .before .before .before .before .before .before .before .before .before .before .before .before in (
-      next-within _ _ _ (s .pre .1 .1 .1 .0 .0) (c .before .before .before .before .before .before .before .before .before .before .before .before .before .before .before .before .before .before .before .before .before .before .before .before .before .before .before .distance-from .ensures .0) (c .before .before .before .before .before .before .before .before .before .before .before .before .before .before .before .before .before .loop .q) (s .args .most) (s .pre .1 .1 .1 .0 .1)
-          (sym (c .before .before .before .before .before .before .before .before .before .before .before .before .before .latest-start .ensures) ∙ c .before .before .before .before .before .before .before .before .before .before .before .found .given .1) (c .before .before .before .before .before .before .served-by .ensures .0) (c .before .before .before .before .before .before .before .before .before .before .before .before .before .before .before .before .before .loop .inv .0),
+    let s = c .before .before .before .before .before .before .before .before .before .before .before .before .before .before .before .before .before .before .before .before .before .before .before .before .before .before .before .before .before .before .before .before .before .before .before in (
+      next-within _ _ _ (s .pre .1 .1 .1 .0 .0) (c .before .before .before .before .before .before .before .before .before .before .before .before .before .before .before .before .before .before .before .before .before .before .before .before .before .before .before .before .distance-from .ensures .0) (c .before .before .before .before .before .before .before .before .before .before .before .before .before .before .before .before .before .before .loop .q) (s .args .most) (s .pre .1 .1 .1 .0 .1)
+          (sym (c .before .before .before .before .before .before .before .before .before .before .before .before .before .before .latest-start .ensures) ∙ c .before .before .before .before .before .before .before .before .before .before .before .before .found .given .1) (c .before .before .before .before .before .before .served-by .ensures .0) (c .before .before .before .before .before .before .before .before .before .before .before .before .before .before .before .before .before .before .loop .inv .0),
       c .before .before .before .before .before .before .served-by .ensures .1 .1,
     )
 
@@ -189,8 +186,7 @@ is-within-spec =
     enum-told
     same-length
     returns-2
-    cast-at
-    add-at
+    place-of-requires
     sub-served-by
     part-served-by-start
     part-served-by-end
