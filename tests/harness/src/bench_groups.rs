@@ -1,7 +1,7 @@
 //! The tables that are measured, in groups.
 
 use crate::bench_tables::{
-    alike, crowded, long_windows, many_looks, no_windows, Bursts, Drawing, Filled,
+    alike, crowded, late_jump, long_windows, many_looks, no_windows, Bursts, Drawing, Filled,
 };
 use analyser::table::Row;
 
@@ -104,11 +104,15 @@ fn growing_alignments() -> Vec<Table> {
 fn worst() -> Vec<Table> {
     vec![
         ("12650 instances, 256 alignments a node".into(), many_looks()),
+        ("255 own alignments, a late jump".into(), late_jump()),
         ("starts that serve no other scenario".into(), BURSTS.rows()),
+        ("11 bursts, each after the one before".into(), NESTED.rows()),
+        ("5543 instances, a late burst".into(), LATE_BURST.rows()),
     ]
 }
 
 const BURSTS: Bursts = Bursts {
+    first: (0, 62),
     second: (7, 1300),
     bursts: &[
         (26_250, "888387381873"),
@@ -121,4 +125,32 @@ const BURSTS: Bursts = Bursts {
     ],
     judged: (14, 0, 41_640),
     alignments: [62, 151],
+};
+
+const NESTED: Bursts = Bursts {
+    first: (2, 78),
+    second: (4, 2656),
+    bursts: &[
+        (0, "20"),
+        (70_029, "30"),
+        (145_283, "40"),
+        (223_267, "50"),
+        (306_476, "60"),
+        (392_415, "70"),
+        (483_504, "87"),
+        (603_843, "80"),
+        (697_662, "81"),
+        (794_211, "82"),
+        (895_985, "83"),
+    ],
+    judged: (2, 0, 100_000),
+    alignments: [37, 161],
+};
+
+const LATE_BURST: Bursts = Bursts {
+    first: (2, 162),
+    second: (6, 539),
+    bursts: &[(0, "62000754176465034573131862"), (302_225, "3781811356836661265451634552716")],
+    judged: (1, 0, 173),
+    alignments: [255, 128],
 };

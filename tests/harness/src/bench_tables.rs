@@ -102,10 +102,27 @@ pub fn many_looks() -> Vec<Row> {
     builder.rows
 }
 
+/// The approximate bound where the greatest works jump late: the judged frame's own alignments look
+/// alike, and the other nodes have a frequent frame and five that come once in a while.
+pub fn late_jump() -> Vec<Row> {
+    const PERIOD: u32 = 3657;
+    let mut builder = Builder::default();
+    (1..=10).for_each(|node| builder.frame(node, 8, PERIOD, 0));
+    let seldom = [(4, 1046), (7, 288_930), (3, 290_369), (0, 3367), (5, 292_084)];
+    for (payload, offset) in seldom {
+        (1..=10).for_each(|node| builder.frame(node, payload, 251 * PERIOD, offset));
+    }
+    builder.frame(16, 0, 88, 0);
+    builder.frame(16, 0, 255 * 88, 0);
+    builder.rows
+}
+
 /// Two frames that nearly fill the bus, as above; a node that queues bursts; and judged frames.
 /// From each burst the judged frames start just before the next one comes, so that the starts of
 /// one alignment are none of another's, and those last found do not serve the next scenario.
 pub struct Bursts {
+    /// Payloads and periods.
+    pub first: (u32, u32),
     pub second: (u32, u32),
     /// When a burst is queued, and the payloads as digits.
     pub bursts: &'static [(u32, &'static str)],
@@ -117,9 +134,9 @@ pub struct Bursts {
 impl Bursts {
     pub fn rows(&self) -> Vec<Row> {
         let mut builder = Builder::default();
-        let (payload, second) = self.second;
-        builder.frame(1, 0, 62, 0);
-        builder.frame(2, payload, second, 0);
+        let [first, second] = [self.first, self.second];
+        builder.frame(1, first.0, first.1, 0);
+        builder.frame(2, second.0, second.1, 0);
         for (offset, payloads) in self.bursts {
             for payload in payloads.bytes() {
                 builder.frame(4, (payload - b'0').into(), 1_000_000, *offset);
@@ -127,8 +144,8 @@ impl Bursts {
         }
         let (count, payload, period) = self.judged;
         (0..count).for_each(|_| builder.frame(3, payload, period, 0));
-        builder.frame(1, 0, 62 * self.alignments[0], 0);
-        builder.frame(2, 0, second * self.alignments[1], 0);
+        builder.frame(1, 0, first.1 * self.alignments[0], 0);
+        builder.frame(2, 0, second.1 * self.alignments[1], 0);
         builder.rows
     }
 }

@@ -77,9 +77,9 @@ impl Search {
         self.load(scenario.fixed, x) + above.sum::<u64>()
     }
 
-    /// The least x from a number on, with all nodes fixed.
-    fn climb(self, fixed: &[Placed], mut x: u64) -> Option<u64> {
-        while x <= LIMITS.window {
+    /// The least x from a number on and up to the end, with all nodes fixed.
+    fn climb(self, fixed: &[Placed], mut x: u64, end: u64) -> Option<u64> {
+        while x <= end {
             let load = self.load(fixed, x);
             if load <= x {
                 return Some(x);
@@ -89,17 +89,18 @@ impl Search {
         None
     }
 
-    /// The least x from a number on. Open nodes stand at their guesses, which gives no more than the
-    /// full load, so that no climb passes that x; the next climb starts from the full load.
-    fn settle(self, scenario: Scenario, mut x: u64) -> Option<u64> {
+    /// The least x from a number on and up to the end. Open nodes stand at their guesses, which gives
+    /// no more than the full load, so that no climb passes that x; the next climb starts from the
+    /// full load.
+    fn settle(self, scenario: Scenario, mut x: u64, end: u64) -> Option<u64> {
         if scenario.open.is_empty() {
-            return self.climb(scenario.fixed, x);
+            return self.climb(scenario.fixed, x, end);
         }
         let mut fixed = scenario.fixed.to_vec();
         loop {
             fixed.truncate(scenario.fixed.len());
             scenario.open.iter().for_each(|node| node.place(node.guess(), &mut fixed));
-            let reached = self.climb(&fixed, x)?;
+            let reached = self.climb(&fixed, x, end)?;
             x = self.full_load(scenario, reached);
             if x <= reached {
                 return Some(reached);
@@ -108,26 +109,27 @@ impl Search {
     }
 }
 
-/// So many starts are kept for each instance.
+/// So many starts are kept at a place, and so many places there are: instances share them.
 const KEPT: usize = 8;
+const PLACES: usize = 511;
 
 /// So many steps climbs a look by the bounds of loads.
 const STEPS: usize = 16;
 
-/// The greatest response found, the last window, and the last starts of each instance.
-#[derive(Default)]
+/// The greatest response found, the last window, and the last starts of instances.
 struct Best {
     response: u64,
     window: u64,
-    starts: Vec<[u64; KEPT]>,
+    starts: [[u64; KEPT]; PLACES],
 }
 
 impl Best {
-    fn remember(&mut self, instance: usize, start: u64) {
-        if self.starts.len() <= instance {
-            self.starts.resize(instance + 1, [0; KEPT]);
-        }
-        let kept = &mut self.starts[instance];
+    fn new() -> Best {
+        Best { response: 0, window: 0, starts: [[0; KEPT]; PLACES] }
+    }
+
+    fn remember(&mut self, instance: u64, start: u64) {
+        let kept = &mut self.starts[instance as usize % PLACES];
         if !kept.contains(&start) {
             kept.rotate_right(1);
             kept[0] = start;
@@ -205,8 +207,9 @@ impl View {
     /// The rough bound, or none if an alignment of the own node has no window.
     fn approximate(&self) -> Option<u64> {
         let nodes: Vec<&Node> = self.nodes.iter().collect();
-        let limit = self.window().settle(Scenario { fixed: &self.lone, open: &nodes }, 1);
-        let mut best = Best::default();
+        let limit =
+            self.window().settle(Scenario { fixed: &self.lone, open: &nodes }, 1, LIMITS.window);
+        let mut best = Best::new();
         for own in self.nodes[0].alignments() {
             let scenario = Scenario { fixed: &self.placed(own), open: &nodes[1..] };
             if !limit.is_some_and(|limit| self.is_within(scenario, limit, &best)) {
@@ -218,11 +221,12 @@ impl View {
 
     /// The exact bound, where the rough one is found.
     fn precise(&self) -> Option<u64> {
-        let mut best = Best::default();
+        let mut best = Best::new();
         for own in self.nodes[0].alignments() {
             let mut fixed = self.placed(own);
             let open: Vec<&Node> = self.nodes[1..].iter().collect();
-            let limit = self.window().settle(Scenario { fixed: &fixed, open: &open }, 1)?;
+            let limit =
+                self.window().settle(Scenario { fixed: &fixed, open: &open }, 1, LIMITS.window)?;
             self.improve(&mut fixed, &open, limit, &mut best)?;
         }
         Some(best.response)
@@ -283,7 +287,7 @@ impl View {
         out
     }
 
-    /// Whether starts that are looked at once show that no response exceeds the best.
+    /// Whether the starts that are found show that no response exceeds the best.
     fn is_within(&self, scenario: Scenario, limit: u64, best: &Best) -> bool {
         let Placed { frame, distance } = scenario.fixed[0];
         if limit <= distance {
@@ -301,7 +305,7 @@ impl View {
                 return false;
             };
             let latest = latest.min(LIMITS.window - 1);
-            let kept = best.starts.get(instance as usize).copied().unwrap_or_default();
+            let kept = best.starts[instance as usize % PLACES];
             let Some((x, load)) = found_start(start, scenario, from, latest, kept) else {
                 return false;
             };
@@ -316,12 +320,12 @@ impl View {
     /// Takes the scenario's responses into the best, or answers none if it has no window.
     fn raise(&self, scenario: Scenario, best: &mut Best) -> Option<()> {
         let Placed { frame, distance } = scenario.fixed[0];
-        best.window = self.window().settle(scenario, 1)?;
+        best.window = self.window().settle(scenario, 1, LIMITS.window)?;
         let mut least = 0;
         for instance in 0..frame.count(distance, best.window) {
             let search = Search::Start(self.blocking + instance * frame.length);
-            let start = search.settle(scenario, least)?;
-            best.remember(instance as usize, start);
+            let start = search.settle(scenario, least, LIMITS.window - 1)?;
+            best.remember(instance, start);
             least = start + frame.length;
             let queued = distance + instance * frame.period;
             best.response = best.response.max(least.saturating_sub(queued));
@@ -330,7 +334,8 @@ impl View {
     }
 }
 
-/// A start up to the latest and its load or a bound of it, as far as some that are tried tell.
+/// A start up to the latest and its load or a bound of it: one that is tried, or else the first one
+/// from a number on.
 fn found_start(
     start: Search,
     scenario: Scenario,
@@ -358,5 +363,8 @@ fn found_start(
     }
     let tried = kept.into_iter().take_while(|kept| *kept != 0).filter(|kept| *kept <= latest);
     let mut loads = tried.map(|kept| (kept, start.full_load(scenario, kept)));
-    loads.find(|(kept, load)| load <= kept)
+    loads.find(|(kept, load)| load <= kept).or_else(|| {
+        let found = start.settle(scenario, from, latest)?;
+        Some((found, start.full_load(scenario, found)))
+    })
 }
