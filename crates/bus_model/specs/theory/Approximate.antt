@@ -44,7 +44,7 @@ both-assoc Nothing q r = refl
 
 module _ {A : Type 0} (f : A → Found) where
   -- It is nothing where one is, and otherwise the greatest value.
-  greatest-found : (xs : List A) → greatestFound f xs ≡ cond (exists (λ x. isNone (f x)) xs) Nothing (At (greatest (λ x. orZero (f x)) xs))
+  pub greatest-found : (xs : List A) → greatestFound f xs ≡ cond (exists (λ x. isNone (f x)) xs) Nothing (At (greatest (λ x. orZero (f x)) xs))
   unfolding greatestFound both exists greatest isNone orZero
   greatest-found [] = refl
   greatest-found (x ∷ xs) = rw (greatest-found xs) (go (f x) (exists (λ y. isNone (f y)) xs) (greatest (λ y. orZero (f y)) xs))

@@ -48,7 +48,7 @@ module _ (cs : List Choice) {j : ℕ} (listed : Mem j (range 1 nodes)) where
   set-same a long = let (low, high) = of-range 1 nodes listed in getD-set-same cs (j - 1) (Fixed a) Any (omega arith)
 
   -- The others stand as before.
-  set-other : (a : ℕ) {i : ℕ} → Mem i (range 1 nodes) → i ≢ j → choiceOf (set cs (j - 1) (Fixed a)) i ≡ choiceOf cs i
+  pub set-other : (a : ℕ) {i : ℕ} → Mem i (range 1 nodes) → i ≢ j → choiceOf (set cs (j - 1) (Fixed a)) i ≡ choiceOf cs i
   set-other a {i} m other =
       let (low, high) = of-range 1 nodes listed in
       let (i-low, i-high) = of-range 1 nodes m in
