@@ -2,28 +2,33 @@
 -- shorter than its hyperperiod: from an instant and from the same one a turn later these frames are released at the same distances.
 -- So a search need only visit the alignments of the first turn.
 use Prim.Native.Nat.{ℕ, zero, suc, _+_, _-_, _*_, _/_, _%_, _≤_, _<_, _∣_}
-use mathlib.Core.Path.{_≡_, refl, sym, ap, _∙_}
-use mathlib.Core.List.{List, [], _∷_, List·Memᴰ as Mem, List·Memᴰ·eq-of-singleton, List·Memᴰ·head as here, List·Memᴰ·not-nil}
+use mathlib.Core.Path.{_≡_, refl, sym, ap, ap₂, _∙_, fun-ext}
+use mathlib.Core.List.{List, [], _∷_, List·Memᴰ as Mem, List·Memᴰ·eq-of-singleton, List·Memᴰ·head as here, List·Memᴰ·tail as there, List·Memᴰ·not-nil}
 use mathlib.Core.Bool.{Bool, true, false, cond}
 use native.Mathlib.Omega.{arith}
 use native.Mathlib.Nat.{le-of-dvd, mod-lt, mod-eq-of-lt, mod-mod-of-dvd, add-mul-mod-self-right, zero-mod, zero-mul, suc-mul, mul-zero, mul-suc, div-mul-cancel}
-use lib.Dec.{T}
-use lib.ListN.{length}
+use native.Mathlib.Decide.{ℕ-discrete}
+use lib.Dec.{T, leb}
+use lib.ListN.{length, set, length-set}
 use Rattle.arith.specs.Lists.{greatest, keep, exists, range}
-use Rattle.arith.specs.Least.{orZero, isNone}
+use Rattle.arith.specs.Least.{least, orZero, isNone}
+use Rattle.arith.specs.Releases.{releasesBefore}
 use Rattle.arith.specs.laws.Sums.{sum-same, le-greatest, greatest-le}
 use Rattle.arith.specs.laws.Tests.{same-test}
 use Rattle.arith.specs.laws.Members.{mem-keep, of-keep, mem-range, of-range, exists-mem, of-exists}
 use Rattle.arith.specs.laws.Multiples.{lcmOf-pos, lcmOf-least}
+use Rattle.bus_model.specs.Frame.{row}
 use Rattle.bus_model.specs.Valid.{ValidFrame, Valid}
 use Rattle.bus_model.specs.Pattern.{ofNode, hyperperiod}
-use Rattle.bus_model.specs.Bounds.{ahead, phase, isReleasedAt, alignments, orEmpty, distance, demand, workAt, nodeWork}
+use Rattle.bus_model.specs.Bounds.{nodes, windowLimit, ahead, blocking, phase, isReleasedAt, alignments, orEmpty, distance, choiceOf, demand, workAt, nodeWork, work, windowLoad, busyWindow, delayLoad, queueingDelay, ownDistance, instanceResponse, responseTime, scenarioResponse}
 use Rattle.bus_model.specs.theory.Pattern.{hyperperiod-multiple}
-use Rattle.bus_model.specs.theory.Frames.{Part, phase-fits, valid-frame, of-ahead, of-node, node-part, node-divides, node-pos}
+use Rattle.bus_model.specs.theory.Frames.{Part, phase-fits, node-listed, valid-frame, better-ahead, of-ahead, of-node, node-part, self-ahead, node-divides, node-pos}
 use Rattle.bus_model.specs.theory.Alignment.{released-at, released-turn, or-empty}
 use Rattle.bus_model.specs.theory.Visits.{isAlignment}
-use Rattle.bus_model.specs.theory.Approximate.{greatestFound, greatest-found}
+use Rattle.bus_model.specs.theory.Refine.{refined, free, set-same, set-other}
+use Rattle.bus_model.specs.theory.Approximate.{greatestFound, greatest-found, scenarioFound, approximateFound, found-counts}
 use Rattle.arith.specs.declared.Found.{Found}
+use Rattle.arith.specs.declared.Found.the-variants.{At, Nothing}
 use Rattle.bus_model.specs.declared.Frame.{Frame}
 use Rattle.bus_model.specs.declared.Choice.{Choice}
 use Rattle.bus_model.specs.declared.Choice.the-variants.{Fixed, Any}
@@ -209,3 +214,138 @@ module _ {fs : List Frame} (valid : Valid fs) (k : Frame) (j : ℕ) where
       let turns = hyperperiod (ofNode fs j) / turn fs k j in
       let whole : turns * turn fs k j ≡ hyperperiod (ofNode fs j) = div-mul-cancel (turn fs k j) turn-divides in
       rw whole at (passing-turns (isAlignment fs k j) (turn fs k j) aligned-turn turns)
+
+-- ---- scenarios that look alike
+
+-- At node j two choices look alike: from both alignments the frames ahead are released at the same distances, or both leave the alignment open.
+unfoldable pub SameChoice : List Frame → Frame → ℕ → Choice → Choice → Type 0
+SameChoice fs k j (Fixed a) (Fixed b) = (g : Frame) → Mem g (ofNode (ahead fs k) j) → distance g a ≡ distance g b
+SameChoice fs k j (Fixed a) Any = ⊥
+SameChoice fs k j Any (Fixed b) = ⊥
+SameChoice fs k j Any Any = Unit {0}
+
+-- Two scenarios do: their choices for each node.
+abbrev pub Alike : List Frame → Frame → List Choice → List Choice → Type 0
+Alike fs k cs cs′ = (j : ℕ) → Mem j (range 1 nodes) → SameChoice fs k j (choiceOf cs j) (choiceOf cs′ j)
+
+module _ (fs : List Frame) (k : Frame) where
+  -- A choice looks like itself,
+  same-self : (j : ℕ) (c : Choice) → SameChoice fs k j c c
+  unfolding SameChoice
+  same-self j (Fixed a) = λ g m. refl
+  same-self j Any = tt
+
+  -- and a scenario too.
+  pub alike-self : (cs : List Choice) → Alike fs k cs cs
+  alike-self cs j m = same-self j (choiceOf cs j)
+
+  -- Two scenarios that look alike still do where one node is fixed, in each at an alignment with the same distances.
+  pub alike-set : (cs cs′ : List Choice) → Alike fs k cs cs′ → length cs ≡ nodes → length cs′ ≡ nodes → {j : ℕ} → Mem j (range 1 nodes)
+      → (a b : ℕ) → SameChoice fs k j (Fixed a) (Fixed b) → Alike fs k (set cs (j - 1) (Fixed a)) (set cs′ (j - 1) (Fixed b))
+  alike-set cs cs′ alike long long′ {j} listed a b same i l =
+      elim (ℕ-discrete i j) [
+        | yes e ↦ rw (e, set-same cs listed a long, set-same cs′ listed b long′) same
+        | no other ↦ rw (set-other cs listed a l other, set-other cs′ listed b l other) (alike i l)
+      ]
+
+  module _ (cs cs′ : List Choice) (alike : Alike fs k cs cs′) where
+    module _ {gs : List Frame} (part : Part fs k gs) where
+      -- Choices that look alike give the same work.
+      choice-alike : (j n : ℕ) (c c′ : Choice) → SameChoice fs k j c c′ → nodeWork (ofNode gs j) (alignments fs k j) c n ≡ nodeWork (ofNode gs j) (alignments fs k j) c′ n
+      unfolding SameChoice nodeWork workAt demand
+      choice-alike j n (Fixed a) (Fixed b) same = sum-same (ofNode gs j) (λ g m. rw (same g (node-part fs k part j g m)))
+      choice-alike j n (Fixed a) Any none = absurd none
+      choice-alike j n Any (Fixed b) none = absurd none
+      choice-alike j n Any Any u = refl
+
+      -- So do scenarios.
+      pub work-alike : (n : ℕ) → work fs k gs cs n ≡ work fs k gs cs′ n
+      unfolding work
+      work-alike n = sum-same (range 1 nodes) (λ j m. choice-alike j n (choiceOf cs j) (choiceOf cs′ j) (alike j m))
+
+    -- They have the same window,
+    pub window-alike : busyWindow fs k cs ≡ busyWindow fs k cs′
+    unfolding busyWindow windowLoad
+    window-alike = ap (λ (w : ℕ → ℕ). least (λ l. leb (blocking fs k + w l) l) windowLimit 1) (fun-ext (work-alike (λ g m. m)))
+
+    -- and the same delays.
+    pub delay-alike : (q : ℕ) → queueingDelay fs k cs q ≡ queueingDelay fs k cs′ q
+    unfolding queueingDelay delayLoad
+    delay-alike q = ap (λ (h : ℕ → ℕ). least (λ w. leb (blocking fs k + q * k .length + h (suc w)) w) windowLimit 0) (fun-ext (work-alike (better-ahead fs k)))
+
+module _ {fs : List Frame} (valid : Valid fs) {k : ℕ} (inside : k < length fs) where
+  abbrev f : Frame
+  f = row fs k
+
+  module _ (cs cs′ : List Choice) (alike : Alike fs f cs cs′) where
+    -- The frame's own distance is the same in both,
+    pub own-alike : ownDistance f cs ≡ ownDistance f cs′
+    unfolding ownDistance SameChoice
+    own-alike = go (choiceOf cs (f .node)) (choiceOf cs′ (f .node)) (alike (f .node) (node-listed (valid .frame k inside)))
+      where
+        go : (c c′ : Choice) → SameChoice fs f (f .node) c c′
+            → _≡_ {A = ℕ} (elim c as (λ _. ℕ) [ Fixed a ↦ distance f a | Any ↦ 0 ]) (elim c′ as (λ _. ℕ) [ Fixed a ↦ distance f a | Any ↦ 0 ])
+        go (Fixed a) (Fixed b) same = same f (self-ahead fs k inside)
+        go (Fixed a) Any none = absurd none
+        go Any (Fixed b) none = absurd none
+        go Any Any u = refl
+
+    -- and so are the response times.
+    time-alike : (l : ℕ) → responseTime fs f cs l ≡ responseTime fs f cs′ l
+    unfolding responseTime instanceResponse
+    time-alike l =
+        ap₂ (λ (h : ℕ → ℕ) (d : ℕ). greatest h (range 0 (releasesBefore d (f .period) l)))
+        (fun-ext (λ q. rw (delay-alike fs f cs cs′ alike q, own-alike)))
+        own-alike
+
+    -- So one search finds the same in both,
+    pub found-alike : scenarioFound fs f cs ≡ scenarioFound fs f cs′
+    unfolding scenarioFound
+    found-alike = ap₂ (λ (r : Found) (h : ℕ → ℕ). elim r as (λ _. Found) [ At l ↦ At (h l) | Nothing ↦ Nothing ]) (window-alike fs f cs cs′ alike) (fun-ext time-alike)
+
+    -- and they have the same response.
+    pub response-alike : scenarioResponse fs f cs ≡ scenarioResponse fs f cs′
+    response-alike = sym (found-counts fs f cs) ∙ ap orZero found-alike ∙ found-counts fs f cs′
+
+  -- Node by node the same is found from both.
+  pub refined-alike : (js : List ℕ) → ((j : ℕ) → Mem j js → Mem j (range 1 nodes)) → (cs cs′ : List Choice) → Alike fs f cs cs′ → length cs ≡ nodes → length cs′ ≡ nodes
+      → refined fs f js cs ≡ refined fs f js cs′
+  unfolding refined
+  refined-alike [] node cs cs′ alike long long′ = response-alike cs cs′ alike
+  refined-alike (j ∷ js) node cs cs′ alike long long′ =
+      ap (λ (h : ℕ → ℕ). greatest h (orEmpty (alignments fs f j))) (fun-ext (λ a.
+      refined-alike js (λ i l. node i (there l)) (set cs (j - 1) (Fixed a)) (set cs′ (j - 1) (Fixed a))
+      (alike-set fs f cs cs′ alike long long′ (node j (here refl)) a a (same-self fs f j (Fixed a)))
+      (length-set cs (j - 1) (Fixed a) ∙ long) (length-set cs′ (j - 1) (Fixed a) ∙ long′)))
+
+  -- ---- a node takes the alignments of its first turn
+
+  module _ (cs : List Choice) (long : length cs ≡ nodes) (j : ℕ) (listed : Mem j (range 1 nodes)) where
+    -- the scenario with the node at alignment a
+    abbrev fixed : ℕ → List Choice
+    fixed a = set cs (j - 1) (Fixed a)
+
+    -- It looks like that of the first turn.
+    pub alike-turn : (a : ℕ) → Alike fs f (fixed (a % turn fs f j)) (fixed a)
+    unfolding SameChoice
+    alike-turn a = alike-set fs f cs cs (alike-self fs f cs) long long listed (a % turn fs f j) a (λ g m. distance-turn valid f j m a)
+
+    -- So no more need be refined.
+    pub refined-turn : (js : List ℕ) → ((i : ℕ) → Mem i js → Mem i (range 1 nodes))
+        → greatest (λ a. refined fs f js (set cs (j - 1) (Fixed a))) (orEmpty (firstTurn fs f j)) ≡ greatest (λ a. refined fs f js (set cs (j - 1) (Fixed a))) (orEmpty (alignments fs f j))
+    refined-turn js node =
+        greatest-turn valid f j (λ a. refined fs f js (fixed a)) (λ a.
+        refined-alike js node (fixed (a % turn fs f j)) (fixed a) (alike-turn a) (length-set cs (j - 1) (Fixed (a % turn fs f j)) ∙ long) (length-set cs (j - 1) (Fixed a) ∙ long))
+
+    -- A bound of the responses in the first turn is one of all.
+    pub split-turn : {most : ℕ} → ((a : ℕ) → Mem a (orEmpty (firstTurn fs f j)) → scenarioResponse fs f (set cs (j - 1) (Fixed a)) ≤ most)
+        → (a : ℕ) → Mem a (orEmpty (alignments fs f j)) → scenarioResponse fs f (set cs (j - 1) (Fixed a)) ≤ most
+    split-turn each a m = rw (response-alike (fixed (a % turn fs f j)) (fixed a) (alike-turn a)) at (each (a % turn fs f j) (turned valid f j m))
+
+  -- The approximate bound is found in the first turn of the frame's own node.
+  pub approximate-turn : greatestFound (λ a. scenarioFound fs f (set free (f .node - 1) (Fixed a))) (orEmpty (firstTurn fs f (f .node))) ≡ approximateFound fs f
+  unfolding approximateFound
+  approximate-turn =
+      let own : ℕ → List Choice = λ a. set free (f .node - 1) (Fixed a) in
+      found-turn valid f (f .node) (λ a. scenarioFound fs f (own a)) (λ a.
+      found-alike (own (a % turn fs f (f .node))) (own a) (alike-turn free refl (f .node) (node-listed (valid .frame k inside)) a))
