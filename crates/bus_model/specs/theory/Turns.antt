@@ -81,6 +81,7 @@ module _ (p : ℕ → Bool) where
   abbrev passing : ℕ → ℕ → ℕ
   passing n m = length (keep p (range n m))
 
+  -- One number more.
   passing-suc : (n m : ℕ) → passing n (suc m) ≡ cond (p n) 1 0 + passing (suc n) m
   unfolding keep range
   passing-suc n m = go (p n)
@@ -169,10 +170,11 @@ module _ {fs : List Frame} (valid : Valid fs) (k : Frame) (j : ℕ) where
       let (r, t) = of-keep _ (range 0 (hyperperiod (ofNode fs j))) m in
       mem-keep _ (mem-range 0 (turn fs k j) (a % turn fs k j) (omega arith) (omega (arith, mod-lt a turn-pos))) (rw (aligned-turn a) t)
 
-  -- The same of what the bounds look at.
+  -- So are those that a search of the first turn visits,
   pub first-aligned : {a : ℕ} → Mem a (orEmpty (firstTurn fs k j)) → Mem a (orEmpty (alignments fs k j))
   first-aligned = or-empty-map (λ a. a) refl (firstTurn fs k j) (alignments fs k j) (λ a m. first-alignment m) (λ a m. (a % turn fs k j, turned-alignment m))
 
+  -- and every one that the bounds look at is one of these, some turns later.
   pub turned : {a : ℕ} → Mem a (orEmpty (alignments fs k j)) → Mem (a % turn fs k j) (orEmpty (firstTurn fs k j))
   turned = or-empty-map (λ a. a % turn fs k j) (zero-mod (turn fs k j)) (alignments fs k j) (firstTurn fs k j) (λ a m. turned-alignment m) (λ a m. (a, first-alignment m))
 
