@@ -41,7 +41,7 @@ turn fs k j = hyperperiod (ofNode (ahead fs k) j)
 unfoldable pub firstTurn : List Frame → Frame → ℕ → List ℕ
 firstTurn fs k j = keep (isAlignment fs k j) (range 0 (turn fs k j))
 
--- A frame's instants are the numbers that leave its phase as the remainder.
+-- A frame's instants leave its phase as the remainder.
 released-rest : {g : Frame} → ValidFrame g → (a : ℕ) → T (isReleasedAt a g) → a % (g .period) ≡ phase g
 released-rest {g} valid a t = let (m, is) = released-turn g a t in rw is (add-mul-mod-self-right (phase g) m (g .period) ∙ mod-eq-of-lt (phase-fits valid))
 
@@ -328,7 +328,7 @@ module _ {fs : List Frame} (valid : Valid fs) {k : ℕ} (inside : k < length fs)
     fixed a = set cs (j - 1) (Fixed a)
 
     -- It looks like that of the first turn.
-    pub alike-turn : (a : ℕ) → Alike fs f (fixed (a % turn fs f j)) (fixed a)
+    pub alike-turn : (a : ℕ) → Alike fs f (set cs (j - 1) (Fixed (a % turn fs f j))) (set cs (j - 1) (Fixed a))
     unfolding SameChoice
     alike-turn a = alike-set fs f cs cs (alike-self fs f cs) long long listed (a % turn fs f j) a (λ g m. distance-turn valid f j m a)
 
