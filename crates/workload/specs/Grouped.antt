@@ -2,7 +2,8 @@
 use Prim.Native.Nat.{ℕ, _-_, _*_, _≤_, _<_}
 use mathlib.Core.Path.{_≡_}
 use mathlib.Core.List.{List, map, List·Memᴰ as Mem}
-use mathlib.Core.Bool.{Bool}
+use mathlib.Core.Bool.{Bool, true, false, _&&_}
+use lib.Dec.{eqb, leb}
 use lib.ListN.{length, getD, take, drop}
 use Rattle.arith.specs.Lists.{keep, exists, range}
 use Rattle.arith.specs.declared.Found.{Found}
@@ -12,6 +13,7 @@ use Rattle.bus_model.specs.Frame.{row}
 use Rattle.bus_model.specs.Pattern.{ofNode, hyperperiod}
 use Rattle.bus_model.specs.Valid.{Valid}
 use Rattle.bus_model.specs.Bounds.{ahead, isReleasedAt}
+use Rattle.bus_model.specs.theory.Turns.{turn}
 
 -- the limits of a frame that keep the sums small
 pub record Fine (g : Frame) : Type 0 where
@@ -52,18 +54,23 @@ unfoldable pub orEnd : ℕ → Found → ℕ
 orEnd e (At m) = m
 orEnd e Nothing = e
 
+-- whether a frame counts at node j: each of the node's, or those ahead of k
+unfoldable pub isCounted : Bool → Frame → ℕ → Frame → Bool
+isCounted true k j g = eqb (g .node) j
+isCounted false k j g = eqb (g .node) j && leb (g .priority) (k .priority)
+
 -- the rows of node j
 abbrev pub partOf : List ℕ → List ℕ → ℕ → List ℕ
 partOf members counts j = take (getD counts (j - 1) 0) (drop (64 * (j - 1)) members)
 
--- the rows of each node's frames ahead of k, and the nodes' hyperperiods
+-- the rows of each node's frames ahead of k, and after how many ticks these look the same again
 pub record Grouped (fs : List Frame) (k : Frame) (members counts ends : List ℕ) : Type 0 where
   pub members-size : length members ≡ 1024
   pub counts-size : length counts ≡ 16
   pub ends-size : length ends ≡ 16
   pub few : (j : ℕ) → 1 ≤ j → j ≤ 16 → getD counts (j - 1) 0 ≤ 64
   pub part : (j : ℕ) → 1 ≤ j → j ≤ 16 → framesIn fs (partOf members counts j) ≡ ofNode (ahead fs k) j
-  pub end : (j : ℕ) → 1 ≤ j → j ≤ 16 → getD ends (j - 1) 0 ≡ hyperperiod (ofNode fs j)
+  pub end : (j : ℕ) → 1 ≤ j → j ≤ 16 → getD ends (j - 1) 0 ≡ turn fs k j
 
 -- k is the frame of a row
 pub record InTable (fs : List Frame) (k : Frame) : Type 0 where

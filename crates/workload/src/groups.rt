@@ -1,4 +1,4 @@
-// The rows of the frames ahead of k, node by node, and the nodes' hyperperiods: found once for each k.
+// The rows of the frames ahead of k, node by node, and after how many ticks these look the same again: found once for each k.
 use crate::stored::count;
 use crate::stored::frame_at;
 use bus_model::Frame;
@@ -8,10 +8,11 @@ ghost use Prim.Native.Nat.{_*_, _≤_, _<_};
 ghost use lib.ListN.{length, take};
 ghost use lib.Dec.{eqb, leb};
 ghost use Rattle.arith.specs.Multiples.{lcm};
-ghost use Rattle.bus_model.specs.Pattern.{ofNode, hyperperiod};
+ghost use Rattle.bus_model.specs.Pattern.{ofNode};
 ghost use Rattle.bus_model.specs.Bounds.{ahead};
 ghost use Rattle.workload.specs.Stored.{stored};
-ghost use Rattle.workload.specs.Grouped.{framesIn, Grouped, FineTable};
+ghost use Rattle.bus_model.specs.theory.Hyperperiod.{commonOf};
+ghost use Rattle.workload.specs.Grouped.{framesIn, isCounted, Grouped, FineTable};
 
 pub const NODES: usize = 16;
 
@@ -20,29 +21,40 @@ pub const GROUP: usize = 64;
 
 pub const MEMBERS: usize = 1024;
 
-// The least common multiple of h and the period of a frame, where it is the node's.
-fn joined(h: u32, node: u32, g: Frame) -> u32
-    requires { ⌜ (1 ≤ h) × (g .period ≤ 1000000) × (cond (eqb (g .node) node) (lcm (g .period) h) h ≤ 1000000) ⌝ }
-    ensures { λ r. ⌜ r ≡ cond (eqb (g .node) node) (lcm (g .period) h) h ⌝ }
+// Whether a frame counts at a node: each of the node's, or those ahead of k.
+fn is_counted(g: Frame, k: Frame, node: u32, whole: bool) -> bool
+    ensures { λ r. ⌜ r ≡ isCounted whole k node g ⌝ }
 {
-    if g.node == node {
+    if whole {
+        return g.node == node;
+    }
+    belongs(g, k, node)
+}
+
+// The least common multiple of h and the period of a frame, where it counts.
+fn joined(h: u32, counts: bool, g: Frame) -> u32
+    requires { ⌜ (1 ≤ h) × (g .period ≤ 1000000) × (cond counts (lcm (g .period) h) h ≤ 1000000) ⌝ }
+    ensures { λ r. ⌜ r ≡ cond counts (lcm (g .period) h) h ⌝ }
+{
+    if counts {
         arith::lcm(g.period as u64, h as u64) as u32
     } else {
         h
     }
 }
 
-// The hyperperiod of a node.
-fn node_hyperperiod(frames: &[u32], node: u32) -> u32
+// The least common multiple of the periods of a node's frames, all of them or those ahead of k.
+pub fn common_multiple(frames: &[u32], k: Frame, node: u32, whole: bool) -> u32
     requires { ⌜ FineTable (stored (now frames)) ⌝ }
     requires { ⌜ (1 ≤ node) × (node ≤ 16) ⌝ }
-    ensures { λ r. ⌜ r ≡ hyperperiod (ofNode (stored (now (frames .entry))) node) ⌝ }
+    ensures { λ r. ⌜ r ≡ commonOf (isCounted whole k node) (stored (now (frames .entry))) ⌝ }
 {
     let mut h: u32 = 1;
     let mut i = count(frames);
     while 0 < i {
         i -= 1;
-        h = joined(h, node, frame_at(frames, i));
+        let g = frame_at(frames, i);
+        h = joined(h, is_counted(g, k, node, whole), g);
     }
     h
 }
@@ -85,7 +97,7 @@ pub fn group(frames: &[u32], k: Frame, members: &mut [u8], counts: &mut [usize],
         let from = GROUP * j;
         let to = from + GROUP;
         counts[j] = gather(frames, k, node, &mut members[from..to]);
-        ends[j] = node_hyperperiod(frames, node);
+        ends[j] = common_multiple(frames, k, node, false);
         j += 1;
     }
 }

@@ -10,6 +10,7 @@ pub use blocking::frame_blocking;
 pub use groups::GROUP;
 pub use groups::MEMBERS;
 pub use groups::NODES;
+pub use groups::common_multiple;
 pub use groups::group;
 pub use laid::laid_work;
 pub use laid::lay_out;

@@ -1,4 +1,4 @@
--- A node's hyperperiod, as a loop that goes down through the frames finds it.
+-- The least common multiple of frames' periods, as a loop that goes down through a table finds it.
 use Prim.Native.Nat.{ℕ, zero, suc, _-_, _≤_, _<_}
 use mathlib.Core.Path.{_≡_, refl}
 use mathlib.Core.Bool.{Bool, true, false, cond}
@@ -16,42 +16,59 @@ use Rattle.bus_model.specs.declared.Frame.{Frame}
 use Rattle.bus_model.specs.Frame.{noFrame, row}
 use Rattle.bus_model.specs.Pattern.{ofNode, hyperperiod}
 
--- of node j's frames among some
-abbrev pub hyperOf : ℕ → List Frame → ℕ
-hyperOf j gs = hyperperiod (ofNode gs j)
+-- of those frames that pass a test
+abbrev pub commonOf : (Frame → Bool) → List Frame → ℕ
+commonOf p gs = hyperperiod (keep p gs)
 
 -- what a frame more makes of it
-abbrev pub joinOf : ℕ → Frame → ℕ → ℕ
-joinOf j g h = cond (eqb (g .node) j) (lcm (g .period) h) h
+abbrev pub joinBy : (Frame → Bool) → Frame → ℕ → ℕ
+joinBy p g h = cond (p g) (lcm (g .period) h) h
 
-hyper-cons : (j : ℕ) (g : Frame) (gs : List Frame) → hyperOf j (g ∷ gs) ≡ joinOf j g (hyperOf j gs)
-unfolding ofNode
-hyper-cons j g gs = fold-keep hyperperiod (λ x. lcm (x .period)) (λ x xs. unfold hyperperiod lcmOf in refl) _ g gs
+common-cons : (p : Frame → Bool) (g : Frame) (gs : List Frame) → commonOf p (g ∷ gs) ≡ joinBy p g (commonOf p gs)
+common-cons p g gs = fold-keep hyperperiod (λ x. lcm (x .period)) (λ x xs. unfold hyperperiod lcmOf in refl) p g gs
 
-join-ge : (j : ℕ) (g : Frame) (h : ℕ) → 0 < g .period → h ≤ joinOf j g h
-join-ge j g h pos = go (eqb (g .node) j)
+join-ge : (p : Frame → Bool) (g : Frame) (h : ℕ) → 0 < g .period → h ≤ joinBy p g h
+join-ge p g h pos = go (p g)
   where
     go : (b : Bool) → h ≤ cond b (lcm (g .period) h) h
     go true = lcm-ge-second (g .period) h pos
     go false = le-refl h
 
-module _ (fs : List Frame) (j : ℕ) where
+module _ (fs : List Frame) (p : Frame → Bool) where
   -- The loop starts at 1.
-  pub hyper-none : Down (hyperOf j) fs 1 (length fs)
-  unfolding hyperperiod lcmOf ofNode keep
-  hyper-none = down-start (hyperOf j) fs refl
+  pub common-none : Down (commonOf p) fs 1 (length fs)
+  unfolding hyperperiod lcmOf keep
+  common-none = down-start (commonOf p) fs refl
 
   module _ (periods : (i : ℕ) → i < length fs → 1 ≤ row fs i .period) where
-    -- It takes one frame more, which never lowers the hyperperiod.
-    pub hyper-more : {i : ℕ} {g : Frame} {h r : ℕ} → Down (hyperOf j) fs h i → 0 < i → g ≡ row fs (i - 1) → r ≡ joinOf j g h
-        → Down (hyperOf j) fs r (i - 1) × (h ≤ r)
-    hyper-more {i} {h = h} t pos is e =
-        (down-more (hyperOf j) fs (joinOf j) (hyper-cons j) noFrame t pos is e, rw (e, is) (join-ge j (row fs (i - 1)) h (periods (i - 1) (omega (arith, t .inside)))))
+    -- It takes one frame more, which never lowers the multiple.
+    pub common-more : {i : ℕ} {g : Frame} {h r : ℕ} → Down (commonOf p) fs h i → 0 < i → g ≡ row fs (i - 1) → r ≡ joinBy p g h
+        → Down (commonOf p) fs r (i - 1) × (h ≤ r)
+    common-more {i} {h = h} t pos is e =
+        (down-more (commonOf p) fs (joinBy p) (common-cons p) noFrame t pos is e, rw (e, is) (join-ge p (row fs (i - 1)) h (periods (i - 1) (omega (arith, t .inside)))))
 
     -- So that of the frames read is at most that of all.
-    pub hyper-le : (i h : ℕ) → Down (hyperOf j) fs h i → h ≤ hyperOf j fs
-    hyper-le zero h t = omega (arith, down-end (hyperOf j) fs t (le-refl zero))
-    hyper-le (suc i) h t =
+    pub common-le : (i h : ℕ) → Down (commonOf p) fs h i → h ≤ commonOf p fs
+    common-le zero h t = omega (arith, down-end (commonOf p) fs t (le-refl zero))
+    common-le (suc i) h t =
         let s : suc i - 1 ≡ i = omega arith in
-        let next = rw s at (hyper-more t (omega arith) refl refl) in
-        le-trans (next .1) (hyper-le i _ (next .0))
+        let next = rw s at (common-more t (omega arith) refl refl) in
+        le-trans (next .1) (common-le i _ (next .0))
+
+-- ---- that of node j's frames
+
+abbrev pub hyperOf : ℕ → List Frame → ℕ
+hyperOf j gs = hyperperiod (ofNode gs j)
+
+abbrev pub joinOf : ℕ → Frame → ℕ → ℕ
+joinOf j g h = joinBy (λ f. eqb (f .node) j) g h
+
+module _ (fs : List Frame) (j : ℕ) (periods : (i : ℕ) → i < length fs → 1 ≤ row fs i .period) where
+  pub hyper-more : {i : ℕ} {g : Frame} {h r : ℕ} → Down (hyperOf j) fs h i → 0 < i → g ≡ row fs (i - 1) → r ≡ joinOf j g h
+      → Down (hyperOf j) fs r (i - 1) × (h ≤ r)
+  unfolding ofNode
+  hyper-more = common-more fs (λ f. eqb (f .node) j) periods
+
+  pub hyper-le : (i h : ℕ) → Down (hyperOf j) fs h i → h ≤ hyperOf j fs
+  unfolding ofNode
+  hyper-le = common-le fs (λ f. eqb (f .node) j) periods

@@ -197,7 +197,7 @@ levels k i stop = map (nodeAt k) (range i (stop - i))
 
 module _ (k : Frame) where
   -- What the levels list is the node of one of them.
-  of-levels : (i stop : ℕ) {j : ℕ} → Mem j (levels k i stop) → (m : ℕ) × (i ≤ m) × (m < stop) × (j ≡ nodeAt k m)
+  pub of-levels : (i stop : ℕ) {j : ℕ} → Mem j (levels k i stop) → (m : ℕ) × (i ≤ m) × (m < stop) × (j ≡ nodeAt k m)
   unfolding levels
   of-levels i stop l =
       let (m, r, e) = of-map (nodeAt k) (range i (stop - i)) l in

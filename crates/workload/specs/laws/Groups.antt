@@ -4,6 +4,7 @@ use mathlib.Core.Path.{_≡_, refl, sym, ap, subst, _∙_}
 use mathlib.Core.Bool.{Bool, true, false, cond, _&&_}
 use mathlib.Core.List.{List, _∷_, _++_, append-nil}
 use native.Mathlib.Omega.{arith}
+use native.Mathlib.Nat.{le-trans}
 use native.Mathlib.Numerals.{add-one}
 use lib.Dec.{eqb, leb}
 use lib.ListN.{length, getD, take, drop, set, length-set}
@@ -21,8 +22,11 @@ use Rattle.bus_model.specs.declared.Choice.the-variants.{Fixed, Any}
 use Rattle.bus_model.specs.Frame.{noFrame, row}
 use Rattle.bus_model.specs.Pattern.{ofNode, hyperperiod}
 use Rattle.bus_model.specs.Bounds.{isAhead, isBelow, ahead, below, blocking, alignments, choiceOf, nodeWork}
+use Rattle.bus_model.specs.Valid.{Valid}
 use Rattle.bus_model.specs.theory.Visits.{isAlignment}
-use Rattle.workload.specs.Grouped.{FineTable, FinePart, framesIn, isInstant, instantsIn, partOf, Grouped}
+use Rattle.bus_model.specs.theory.Hyperperiod.{commonOf}
+use Rattle.bus_model.specs.theory.Turns.{turn, firstTurn, turn-le, node-work-turn}
+use Rattle.workload.specs.Grouped.{FineTable, FinePart, framesIn, isInstant, instantsIn, isCounted, partOf, Grouped}
 use Rattle.workload.specs.laws.Fine.{member-fine, group-fine}
 
 -- ---- blocking
@@ -120,13 +124,30 @@ module _ {fs : List Frame} {k : Frame} {node : ℕ} {area : List ℕ} where
         let all = count-end _ _ _ _ (s .found) over in
         (ap (framesIn fs) (sym (append-nil (take count area)) ∙ all) ∙ rows-frames fs k node, omega (arith, s .few, s .short, s .found .inside))
 
+-- ---- the least common multiple of the periods of a node's frames
+
+-- It is the hyperperiod of all its frames,
+pub counted-whole : (fs : List Frame) (k : Frame) (j : ℕ) → commonOf (isCounted true k j) fs ≡ hyperperiod (ofNode fs j)
+unfolding isCounted ofNode
+counted-whole fs k j = refl
+
+-- and the turn of those ahead.
+pub counted-turn : (fs : List Frame) (k : Frame) (j : ℕ) → commonOf (isCounted false k j) fs ≡ turn fs k j
+unfolding isCounted turn ofNode ahead
+counted-turn fs k j = ap hyperperiod (sym (keep-keep (isAhead k) (λ (g : Frame). eqb (g .node) j) fs))
+
+-- It is small.
+pub counted-small : {fs : List Frame} → FineTable fs → (k : Frame) {j : ℕ} → 1 ≤ j → j ≤ 16 → (whole : Bool) → commonOf (isCounted whole k j) fs ≤ 1000000
+counted-small {fs} table k {j} low high true = rw (counted-whole fs k j) (table .hyper j low high)
+counted-small {fs} table k {j} low high false = rw (counted-turn fs k j) (le-trans (turn-le (table .valid) k j) (table .hyper j low high))
+
 -- ---- the groups of the first nodes
 
 -- the group of node i + 1 is filled
 pub record Filled (fs : List Frame) (k : Frame) (members counts ends : List ℕ) (i : ℕ) : Type 0 where
   pub few : getD counts i 0 ≤ 64
   pub part : framesIn fs (take (getD counts i 0) (drop (64 * i) members)) ≡ ofNode (ahead fs k) (i + 1)
-  pub end : getD ends i 0 ≡ hyperperiod (ofNode fs (i + 1))
+  pub end : getD ends i 0 ≡ turn fs k (i + 1)
 
 -- the groups of the first m nodes are
 pub record FilledTo (fs : List Frame) (k : Frame) (members counts ends : List ℕ) (m : ℕ) : Type 0 where
@@ -139,7 +160,7 @@ module _ {fs : List Frame} {k : Frame} {members counts ends : List ℕ} where
   -- One group more is filled, from an area of its size.
   pub filled-more : (m c h from to : ℕ) (area : List ℕ) → FilledTo fs k members counts ends m → m < 16 → from ≡ 64 * m → to ≡ from + 64
       → length area ≡ length (midOf from (to - from) members) → c ≤ 64
-      → framesIn fs (take c area) ≡ ofNode (ahead fs k) (m + 1) → h ≡ hyperperiod (ofNode fs (m + 1))
+      → framesIn fs (take c area) ≡ ofNode (ahead fs k) (m + 1) → h ≡ turn fs k (m + 1)
       → FilledTo fs k (putMid from (to - from) members area) (set counts m c) (set ends m h) (m + 1)
   filled-more m c h from to area f l at wide size small frames hyper = record {
     members-size = same-len-mid from (to - from) members area size ∙ f .members-size;
@@ -195,42 +216,36 @@ module _ {fs : List Frame} {k : Frame} {members counts ends : List ℕ} (g : Gro
   lent-frames : framesIn fs (lent members counts i) ≡ ofNode (ahead fs k) (i + 1)
   lent-frames = ap (framesIn fs) lent-part ∙ g .part (i + 1) (omega arith) (omega arith)
 
-  lent-end : getD ends i 0 ≡ hyperperiod (ofNode fs (i + 1))
+  lent-end : getD ends i 0 ≡ turn fs k (i + 1)
   lent-end = rw place at (g .end (i + 1) (omega arith) (omega arith))
 
   -- They are inside the members.
   pub lent-inside : 64 * i + getD counts i 0 ≤ length members
   lent-inside = let few : getD counts i 0 ≤ 64 = rw place at (g .few (i + 1) (omega arith) (omega arith)) in omega (arith, g .members-size)
 
-  -- They and the node's hyperperiod are within their limits.
+  -- They and the node's turn are within their limits.
   pub lent-fine : FineTable fs → FinePart fs (lent members counts i) × (getD ends i 0 ≤ 1000000)
   lent-fine accepted = (
     subst (FinePart fs) (sym lent-part) (group-fine fs accepted g (i + 1) (omega arith) (omega arith)),
-    rw lent-end (accepted .hyper (i + 1) (omega arith) (omega arith)),
+    rw lent-end (le-trans (turn-le (accepted .valid) k (i + 1)) (accepted .hyper (i + 1) (omega arith) (omega arith))),
   )
 
-  -- Their instants are the node's alignments,
-  pub lent-alignments : instantsIn (framesIn fs (lent members counts i)) (getD ends i 0) ≡ alignments fs k (i + 1)
-  unfolding alignments
+  -- Their instants are the node's alignments in the first turn,
+  pub lent-alignments : instantsIn (framesIn fs (lent members counts i)) (getD ends i 0) ≡ firstTurn fs k (i + 1)
+  unfolding firstTurn
   lent-alignments = rw (lent-frames, lent-end)
 
   -- also for a search.
   pub lent-search : {j : ℕ} → j ≡ i + 1 → (after : ℕ) → least (isInstant (framesIn fs (lent members counts i))) (getD ends i 0 - after) after
-      ≡ least (isAlignment fs k j) (hyperperiod (ofNode fs j) - after) after
+      ≡ least (isAlignment fs k j) (turn fs k j - after) after
   lent-search node after = rw (node, lent-frames, lent-end)
 
   -- The choice that is read is the node's.
   pub lent-choice : (cs : List Choice) → length cs ≡ 16 → getD cs i (Fixed 0) ≡ choiceOf cs (i + 1)
   lent-choice cs all = rw place (getD-within cs i (Fixed 0) Any (omega arith))
 
-  -- They give the node's work by a choice,
-  pub lent-node : (choice : Choice) (n : ℕ) {r : ℕ}
+  -- They give the node's work by a choice.
+  pub lent-node : Valid fs → (choice : Choice) (n : ℕ) {r : ℕ}
       → r ≡ nodeWork (framesIn fs (lent members counts i)) (instantsIn (framesIn fs (lent members counts i)) (getD ends i 0)) choice n
       → r ≡ nodeWork (ofNode (ahead fs k) (i + 1)) (alignments fs k (i + 1)) choice n
-  lent-node choice n e = rw (lent-alignments, lent-frames) at e
-
-  -- and by that of a scenario.
-  pub lent-work : (cs : List Choice) (n : ℕ) {r : ℕ} → length cs ≡ 16
-      → r ≡ nodeWork (framesIn fs (lent members counts i)) (instantsIn (framesIn fs (lent members counts i)) (getD ends i 0)) (getD cs i (Fixed 0)) n
-      → r ≡ nodeWork (ofNode (ahead fs k) (i + 1)) (alignments fs k (i + 1)) (choiceOf cs (i + 1)) n
-  lent-work cs n all e = rw (lent-choice cs all) at (lent-node _ n e)
+  lent-node valid choice n e = rw (lent-alignments, lent-frames) at e ∙ node-work-turn valid k (i + 1) choice n

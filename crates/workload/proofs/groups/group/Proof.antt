@@ -5,7 +5,7 @@ use Prim.Native.Nat.{ℕ, _+_, _*_, _-_}
 use mathlib.Core.Path.{_≡_, _∙_, refl}
 use native.Mathlib.Omega.{arith}
 use Rattle.workload.specs.Stored.{stored}
-use Rattle.workload.specs.laws.Groups.{FilledTo, filled-more, filled-all}
+use Rattle.workload.specs.laws.Groups.{counted-turn, FilledTo, filled-more, filled-all}
 use Rattle.workload.proofs.groups.group.Statement.{statement}
 use Rattle.workload.proofs.groups.group.Tie as tie
 
@@ -55,8 +55,8 @@ mul-counts c = search needs
 slice-write-counts : tie.Need-slice-write-counts Inv-loop μ-loop
 slice-write-counts c = search needs
 
-node-hyperperiod-requires : tie.Need-node-hyperperiod-requires Inv-loop μ-loop
-node-hyperperiod-requires c κs = search needs
+common-multiple-requires : tie.Need-common-multiple-requires Inv-loop μ-loop
+common-multiple-requires c κs = search needs
 
 mul-ends : tie.Need-mul-ends Inv-loop μ-loop
 mul-ends c = search needs
@@ -74,8 +74,8 @@ loop-again : tie.Need-loop-again Inv-loop μ-loop
 loop-again c =
     let at-loop = c .before .before .before .before .before .before in
     let g = c .before .before .before .gather in
-    filled-more _ (g .result) (c .node-hyperperiod .result) _ _ (g .last .1 .1 .1 .0) (at-loop .loop .inv) (c .before .before .before .before .before .loop-test .taken) refl refl
-    (g .kept .1 .1 .1 .0) (g .ensures .1) (g .ensures .0) (c .node-hyperperiod .ensures)
+    filled-more _ (g .result) (c .common-multiple .result) _ _ (g .last .1 .1 .1 .0) (at-loop .loop .inv) (c .before .before .before .before .before .loop-test .taken) refl refl
+    (g .kept .1 .1 .1 .0) (g .ensures .1) (g .ensures .0) (c .common-multiple .ensures ∙ counted-turn _ _ _)
 
 same-length : tie.Need-same-length Inv-loop μ-loop
 same-length c = search needs
@@ -106,7 +106,7 @@ group-spec =
     gather-requires
     mul-counts
     slice-write-counts
-    node-hyperperiod-requires
+    common-multiple-requires
     mul-ends
     slice-write-ends
     add-j

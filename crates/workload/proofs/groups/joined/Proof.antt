@@ -1,6 +1,5 @@
--- `workload::groups::joined` meets its contract: only frames of the node count.
+-- Only a frame that counts is joined.
 use native.Mathlib.Omega.{arith}
-use borrow.Author.Tests.{eq-eqb, ne-eqb}
 use borrow.Author.Needs.{needs}
 use Rattle.workload.proofs.groups.joined.Statement.{statement}
 use Rattle.workload.proofs.groups.joined.Tie as tie
@@ -12,13 +11,20 @@ lcm-requires : tie.Need-lcm-requires
 lcm-requires c κs = search needs
 
 cast-result : tie.Need-cast-result
-cast-result c = omega (arith, c .lcm .ensures, rw (eq-eqb _ _ (c .before .before .if1 .taken)) at (c .before .before .before .before .pre .2))
+cast-result c = omega (arith, c .lcm .ensures, rw (c .before .before .if1 .taken) at (c .before .before .before .pre .2))
 
 returns : tie.Need-returns
-returns c = rw (eq-eqb _ _ (c .before .before .if1 .taken)) (c .lcm .ensures)
+returns c = rw (c .before .before .if1 .taken) (c .lcm .ensures)
 
 returns-2 : tie.Need-returns-2
-returns-2 c = rw (ne-eqb _ _ (c .if1 .left))
+returns-2 c = rw (c .if1 .left)
 
 pub joined-spec : {M : Type 1} → statement M
-joined-spec = tie.close (tie.spec cast-lcm lcm-requires cast-result returns returns-2)
+joined-spec =
+    tie.close
+    (tie.spec
+    cast-lcm
+    lcm-requires
+    cast-result
+    returns
+    returns-2)
