@@ -3,6 +3,7 @@ use alignment_walk::count_alignments;
 use bus_model::Frame;
 use workload::GROUP;
 use workload::NODES;
+use workload::common_multiple;
 ghost use mathlib.Core.Path.{_≡_};
 ghost use Prim.Native.Nat.{_*_, _≤_, min};
 ghost use Rattle.bus_model.specs.Bounds.{scenarioCount};
@@ -42,7 +43,8 @@ pub fn scenario_count(
     while j < NODES {
         let from = GROUP * j;
         let to = from + counts[j];
-        let count = count_alignments(frames, &members[from..to], ends[j]);
+        let end = common_multiple(frames, k, (j + 1) as u32, true);
+        let count = count_alignments(frames, &members[from..to], end);
         product = cut_product(product, count);
         j += 1;
     }

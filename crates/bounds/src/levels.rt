@@ -14,9 +14,9 @@ ghost use lib.ListN.{set};
 ghost use Rattle.arith.specs.Lists.{sum};
 ghost use Rattle.arith.specs.Least.{least};
 ghost use Rattle.bus_model.specs.declared.Choice.the-variants.{Fixed};
-ghost use Rattle.bus_model.specs.Pattern.{ofNode, hyperperiod};
 ghost use Rattle.bus_model.specs.theory.Refine.{nodeAt};
 ghost use Rattle.bus_model.specs.theory.Visits.{isAlignment};
+ghost use Rattle.bus_model.specs.theory.Turns.{turn};
 ghost use Rattle.workload.specs.Stored.{stored};
 ghost use Rattle.workload.specs.Grouped.{FinePart, Grouped, InTable, FineTable, framesIn};
 
@@ -46,7 +46,7 @@ pub fn node_at(k: Frame, i: usize) -> usize
     i + 1
 }
 
-// The first alignment of node j at or after a tick.
+// The first alignment of node j at or after a tick, in the first turn: those after it look like these.
 pub fn next_of(
     frames: &[u32],
     members: &[u8],
@@ -58,8 +58,8 @@ pub fn next_of(
 ) -> Found
     requires { ⌜ FineTable (stored (now frames)) ⌝ }
     requires { ⌜ Grouped (stored (now frames)) k (now members) (now counts) (now ends) ⌝ }
-    requires { ⌜ (1 ≤ j) × (j ≤ 16) × (after ≤ hyperperiod (ofNode (stored (now frames)) j)) ⌝ }
-    ensures { λ r. ⌜ r ≡ least (isAlignment (stored (now (frames .entry))) k j) (hyperperiod (ofNode (stored (now (frames .entry))) j) - after) after ⌝ }
+    requires { ⌜ (1 ≤ j) × (j ≤ 16) × (after ≤ turn (stored (now frames)) k j) ⌝ }
+    ensures { λ r. ⌜ r ≡ least (isAlignment (stored (now (frames .entry))) k j) (turn (stored (now (frames .entry))) k j - after) after ⌝ }
 {
     let at = j - 1;
     let from = GROUP * at;
@@ -80,7 +80,7 @@ pub fn has_later(
 ) -> bool
     requires { ⌜ FineTable (stored (now frames)) ⌝ }
     requires { ⌜ Grouped (stored (now frames)) k (now members) (now counts) (now ends) ⌝ }
-    requires { ⌜ (1 ≤ j) × (j ≤ 16) × (a < hyperperiod (ofNode (stored (now frames)) j)) ⌝ }
+    requires { ⌜ (1 ≤ j) × (j ≤ 16) × (a < turn (stored (now frames)) k j) ⌝ }
 {
     let found = next_of(frames, members, counts, ends, k, j, a + 1);
     match found {

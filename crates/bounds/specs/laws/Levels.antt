@@ -28,26 +28,27 @@ use Rattle.bus_model.specs.theory.Frames.{node-listed}
 use Rattle.bus_model.specs.theory.Work.{RefinedBy}
 use Rattle.bus_model.specs.theory.Response.{window-refine}
 use Rattle.bus_model.specs.theory.Judged.{has-windows}
-use Rattle.bus_model.specs.theory.Visits.{isAlignment, visit-first, found-listed, first-listed}
-use Rattle.bus_model.specs.theory.Refine.{refined, free, set-same, nodeAt, levels, node-first, level-node, own-scenarios, precise-refined, refined-step, Level, level-start, level-more, own-kept, refines-node, pruned, split-pruned}
-use Rattle.bus_model.specs.theory.Approximate.{both, greatestFound, scenarioFound, found-at, found-counts}
+use Rattle.bus_model.specs.theory.Visits.{isAlignment}
+use Rattle.bus_model.specs.theory.Refine.{refined, free, set-same, nodeAt, levels, node-first, level-node, of-levels, own-scenarios, precise-refined, refined-step, Level, level-start, level-more, own-kept, refines-node, pruned, split-pruned}
+use Rattle.bus_model.specs.theory.Approximate.{both, greatestFound, scenarioFound, approximateFound, found-at, found-counts}
+use Rattle.bus_model.specs.theory.Turns.{turn, firstTurn, refined-turn, split-turn, approximate-turn, visit-first, found-listed, first-listed}
 use Rattle.workload.specs.Grouped.{FineTable, framesIn, instantsIn, Grouped, InTable}
 use Rattle.response_time.specs.Load.{WindowWithin}
-use Rattle.workload.specs.laws.Groups.{lent, lent-alignments}
+use Rattle.workload.specs.laws.Groups.{lent, lent-frames}
 
 -- ---- the number of scenarios
 
 -- how many alignments the rows of node i + 1 give, an empty one counting 1
-abbrev pub countAt : List Frame → List ℕ → List ℕ → List ℕ → ℕ → ℕ
-countAt fs members counts ends i = length (orEmpty (instantsIn (framesIn fs (lent members counts i)) (getD ends i 0)))
+abbrev pub countAt : List Frame → List ℕ → List ℕ → ℕ → ℕ
+countAt fs members counts i = length (orEmpty (instantsIn (framesIn fs (lent members counts i)) (hyperperiod (ofNode fs (i + 1)))))
 
 -- Their product is the scenario count.
 pub counts-product : {fs : List Frame} {k : Frame} {members counts ends : List ℕ} → Grouped fs k members counts ends
-    → product (countAt fs members counts ends) (range 0 16) ≡ scenarioCount fs k
-unfolding scenarioCount
+    → product (countAt fs members counts) (range 0 16) ≡ scenarioCount fs k
+unfolding scenarioCount alignments
 counts-product {fs} {k} grouped =
     product-shift _ (λ j. length (orEmpty (alignments fs k j))) 0 16
-    (λ i low high. ap (λ (instants : List ℕ). length (orEmpty instants)) (rw add-one at (lent-alignments grouped i (omega arith))))
+    (λ i low high. ap (λ (instants : List ℕ). length (orEmpty instants)) (rw (lent-frames grouped i (omega arith), add-one i)))
 
 -- ---- the approximate bound, as a loop finds it
 
@@ -62,9 +63,9 @@ found-end f done = ap At (omega arith)
 
 -- ---- the greatest value over a node's alignments, as a loop finds it
 
--- The loop stands at a: `most` is the greatest of `from` and the values f of the alignments before a.
+-- The loop stands at a: `most` is the greatest of `from` and the values f of the alignments before a. Those of the first turn are visited.
 pub record Best (fs : List Frame) (k : Frame) (j : ℕ) (f : ℕ → ℕ) (from most a : ℕ) : Type 0 where
-  pub walk : Walk (greatest f) max (isAlignment fs k j) (hyperperiod (ofNode fs j)) (max from (greatest f (orEmpty (alignments fs k j)))) most a
+  pub walk : Walk (greatest f) max (isAlignment fs k j) (turn fs k j) (max from (greatest f (orEmpty (firstTurn fs k j)))) most a
   pub listed : Mem a (orEmpty (alignments fs k j))
 
 module _ (fs : List Frame) (k : Frame) (j : ℕ) (f : ℕ → ℕ) where
@@ -72,10 +73,10 @@ module _ (fs : List Frame) (k : Frame) (j : ℕ) (f : ℕ → ℕ) where
   passes = isAlignment fs k j
 
   abbrev end : ℕ
-  end = hyperperiod (ofNode fs j)
+  end = turn fs k j
 
   abbrev goal : ℕ → ℕ
-  goal from = max from (greatest f (orEmpty (alignments fs k j)))
+  goal from = max from (greatest f (orEmpty (firstTurn fs k j)))
 
   -- It starts at the first.
   pub best-first : Valid fs → {from a : ℕ} (first : Found) → first ≡ least passes (end - 0) 0 → a ≡ orZero first → Best fs k j f from from a
@@ -83,20 +84,20 @@ module _ (fs : List Frame) (k : Frame) (j : ℕ) (f : ℕ → ℕ) where
 
   module _ {from most next a : ℕ} (best : Best fs k j f from most a) (more : next ≡ max most (f a)) where
     -- It goes on to the next.
-    pub best-more : {b : ℕ} → least passes (end - (a + 1)) (a + 1) ≡ At b → Best fs k j f from next b
-    best-more is = record { walk = walk-more (greatest f) max passes end (goal from) (best .walk) (greatest-more f most a more) is; listed = found-listed fs k j (a + 1) is }
+    pub best-more : Valid fs → {b : ℕ} → least passes (end - (a + 1)) (a + 1) ≡ At b → Best fs k j f from next b
+    best-more valid is = record { walk = walk-more (greatest f) max passes end (goal from) (best .walk) (greatest-more f most a more) is; listed = found-listed valid k j (a + 1) is }
 
     -- It ends after the last.
-    pub best-end : least passes (end - (a + 1)) (a + 1) ≡ Nothing → next ≡ max from (greatest f (orEmpty (alignments fs k j)))
+    pub best-end : least passes (end - (a + 1)) (a + 1) ≡ Nothing → next ≡ max from (greatest f (orEmpty (firstTurn fs k j)))
     unfolding greatest
     best-end none = let ended = walk-end (greatest f) max passes end (goal from) (best .walk) (greatest-more f most a more) none in omega arith
 
   -- It may end where none of the values exceeds what it has.
-  pub best-over : {from most a all : ℕ} → Best fs k j f from most a → from ≤ most → greatest f (orEmpty (alignments fs k j)) ≡ all → all ≤ most → most ≡ max from all
+  pub best-over : {from most a all : ℕ} → Best fs k j f from most a → from ≤ most → greatest f (orEmpty (firstTurn fs k j)) ≡ all → all ≤ most → most ≡ max from all
   best-over best low whole le = omega (arith, best .walk .is)
 
   -- If it ends with what it started from, no value is greater.
-  pub best-stays : {most a : ℕ} → Best fs k j f most most a → f a ≤ most → least passes (end - (a + 1)) (a + 1) ≡ Nothing → (b : ℕ) → Mem b (orEmpty (alignments fs k j)) → f b ≤ most
+  pub best-stays : {most a : ℕ} → Best fs k j f most most a → f a ≤ most → least passes (end - (a + 1)) (a + 1) ≡ Nothing → (b : ℕ) → Mem b (orEmpty (firstTurn fs k j)) → f b ≤ most
   best-stays {most} best le none b m = omega (arith, best-end {next = most} best (omega arith) none, le-greatest f m)
 
 -- ---- one scenario
@@ -117,11 +118,6 @@ module _ {fs : List Frame} {k : Frame} {cs : List Choice} {limit : ℕ} where
 -- the greatest response from level i on, where its node j takes alignment a
 abbrev pub nextLevel : List Frame → Frame → List Choice → ℕ → ℕ → ℕ → ℕ
 nextLevel fs k cs i j a = refined fs k (levels k (i + 1) nodes) (set cs (j - 1) (Fixed a))
-
--- The greatest over its alignments is that from level i on.
-pub next-levels : (fs : List Frame) (k : Frame) (cs : List Choice) {i j : ℕ} → j ≡ nodeAt k i → i < nodes
-    → greatest (nextLevel fs k cs i j) (orEmpty (alignments fs k j)) ≡ refined fs k (levels k i nodes) cs
-next-levels fs k cs {i} at less = rw at (sym (refined-step fs k cs i nodes less))
 
 -- the response where node j takes alignment a
 abbrev pub splitResponse : List Frame → Frame → List Choice → ℕ → ℕ → ℕ
@@ -167,6 +163,16 @@ module _ {fs : List Frame} (valid : Valid fs) {n : ℕ} (inside : n < length fs)
       let refines = refines-node fs f cs (level-node f self i less) long left (rw at at m) in
       rw (e, at) (own-kept fs f cs (set cs (nodeAt f i - 1) (Fixed a)) refines self fixed, within-refined refines within)
 
+  row-levels : (cs : List Choice) → length cs ≡ nodes → {i j : ℕ} → j ≡ nodeAt f i → i < nodes
+      → greatest (nextLevel fs f cs i j) (orEmpty (firstTurn fs f j)) ≡ refined fs f (levels f i nodes) cs
+  row-levels cs long {i} at less =
+      rw at (refined-turn valid inside cs long (nodeAt f i) (level-node f self i less) (levels f (i + 1) nodes) (λ j m. let (n, low, high, e) = of-levels f (i + 1) nodes m in rw e (level-node f self n high))
+      ∙ sym (refined-step fs f cs i nodes less))
+
+  row-every : (cs : List Choice) → length cs ≡ nodes → {i j : ℕ} → j ≡ nodeAt f i → i < nodes → {most : ℕ}
+      → ((a : ℕ) → Mem a (orEmpty (firstTurn fs f j)) → splitResponse fs f cs j a ≤ most) → (a : ℕ) → Mem a (orEmpty (alignments fs f j)) → splitResponse fs f cs j a ≤ most
+  row-every cs long {i} at less = rw at (split-turn valid inside cs long (nodeAt f i) (level-node f self i less))
+
   row-next : {i own limit : ℕ} {cs : List Choice} → Reached fs f i own limit cs → i < nodes → {j : ℕ} → j ≡ nodeAt f i → {a : ℕ} → Mem a (orEmpty (alignments fs f j))
       → {cs′ : List Choice} → cs′ ≡ set cs (j - 1) (Fixed a) → Reached fs f (i + 1) own limit cs′
   row-next {i} (fixed, level, within) less {j} at {a} m e =
@@ -183,6 +189,20 @@ module _ {fs : List Frame} (accepted : FineTable fs) {k : Frame} (table : InTabl
 
   pub own-node : (1 ≤ k .node) × (k .node ≤ 16)
   own-node = reached-node (sym (node-first k)) (lit< tt)
+
+  -- The greatest over the alignments of a level's node is that from the level on.
+  pub next-levels : (cs : List Choice) → length cs ≡ nodes → {i j : ℕ} → j ≡ nodeAt k i → i < nodes
+      → greatest (nextLevel fs k cs i j) (orEmpty (firstTurn fs k j)) ≡ refined fs k (levels k i nodes) cs
+  next-levels = rw (table .is) (row-levels (accepted .valid) (table .inside))
+
+  -- What holds of each alignment of the first turn holds of all.
+  pub every-split : (cs : List Choice) → length cs ≡ nodes → {i j : ℕ} → j ≡ nodeAt k i → i < nodes → {most : ℕ}
+      → ((a : ℕ) → Mem a (orEmpty (firstTurn fs k j)) → splitResponse fs k cs j a ≤ most) → (a : ℕ) → Mem a (orEmpty (alignments fs k j)) → splitResponse fs k cs j a ≤ most
+  every-split = rw (table .is) (row-every (accepted .valid) (table .inside))
+
+  -- The approximate bound is found in the first turn.
+  pub own-found : greatestFound (ownFound fs k) (orEmpty (firstTurn fs k (k .node))) ≡ approximateFound fs k
+  own-found = rw (table .is) (approximate-turn (accepted .valid) (table .inside))
 
   -- Where the scenario with no node fixed has a window, it is not exceeded where k's own is.
   pub free-within : {a : ℕ} → Mem a (orEmpty (alignments fs k (k .node))) → {l : ℕ} → busyWindow fs k free ≡ At l
@@ -215,5 +235,5 @@ module _ {fs : List Frame} (accepted : FineTable fs) {k : Frame} (table : InTabl
   reached-split = rw (table .is) (λ (fixed, level, w) some m. split-pruned (accepted .valid) (table .inside) level some nodes (le-refl nodes) (w .window) (w .is) {m = m})
 
   -- From the first level on it finds the precise bound.
-  pub precise-levels : {most : ℕ} → most ≡ max 0 (greatest (nextLevel fs k free 0 (k .node)) (orEmpty (alignments fs k (k .node)))) → most ≡ preciseBound fs k
-  precise-levels is = omega (arith, next-levels fs k free (sym (node-first k)) (lit< tt), precise-refined fs valid-self)
+  pub precise-levels : {most : ℕ} → most ≡ max 0 (greatest (nextLevel fs k free 0 (k .node)) (orEmpty (firstTurn fs k (k .node)))) → most ≡ preciseBound fs k
+  precise-levels is = omega (arith, next-levels free refl (sym (node-first k)) (lit< tt), precise-refined fs valid-self)

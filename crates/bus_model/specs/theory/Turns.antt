@@ -2,7 +2,7 @@
 -- shorter than its hyperperiod: from an instant and from the same one a turn later these frames are released at the same distances.
 -- So a search need only visit the alignments of the first turn.
 use Prim.Native.Nat.{ℕ, zero, suc, _+_, _-_, _*_, _/_, _%_, _≤_, _<_, _∣_}
-use mathlib.Core.Path.{_≡_, refl, sym, ap, ap₂, _∙_, fun-ext}
+use mathlib.Core.Path.{_≡_, refl, sym, ap, ap₂, subst, _∙_, fun-ext}
 use mathlib.Core.List.{List, [], _∷_, List·Memᴰ as Mem, List·Memᴰ·eq-of-singleton, List·Memᴰ·head as here, List·Memᴰ·tail as there, List·Memᴰ·not-nil}
 use mathlib.Core.Bool.{Bool, true, false, cond}
 use native.Mathlib.Omega.{arith}
@@ -16,6 +16,7 @@ use Rattle.arith.specs.Releases.{releasesBefore}
 use Rattle.arith.specs.laws.Sums.{sum-same, le-greatest, greatest-le}
 use Rattle.arith.specs.laws.Tests.{same-test}
 use Rattle.arith.specs.laws.Members.{mem-keep, of-keep, mem-range, of-range, exists-mem, of-exists}
+use Rattle.arith.specs.laws.Walks.{Walk, keep-found, walk-start}
 use Rattle.arith.specs.laws.Multiples.{lcmOf-pos, lcmOf-least}
 use Rattle.bus_model.specs.Frame.{row}
 use Rattle.bus_model.specs.Valid.{ValidFrame, Valid}
@@ -24,7 +25,7 @@ use Rattle.bus_model.specs.Bounds.{nodes, windowLimit, ahead, blocking, 
 use Rattle.bus_model.specs.theory.Pattern.{hyperperiod-multiple}
 use Rattle.bus_model.specs.theory.Frames.{Part, phase-fits, node-listed, valid-frame, better-ahead, of-ahead, of-node, node-part, self-ahead, node-divides, node-pos}
 use Rattle.bus_model.specs.theory.Alignment.{released-at, released-turn, or-empty}
-use Rattle.bus_model.specs.theory.Visits.{isAlignment}
+use Rattle.bus_model.specs.theory.Visits.{isAlignment, first-visited}
 use Rattle.bus_model.specs.theory.Refine.{refined, free, set-same, set-other}
 use Rattle.bus_model.specs.theory.Approximate.{greatestFound, greatest-found, scenarioFound, approximateFound, found-counts}
 use Rattle.arith.specs.declared.Found.{Found}
@@ -351,3 +352,26 @@ module _ {fs : List Frame} (valid : Valid fs) {k : ℕ} (inside : k < length fs)
       let own : ℕ → List Choice = λ a. set free (f .node - 1) (Fixed a) in
       found-turn valid f (f .node) (λ a. scenarioFound fs f (own a)) (λ a.
       found-alike (own (a % turn fs f (f .node))) (own a) (alike-turn free refl (f .node) (node-listed (valid .frame k inside)) a))
+
+-- ---- a visit of the first turn
+
+module _ {A B : Type 0} (F : List ℕ → B) (join : A → B → B) (goal : B) where
+  -- It starts at what a search finds first; a node without alignments is visited once, at 0.
+  pub visit-first : {fs : List Frame} → Valid fs → (k : Frame) (j : ℕ) {done : A} (found : Found) → found ≡ least (isAlignment fs k j) (turn fs k j - 0) 0
+      → join done (F (orEmpty (firstTurn fs k j))) ≡ goal → Walk F join (isAlignment fs k j) (turn fs k j) goal done (orZero found)
+  unfolding firstTurn
+  visit-first {fs} valid k j found is start =
+      let (inside, first) = first-visited (isAlignment fs k j) (turn fs k j) (turn-pos valid k j) found is in
+      walk-start F join (isAlignment fs k j) (turn fs k j) goal (orEmpty (firstTurn fs k j)) inside first start
+
+module _ {fs : List Frame} (valid : Valid fs) (k : Frame) (j : ℕ) where
+  -- What a search in it finds is an alignment.
+  pub found-listed : (n : ℕ) {b : ℕ} → least (isAlignment fs k j) (turn fs k j - n) n ≡ At b → Mem b (orEmpty (alignments fs k j))
+  unfolding firstTurn
+  found-listed n is = or-empty (first-alignment valid k j (keep-found (isAlignment fs k j) (turn fs k j) n refl is))
+
+  -- So is the first, or the empty one.
+  pub first-listed : (first : Found) → first ≡ least (isAlignment fs k j) (turn fs k j - 0) 0 → Mem (orZero first) (orEmpty (alignments fs k j))
+  first-listed first is =
+      let w = visit-first {A = ℕ} (λ xs. xs) (λ done xs. xs) (orEmpty (firstTurn fs k j)) valid k j {done = 0} first is refl in
+      first-aligned valid k j (subst (Mem (orZero first)) (w .is) (here refl))

@@ -213,7 +213,7 @@ module _ {fs : List Frame} {k : Frame} {members counts ends : List ℕ} (g : Gro
   lent-part : lent members counts i ≡ partOf members counts (i + 1)
   lent-part = let size : 64 * i + getD counts i 0 - 64 * i ≡ getD counts i 0 = omega arith in rw (place, size)
 
-  lent-frames : framesIn fs (lent members counts i) ≡ ofNode (ahead fs k) (i + 1)
+  pub lent-frames : framesIn fs (lent members counts i) ≡ ofNode (ahead fs k) (i + 1)
   lent-frames = ap (framesIn fs) lent-part ∙ g .part (i + 1) (omega arith) (omega arith)
 
   lent-end : getD ends i 0 ≡ turn fs k (i + 1)

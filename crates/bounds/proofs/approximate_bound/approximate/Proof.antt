@@ -9,27 +9,26 @@ use Rattle.arith.specs.declared.Found.the-variants.{At}
 use Rattle.arith.specs.laws.Members.{mem-range}
 use Rattle.arith.specs.laws.Walks.{Walk, walk-more, walk-less, walk-end}
 use Rattle.bus_model.specs.Bounds.{nodes, alignments, orEmpty}
-use Rattle.bus_model.specs.Pattern.{ofNode, hyperperiod}
 use Rattle.bus_model.specs.theory.Refine.{free, set-same}
-use Rattle.bus_model.specs.theory.Visits.{isAlignment, visit-first}
+use Rattle.bus_model.specs.theory.Visits.{isAlignment}
 use Rattle.bus_model.specs.theory.Approximate.{both, greatestFound, approximateFound, found-more, both-missing, both-zero}
 use Rattle.workload.specs.Stored.{stored}
 use Rattle.greatest_work.specs.Kept.{Kept}
 use Rattle.response_time.specs.laws.Searches.{window-small}
-use Rattle.bus_model.specs.theory.Visits.{first-listed, found-listed}
-use Rattle.bounds.specs.laws.Levels.{own-node, ownFound, found-end, free-within}
+use Rattle.bus_model.specs.theory.Turns.{turn, turn-le, visit-first, first-listed, found-listed}
+use Rattle.bounds.specs.laws.Levels.{own-node, ownFound, found-end, free-within, own-found}
 use Rattle.bounds.proofs.approximate_bound.approximate.Statement.{statement}
 use Rattle.bounds.proofs.approximate_bound.approximate.Tie as tie
 
 abbrev Inv-loop : tie.InvT-loop
 Inv-loop frames members counts ends k blocked hints₀ sums₀ j limit most₀ a₀ hints sums most a =
-    Walk (greatestFound (ownFound (stored frames) k)) (λ done r. both (At done) r) (isAlignment (stored frames) k (k .node)) (hyperperiod (ofNode (stored frames) (k .node))) (approximateFound (stored frames) k) most a
+    Walk (greatestFound (ownFound (stored frames) k)) (λ done r. both (At done) r) (isAlignment (stored frames) k (k .node)) (turn (stored frames) k (k .node)) (approximateFound (stored frames) k) most a
     × Mem a (orEmpty (alignments (stored frames) k (k .node)))
     × (length hints ≡ length hints₀)
     × Kept (stored frames) k sums
 
 abbrev μ-loop : tie.MeasureT-loop
-μ-loop frames members counts ends k blocked hints₀ sums₀ j limit most₀ a₀ hints sums most a = hyperperiod (ofNode (stored frames) (k .node)) - a
+μ-loop frames members counts ends k blocked hints₀ sums₀ j limit most₀ a₀ hints sums most a = turn (stored frames) k (k .node) - a
 
 -- k's node is one of the nodes
 node : (s : tie.Start Inv-loop μ-loop) → (1 ≤ s .args .k .node) × (s .args .k .node ≤ 16)
@@ -51,13 +50,12 @@ or-zero-requires : tie.Need-or-zero-requires Inv-loop μ-loop
 or-zero-requires c κs = search needs
 
 loop-holds : tie.Need-loop-holds Inv-loop μ-loop
-unfolding approximateFound
 loop-holds c =
     let s = c .before .before .before .before .before .before .before .before .before .before .before .before .before in
     let valid = s .pre .0 .valid in
     let first = c .before .next-of in
     rw (c .or-zero .ensures) (
-      visit-first _ _ _ valid (s .args .k) (s .args .k .node) (first .result) (first .ensures) (both-zero _),
+      visit-first _ _ _ valid (s .args .k) (s .args .k .node) (first .result) (first .ensures) (both-zero _ ∙ own-found (s .pre .0) (s .pre .1 .1 .0)),
       first-listed valid (s .args .k) (s .args .k .node) (first .result) (first .ensures),
       refl,
       c .before .before .before .before .busy-window .ensures .1,
@@ -99,7 +97,7 @@ add-next-of : tie.Need-add-next-of Inv-loop μ-loop
 add-next-of c =
     let s = c .before .before .before .before .before .before .before .before .before .before .before .before .before .before .before .before .before .before .before .before .before .before .before .before .before in
     let n = node s in
-    omega (arith, c .before .before .before .before .before .before .before .before .before .before .before .loop .inv .0 .inside, s .pre .0 .hyper _ (n .0) (n .1))
+    omega (arith, c .before .before .before .before .before .before .before .before .before .before .before .loop .inv .0 .inside, s .pre .0 .hyper _ (n .0) (n .1), turn-le (s .pre .0 .valid) (s .args .k) (s .args .k .node))
 
 next-of-requires-2 : tie.Need-next-of-requires-2 Inv-loop μ-loop
 next-of-requires-2 c κs =
@@ -141,7 +139,7 @@ loop-again c =
     let more = rw (c .before .before .before .before .before .before .before .before .before .before .before .before .before .before .with-choice .ensures) at (c .before .before .before .before .before .before .before .before .before .before .before .raised .ensures .0) in
     let next = sym (c .before .before .before .next-of2 .ensures) ∙ c .before .found .given .1 in (
       walk-more _ _ _ _ _ (l .inv .0) (found-more _ (l .most) (l .a) (sym (c .before .before .before .before .before .more .given .1) ∙ more)) next,
-      found-listed _ _ _ _ next,
+      found-listed (s .pre .0 .valid) _ _ _ next,
       c .before .before .before .before .before .before .before .before .before .before .before .raised .kept .1 .1 .1 .1 .1 .1 .1 .1 .1 .1 .1 .0 ∙ l .inv .2,
       c .before .before .before .before .before .before .before .before .before .before .before .raised .ensures .1,
     )

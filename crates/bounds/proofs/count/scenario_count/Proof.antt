@@ -1,13 +1,14 @@
 -- `response_time::bounds::scenario_count` meets its contract: the invariant has the product over the nodes that are passed, cut after each. Assumes nothing.
 use Prim.Native.Nat.{ℕ, _+_, _-_, _*_, _≤_, min}
-use mathlib.Core.Path.{refl, ap, _∙_}
+use mathlib.Core.Path.{_≡_, refl, ap, _∙_}
 use native.Mathlib.Omega.{arith}
 use borrow.Author.Needs.{needs}
 use lib.ListN.{length, getD}
 use Rattle.arith.specs.Lists.{range, product}
 use Rattle.arith.specs.laws.Walks.{CountUp, count-start, count-more, count-end, product-more}
+use Rattle.bus_model.specs.Pattern.{ofNode, hyperperiod}
 use Rattle.workload.specs.Stored.{stored}
-use Rattle.workload.specs.laws.Groups.{lent-inside, lent-fine}
+use Rattle.workload.specs.laws.Groups.{lent-inside, lent-fine, counted-whole}
 use Rattle.bounds.specs.laws.Levels.{countAt, counts-product}
 use Rattle.bounds.proofs.count.scenario_count.Statement.{statement}
 use Rattle.bounds.proofs.count.scenario_count.Tie as tie
@@ -17,12 +18,12 @@ abbrev cut : ℕ → ℕ → ℕ
 cut done more = min 65537 (done * more)
 
 abbrev Inv-loop : tie.InvT-loop
-Inv-loop frames members counts ends product₀ j₀ done j =
+Inv-loop frames members counts ends k product₀ j₀ done j =
     (done ≤ 65537)
-    × CountUp (product (countAt (stored frames) members counts ends)) cut 16 (cut 1 (product (countAt (stored frames) members counts ends) (range 0 16))) done j
+    × CountUp (product (countAt (stored frames) members counts)) cut 16 (cut 1 (product (countAt (stored frames) members counts) (range 0 16))) done j
 
 abbrev μ-loop : tie.MeasureT-loop
-μ-loop frames members counts ends product₀ j₀ done j = 16 - j
+μ-loop frames members counts ends k product₀ j₀ done j = 16 - j
 
 -- the rows of the node that the loop stands at are inside the group
 inside : (c : tie.In-loop Inv-loop μ-loop) → let a = c .before .before .before .before .before .before .args in let j = c .before .loop .j in 64 * j + getD (a .counts .now) j 0 ≤ length (a .members .now)
@@ -43,6 +44,19 @@ shared-slice-read-to c = search needs
 add-to : tie.Need-add-to Inv-loop μ-loop
 add-to c = omega (arith, inside (c .before), c .before .before .before .before .before .before .before .pre .1 .members-size)
 
+add-common-multiple : tie.Need-add-common-multiple Inv-loop μ-loop
+add-common-multiple c = search needs
+
+cast-common-multiple : tie.Need-cast-common-multiple Inv-loop μ-loop
+cast-common-multiple c = search needs
+
+common-multiple-requires : tie.Need-common-multiple-requires Inv-loop μ-loop
+common-multiple-requires c κs = (c .before .before .before .before .before .before .before .pre .0, (omega arith, omega (arith, c .before .loop-test .taken)))
+
+-- the end is the node's hyperperiod
+whole : (c : tie.After-common-multiple Inv-loop μ-loop) → c .common-multiple .result ≡ hyperperiod (ofNode (stored (c .before .before .before .before .before .before .before .before .args .frames .now)) (c .before .before .before .loop .j + 1))
+whole c = c .common-multiple .ensures ∙ counted-whole _ _ _
+
 sub-count-alignments : tie.Need-sub-count-alignments Inv-loop μ-loop
 sub-count-alignments c = search needs
 
@@ -50,18 +64,12 @@ part-count-alignments-start : tie.Need-part-count-alignments-start Inv-loop μ-l
 part-count-alignments-start c = search needs
 
 part-count-alignments-end : tie.Need-part-count-alignments-end Inv-loop μ-loop
-part-count-alignments-end c = inside (c .before)
-
-mul-count-alignments : tie.Need-mul-count-alignments Inv-loop μ-loop
-mul-count-alignments c = search needs
-
-shared-slice-read-count-alignments : tie.Need-shared-slice-read-count-alignments Inv-loop μ-loop
-shared-slice-read-count-alignments c = search needs
+part-count-alignments-end c = inside (c .before .before)
 
 count-alignments-requires : tie.Need-count-alignments-requires Inv-loop μ-loop
 count-alignments-requires c κs =
-    let s = c .before .before .before .before .before .before .before .before .before in
-    lent-fine (s .pre .1) (c .before .before .before .before .loop .j) (c .before .before .before .loop-test .taken) (s .pre .0)
+    let p = c .before .before .before .before .before .before .before .before .before .pre in
+    (lent-fine (p .1) (c .before .before .before .before .loop .j) (c .before .before .before .loop-test .taken) (p .0) .0, rw (whole (c .before)) (p .0 .hyper (c .before .before .before .before .loop .j + 1) (omega arith) (omega (arith, c .before .before .before .loop-test .taken))))
 
 cut-product-requires : tie.Need-cut-product-requires Inv-loop μ-loop
 cut-product-requires c κs = search needs
@@ -75,7 +83,7 @@ loop-less c = search needs
 loop-again : tie.Need-loop-again Inv-loop μ-loop
 loop-again c =
     let l = c .before .before .before .before .before .before .loop in
-    let count = c .before .count-alignments .ensures .0 in
+    let count = rw (whole (c .before .before .before)) at (c .before .count-alignments .ensures .0) in
     let next = c .cut-product .ensures in (
       omega arith,
       count-more _ cut _ _ (l .inv .1) (c .before .before .before .before .before .loop-test .taken) (product-more _ 65537 (l .product) (l .j) (next ∙ ap (cut (l .product)) count)),
@@ -99,11 +107,12 @@ scenario-count-spec =
     mul-to
     shared-slice-read-to
     add-to
+    add-common-multiple
+    cast-common-multiple
+    common-multiple-requires
     sub-count-alignments
     part-count-alignments-start
     part-count-alignments-end
-    mul-count-alignments
-    shared-slice-read-count-alignments
     count-alignments-requires
     cut-product-requires
     add-j

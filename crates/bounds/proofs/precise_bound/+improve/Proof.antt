@@ -10,7 +10,7 @@ use lib.ListN.{length}
 use Rattle.arith.specs.Least.{orZero}
 use Rattle.arith.specs.laws.Walks.{walk-less}
 use Rattle.bus_model.specs.Bounds.{nodes}
-use Rattle.bus_model.specs.Pattern.{ofNode, hyperperiod}
+use Rattle.bus_model.specs.theory.Turns.{turn, turn-le}
 use Rattle.bus_model.specs.theory.Refine.{refined-end}
 use Rattle.workload.specs.Stored.{stored}
 use Rattle.greatest_work.specs.Kept.{Kept}
@@ -63,7 +63,7 @@ improve-Inv-loop frames members counts ends k choices own blocked limit level be
 
 abbrev improve-μ-loop : improve-lts.MeasureT-loop
 improve-μ-loop frames members counts ends k choices own blocked limit level best heavy hints₀ sums₀ j most₀ a₀ asked₀ hints sums most a asked =
-    hyperperiod (ofNode (stored frames) j) - a
+    turn (stored frames) k j - a
 
 -- where the search stands when the function starts
 reached : (t : ℕ) (s : improve-lts.Start (claims t) (improve-at t) improve.Post improve-Inv-loop improve-μ-loop) → Reached (stored (s .args .frames .now)) (s .args .k) (s .args .level) (s .args .own) (s .args .limit) (s .args .choices)
@@ -144,7 +144,7 @@ improve-returns-2 : (t : ℕ) → improve-lts.Need-returns-2 (claims t) (improve
 improve-returns-2 t c =
     let a = c .before .before .before .before .before .before .before .before .before .before .before .before .before .before .before .before .before .before .args in
     let l = c .before .before .before .before .before .before .loop in
-    let whole = next-levels (stored (a .frames .now)) (a .k) (a .choices) (c .before .before .before .before .before .before .before .before .before .before .node-at .ensures) (left t (c .before .before .before .before .before .before .before .before .before .before .before)) in
+    let whole = next-levels (c .before .before .before .before .before .before .before .before .before .before .before .before .before .before .before .before .before .before .pre .1 .0) (c .before .before .before .before .before .before .before .before .before .before .before .before .before .before .before .before .before .before .pre .1 .1 .1 .0) (a .choices) (c .before .before .before .before .before .before .before .before .before .before .before .before .before .before .before .before .before .before .pre .1 .1 .1 .1 .1 .0 .2 .long) (c .before .before .before .before .before .before .before .before .before .before .node-at .ensures) (left t (c .before .before .before .before .before .before .before .before .before .before .before)) in
     (best-over _ _ _ _ (l .inv .0) (l .inv .2) whole (c .before .before .before .is-ruled-out .ensures .0 (rw (c .if2 .taken) tt)), c .before .before .before .is-ruled-out .ensures .1)
 
 improve-with-choice-requires : (t : ℕ) → improve-lts.Need-with-choice-requires (claims t) (improve-at t) improve.Post improve-Inv-loop improve-μ-loop
@@ -164,7 +164,7 @@ improve-improve-requires t c κs =
 improve-add-next-of : (t : ℕ) → improve-lts.Need-add-next-of (claims t) (improve-at t) improve.Post improve-Inv-loop improve-μ-loop
 improve-add-next-of t c =
     let n = node t (c .before .before .before .before .before .before .before .before .before .before .before .before .before .before .before .before .before .before) in
-    omega (arith, c .before .before .before .before .before .before .before .before .before .before .before .before .before .before .loop .inv .0 .walk .inside, c .before .before .before .before .before .before .before .before .before .before .before .before .before .before .before .before .before .before .before .before .before .before .before .before .before .before .pre .1 .0 .hyper _ (n .0) (n .1))
+    omega (arith, c .before .before .before .before .before .before .before .before .before .before .before .before .before .before .loop .inv .0 .walk .inside, c .before .before .before .before .before .before .before .before .before .before .before .before .before .before .before .before .before .before .before .before .before .before .before .before .before .before .pre .1 .0 .hyper _ (n .0) (n .1), turn-le (c .before .before .before .before .before .before .before .before .before .before .before .before .before .before .before .before .before .before .before .before .before .before .before .before .before .before .pre .1 .0 .valid) (c .before .before .before .before .before .before .before .before .before .before .before .before .before .before .before .before .before .before .before .before .before .before .before .before .before .before .args .k) (c .before .before .before .before .before .before .before .before .before .before .before .before .before .before .before .before .before .before .node-at .result))
 
 improve-next-of-requires-2 : (t : ℕ) → improve-lts.Need-next-of-requires-2 (claims t) (improve-at t) improve.Post improve-Inv-loop improve-μ-loop
 improve-next-of-requires-2 t c κs =
@@ -190,7 +190,7 @@ improve-returns-3 : (t : ℕ) → improve-lts.Need-returns-3 (claims t) (improve
 improve-returns-3 t c =
     let a = c .before .before .before .before .before .before .before .before .before .before .before .before .before .before .before .before .before .before .before .before .before .before .before .before .before .before .before .before .before .args in (
       best-end _ _ _ _ (c .before .before .before .before .before .before .before .before .before .before .before .before .before .before .before .before .before .loop .inv .0) (rw (c .before .before .before .before .before .before .before .before .before .before .with-choice .ensures) at (c .before .before .before .before .before .before .before .improve .ensures .0)) (sym (c .before .before .next-of2 .ensures) ∙ c .enum-told .given .1)
-          ∙ ap (max (a .best)) (next-levels (stored (a .frames .now)) (a .k) (a .choices) (c .before .before .before .before .before .before .before .before .before .before .before .before .before .before .before .before .before .before .before .before .before .node-at .ensures) (left t (c .before .before .before .before .before .before .before .before .before .before .before .before .before .before .before .before .before .before .before .before .before .before))),
+          ∙ ap (max (a .best)) (next-levels (c .before .before .before .before .before .before .before .before .before .before .before .before .before .before .before .before .before .before .before .before .before .before .before .before .before .before .before .before .before .pre .1 .0) (c .before .before .before .before .before .before .before .before .before .before .before .before .before .before .before .before .before .before .before .before .before .before .before .before .before .before .before .before .before .pre .1 .1 .1 .0) (a .choices) (c .before .before .before .before .before .before .before .before .before .before .before .before .before .before .before .before .before .before .before .before .before .before .before .before .before .before .before .before .before .pre .1 .1 .1 .1 .1 .0 .2 .long) (c .before .before .before .before .before .before .before .before .before .before .before .before .before .before .before .before .before .before .before .before .before .node-at .ensures) (left t (c .before .before .before .before .before .before .before .before .before .before .before .before .before .before .before .before .before .before .before .before .before .before))),
       c .before .before .before .before .before .before .before .improve .ensures .1,
     )
 
@@ -201,7 +201,7 @@ improve-loop-less t c =
 improve-loop-again : (t : ℕ) → improve-lts.Need-loop-again (claims t) (improve-at t) improve.Post improve-Inv-loop improve-μ-loop
 improve-loop-again t c =
     let l = c .before .before .before .before .before .before .before .before .before .before .before .before .before .before .before .before .before .before .loop in (
-      best-more _ _ _ _ (l .inv .0) (rw (c .before .before .before .before .before .before .before .before .before .before .before .with-choice .ensures) at (c .before .before .before .before .before .before .before .before .improve .ensures .0)) (sym (c .before .before .before .next-of2 .ensures) ∙ c .before .found .given .1),
+      best-more _ _ _ _ (l .inv .0) (rw (c .before .before .before .before .before .before .before .before .before .before .before .with-choice .ensures) at (c .before .before .before .before .before .before .before .before .improve .ensures .0)) (c .before .before .before .before .before .before .before .before .before .before .before .before .before .before .before .before .before .before .before .before .before .before .before .before .before .before .before .before .before .before .pre .1 .0 .valid) (sym (c .before .before .before .next-of2 .ensures) ∙ c .before .found .given .1),
       c .before .before .before .before .before .before .before .before .improve .kept .1 .1 .1 .1 .1 .1 .1 .1 .1 .1 .1 .1 .0 ∙ l .inv .1,
       omega (arith, l .inv .2, c .before .before .before .before .before .before .before .before .improve .ensures .0),
       c .before .before .before .before .before .before .before .before .improve .ensures .1,

@@ -5,10 +5,10 @@ use native.Mathlib.Omega.{arith}
 use borrow.Author.Needs.{needs}
 use borrow.Author.Tests.{not-false}
 use Rattle.arith.specs.laws.Walks.{walk-less}
-use Rattle.bus_model.specs.Pattern.{ofNode, hyperperiod}
+use Rattle.bus_model.specs.theory.Turns.{turn, turn-le}
 use Rattle.workload.specs.Stored.{stored}
 use Rattle.greatest_work.specs.Kept.{Kept}
-use Rattle.bounds.specs.laws.Levels.{Best, best-first, best-more, best-stays, splitResponse, reached-node, split-next}
+use Rattle.bounds.specs.laws.Levels.{Best, best-first, best-more, best-stays, splitResponse, reached-node, split-next, every-split}
 use Rattle.bounds.proofs.precise_bound.is_split_within.Statement.{statement}
 use Rattle.bounds.proofs.precise_bound.is_split_within.Tie as tie
 
@@ -17,7 +17,7 @@ Inv-loop frames members counts ends k choices own blocked limit level most hints
     Best (stored frames) k j (splitResponse (stored frames) k choices j) most most a × Kept (stored frames) k sums
 
 abbrev μ-loop : tie.MeasureT-loop
-μ-loop frames members counts ends k choices own blocked limit level most hints sums₀ j a₀ sums a = hyperperiod (ofNode (stored frames) j) - a
+μ-loop frames members counts ends k choices own blocked limit level most hints sums₀ j a₀ sums a = turn (stored frames) k j - a
 
 -- the level's node is one of the nodes
 node : (c : tie.After-node-at Inv-loop μ-loop) → (1 ≤ c .node-at .result) × (c .node-at .result ≤ 16)
@@ -63,7 +63,7 @@ returns c = (λ t. absurd t, c .before .before .before .is-within .ensures .1)
 add-next-of : tie.Need-add-next-of Inv-loop μ-loop
 add-next-of c =
     let n = node (c .before .before .before .before .before .before .before .before .before) in
-    omega (arith, c .before .before .before .before .before .before .loop .inv .0 .walk .inside, c .before .before .before .before .before .before .before .before .before .before .before .before .before .before .before .before .pre .0 .hyper _ (n .0) (n .1))
+    omega (arith, c .before .before .before .before .before .before .loop .inv .0 .walk .inside, c .before .before .before .before .before .before .before .before .before .before .before .before .before .before .before .before .pre .0 .hyper _ (n .0) (n .1), turn-le (c .before .before .before .before .before .before .before .before .before .before .before .before .before .before .before .before .pre .0 .valid) (c .before .before .before .before .before .before .before .before .before .before .before .before .before .before .before .before .args .k) (c .before .before .before .before .before .before .before .before .before .node-at .result))
 
 next-of-requires-2 : tie.Need-next-of-requires-2 Inv-loop μ-loop
 next-of-requires-2 c κs =
@@ -83,7 +83,7 @@ same-length-2 c =
 
 returns-2 : tie.Need-returns-2 Inv-loop μ-loop
 returns-2 c = (
-  rw (← c .before .before .before .before .before .before .before .before .before .before .before .before .node-at .ensures) (λ t. best-stays _ _ _ _ (c .before .before .before .before .before .before .before .before .before .loop .inv .0) (within (c .before .before .before)) (sym (c .before .before .next-of2 .ensures) ∙ c .enum-told .given .1)),
+  rw (← c .before .before .before .before .before .before .before .before .before .before .before .before .node-at .ensures) (λ t. every-split (c .before .before .before .before .before .before .before .before .before .before .before .before .before .before .before .before .before .before .before .pre .0) (c .before .before .before .before .before .before .before .before .before .before .before .before .before .before .before .before .before .before .before .pre .1 .1 .0) (c .before .before .before .before .before .before .before .before .before .before .before .before .before .before .before .before .before .before .before .args .choices) (c .before .before .before .before .before .before .before .before .before .before .before .before .before .before .before .before .before .before .before .pre .1 .1 .1 .1 .0 .2) (c .before .before .before .before .before .before .before .before .before .before .before .before .node-at .ensures) (c .before .before .before .before .before .before .before .before .before .before .before .before .before .before .before .before .before .before .before .pre .1 .1 .1 .1 .0 .1) (best-stays _ _ _ _ (c .before .before .before .before .before .before .before .before .before .loop .inv .0) (within (c .before .before .before)) (sym (c .before .before .next-of2 .ensures) ∙ c .enum-told .given .1))),
   c .before .before .before .before .before .before .is-within .ensures .1,
 )
 
@@ -93,7 +93,7 @@ loop-less c =
 
 loop-again : tie.Need-loop-again Inv-loop μ-loop
 loop-again c =
-    (best-more _ _ _ _ (c .before .before .before .before .before .before .before .before .before .before .loop .inv .0) (omega (arith, within (c .before .before .before .before))) (sym (c .before .before .before .next-of2 .ensures) ∙ c .before .found .given .1), c .before .before .before .before .before .before .before .is-within .ensures .1)
+    (best-more _ _ _ _ (c .before .before .before .before .before .before .before .before .before .before .loop .inv .0) (omega (arith, within (c .before .before .before .before))) (c .before .before .before .before .before .before .before .before .before .before .before .before .before .before .before .before .before .before .before .before .pre .0 .valid) (sym (c .before .before .before .next-of2 .ensures) ∙ c .before .found .given .1), c .before .before .before .before .before .before .before .is-within .ensures .1)
 
 pub is-split-within-spec : {M : Type 1} → statement M
 is-split-within-spec =

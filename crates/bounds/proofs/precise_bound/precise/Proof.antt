@@ -6,7 +6,7 @@ use borrow.Author.Needs.{needs}
 use lib.ListN.{length}
 use Rattle.arith.specs.Least.{orZero}
 use Rattle.arith.specs.laws.Walks.{walk-less}
-use Rattle.bus_model.specs.Pattern.{ofNode, hyperperiod}
+use Rattle.bus_model.specs.theory.Turns.{turn, turn-le}
 use Rattle.bus_model.specs.theory.Refine.{free}
 use Rattle.workload.specs.Stored.{stored}
 use Rattle.greatest_work.specs.Kept.{Kept}
@@ -20,7 +20,7 @@ Inv-loop frames members counts ends k blocked hints₀ sums₀ j heavy most₀ a
     Best (stored frames) k (k .node) (nextLevel (stored frames) k free 0 (k .node)) 0 most a × (length hints ≡ length hints₀) × Kept (stored frames) k sums
 
 abbrev μ-loop : tie.MeasureT-loop
-μ-loop frames members counts ends k blocked hints₀ sums₀ j heavy most₀ a₀ hints sums most a = hyperperiod (ofNode (stored frames) (k .node)) - a
+μ-loop frames members counts ends k blocked hints₀ sums₀ j heavy most₀ a₀ hints sums most a = turn (stored frames) k (k .node) - a
 
 -- k's node is one of the nodes
 node : (s : tie.Start Inv-loop μ-loop) → (1 ≤ s .args .k .node) × (s .args .k .node ≤ 16)
@@ -66,7 +66,7 @@ add-next-of : tie.Need-add-next-of Inv-loop μ-loop
 add-next-of c =
     let s = c .before .before .before .before .before .before .before .before .before .before .before .before .before .before .before .before .before .before .before .before .before .before .before .before in
     let n = node s in
-    omega (arith, c .before .before .before .before .before .before .before .before .before .before .before .before .before .loop .inv .0 .walk .inside, s .pre .0 .hyper _ (n .0) (n .1))
+    omega (arith, c .before .before .before .before .before .before .before .before .before .before .before .before .before .loop .inv .0 .walk .inside, s .pre .0 .hyper _ (n .0) (n .1), turn-le (s .pre .0 .valid) (s .args .k) (s .args .k .node))
 
 next-of-requires-2 : tie.Need-next-of-requires-2 Inv-loop μ-loop
 next-of-requires-2 c κs =
@@ -101,7 +101,7 @@ loop-less c =
 
 loop-again : tie.Need-loop-again Inv-loop μ-loop
 loop-again c = (
-  best-more _ _ _ _ (c .before .before .before .before .before .before .before .before .before .before .before .before .before .before .before .before .before .loop .inv .0) (rw (c .before .before .before .before .before .before .before .before .before .before .before .before .before .before .before .before .with-choice .ensures) at (c .before .before .before .before .before .before .before .before .improve .ensures .0)) (sym (c .before .before .before .next-of2 .ensures) ∙ c .before .found .given .1),
+  best-more _ _ _ _ (c .before .before .before .before .before .before .before .before .before .before .before .before .before .before .before .before .before .loop .inv .0) (rw (c .before .before .before .before .before .before .before .before .before .before .before .before .before .before .before .before .with-choice .ensures) at (c .before .before .before .before .before .before .before .before .improve .ensures .0)) (c .before .before .before .before .before .before .before .before .before .before .before .before .before .before .before .before .before .before .before .before .before .before .before .before .before .before .before .before .pre .0 .valid) (sym (c .before .before .before .next-of2 .ensures) ∙ c .before .found .given .1),
   c .before .before .before .before .before .before .before .before .improve .kept .1 .1 .1 .1 .1 .1 .1 .1 .1 .1 .1 .1 .0 ∙ c .before .before .before .before .before .before .before .before .before .before .before .before .before .before .before .before .before .loop .inv .1,
   c .before .before .before .before .before .before .before .before .improve .ensures .1,
 )

@@ -4,7 +4,7 @@ use mathlib.Core.Path.{refl, _∙_}
 use native.Mathlib.Omega.{arith}
 use borrow.Author.Needs.{needs}
 use Rattle.arith.specs.Least.{orZero}
-use Rattle.bus_model.specs.theory.Visits.{first-listed}
+use Rattle.bus_model.specs.theory.Turns.{first-listed}
 use Rattle.workload.specs.laws.Groups.{lent-inside, lent-fine, lent-search}
 use Rattle.greatest_work.proofs.guesses.guess.Statement.{statement}
 use Rattle.greatest_work.proofs.guesses.guess.Tie as tie

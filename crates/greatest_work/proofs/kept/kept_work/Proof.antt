@@ -5,6 +5,7 @@ use native.Mathlib.Omega.{arith}
 use borrow.Author.Needs.{needs}
 use Rattle.bus_model.specs.declared.Choice.the-variants.{Any}
 use Rattle.bus_model.specs.Bounds.{nodeWork}
+use Rattle.bus_model.specs.theory.Turns.{first-aligned}
 use Rattle.workload.specs.laws.Groups.{lent-inside, lent-fine, lent-node, lent-alignments}
 use Rattle.greatest_work.specs.laws.Kept.{kept-found, kept-more}
 use Rattle.greatest_work.proofs.kept.kept_work.Statement.{statement}
@@ -103,8 +104,8 @@ returns-3 c =
     let s = c .before .before .before .before .before .before .before .before .before .before .before .before .before .before .before .before .before in
     let b = s .pre .1 .1 .0 in
     let g = c .before .before .before .before .best-alignment .ensures in
-    let is = lent-node (s .pre .1 .0) (s .args .j) (b .0) Any (s .args .n) (g .1 .0) in
-    let listed = rw (lent-alignments (s .pre .1 .0) (s .args .j) (b .0)) at (g .0) in
+    let is = lent-node (s .pre .1 .0) (s .args .j) (b .0) (s .pre .0 .valid) Any (s .args .n) (g .1 .0) in
+    let listed = first-aligned (s .pre .0 .valid) _ _ (rw (lent-alignments (s .pre .1 .0) (s .args .j) (b .0)) at (g .0)) in
     (is, (g .1 .1 .1 .0, rw (c .before .before .keep .ensures) (kept-more (s .pre .1 .1 .1) (s .args .j) (b .0) (s .args .n) _ _ (search needs) listed is (g .1 .1 .1 .0))))
 
 pub kept-work-spec : {M : Type 1} → statement M

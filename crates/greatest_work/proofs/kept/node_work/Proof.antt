@@ -46,7 +46,7 @@ returns : tie.Need-returns
 unfolding nodeWork
 returns c =
     let s = c .before .before .before .before .before .before .before .before .before .before .before in
-    let is = lent-node (s .pre .1 .0) (s .args .j) (s .pre .1 .1 .0 .0) (Fixed (c .before .before .before .before .choice .given .0 .0)) (s .args .n) (c .work-in .ensures .0) in
+    let is = lent-node (s .pre .1 .0) (s .args .j) (s .pre .1 .1 .0 .0) (s .pre .0 .valid) (Fixed (c .before .before .before .before .choice .given .0 .0)) (s .args .n) (c .work-in .ensures .0) in
     rw (c .before .before .before .before .choice .given .1) (is, (c .work-in .ensures .1, s .pre .1 .1 .1))
 
 same-length : tie.Need-same-length
