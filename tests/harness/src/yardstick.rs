@@ -160,16 +160,16 @@ impl View {
             ahead.sort_by_key(|row| rank(row) != rank(frame));
             if !ahead.is_empty() {
                 let frames = ahead.into_iter().map(Frame::new).collect();
-                let hyperperiod = table::node_hyperperiod(rows, node);
-                view.add(Node::new(frames, hyperperiod));
+                view.add(Node::new(frames), table::node_hyperperiod(rows, node));
             }
         }
         view
     }
 
-    fn add(&mut self, node: Node) {
-        let count = node.alignments().count();
-        self.scenarios = self.scenarios.saturating_mul(count as u64);
+    fn add(&mut self, node: Node, hyperperiod: u64) {
+        let count = node.alignments().count() as u64;
+        let all = count * (hyperperiod / node.turn());
+        self.scenarios = self.scenarios.saturating_mul(all);
         if self.nodes.is_empty() || count > 1 {
             self.nodes.push(node);
         } else {

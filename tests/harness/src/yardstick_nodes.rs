@@ -48,6 +48,14 @@ impl Frame {
     }
 }
 
+fn common_multiple(a: u64, b: u64) -> u64 {
+    let (mut divisor, mut rest) = (a, b);
+    while rest > 0 {
+        (divisor, rest) = (rest, divisor % rest);
+    }
+    a / divisor * b
+}
+
 fn first_alignment(frames: &[Frame]) -> u64 {
     frames.iter().map(|frame| frame.offset).min().expect("a node with frames")
 }
@@ -96,9 +104,9 @@ impl<const ROOM: usize> Walk<ROOM> {
     }
 
     /// The first alignment with the greatest work, and that.
-    fn best(mut self, hyperperiod: u64) -> (u64, u64) {
+    fn best(mut self, end: u64) -> (u64, u64) {
         let (mut best, mut gap) = ((self.alignment, 0), 0);
-        while self.alignment < hyperperiod {
+        while self.alignment < end {
             let (work, next) = self.step(gap);
             if work > best.1 {
                 best = (self.alignment, work);
@@ -152,36 +160,42 @@ impl Memory {
     }
 }
 
-/// A node's frames ahead, and what is kept of its greatest works.
+/// A node's frames ahead, which look the same after each turn, and what is kept of its greatest
+/// works.
 pub struct Node {
     frames: Vec<Frame>,
-    hyperperiod: u64,
+    turn: u64,
     memory: RefCell<Memory>,
 }
 
 impl Node {
-    pub fn new(frames: Vec<Frame>, hyperperiod: u64) -> Node {
+    pub fn new(frames: Vec<Frame>) -> Node {
+        let turn = frames.iter().fold(1, |turn, frame| common_multiple(turn, frame.period));
         let guess = first_alignment(&frames);
         let memory = Memory { kept: [(0, 0); SLOTS], guess, looks: None };
-        Node { frames, hyperperiod, memory: RefCell::new(memory) }
+        Node { frames, turn, memory: RefCell::new(memory) }
     }
 
-    /// The alignment after another, or the hyperperiod.
+    pub fn turn(&self) -> u64 {
+        self.turn
+    }
+
+    /// The alignment after another, or the turn.
     fn next(&self, alignment: u64) -> u64 {
         let after = alignment + 1;
-        self.frames.iter().map(|frame| frame.next(after)).fold(self.hyperperiod, u64::min)
+        self.frames.iter().map(|frame| frame.next(after)).fold(self.turn, u64::min)
     }
 
-    /// Its alignments, rising.
+    /// Its alignments of the first turn, rising.
     pub fn alignments(&self) -> impl Iterator<Item = u64> + '_ {
         let first = Some(first_alignment(&self.frames));
         let next = |alignment: &u64| Some(self.next(*alignment));
-        std::iter::successors(first, next).take_while(|next| *next < self.hyperperiod)
+        std::iter::successors(first, next).take_while(|next| *next < self.turn)
     }
 
     /// The first alignment with the greatest work in the first n ticks, and that.
     fn best(&self, n: u64) -> (u64, u64) {
-        let (frames, end) = (&self.frames[..], self.hyperperiod);
+        let (frames, end) = (&self.frames[..], self.turn);
         match frames.len() {
             1 => Walk::<1>::new(frames, n).best(end),
             2 => Walk::<2>::new(frames, n).best(end),

@@ -1,12 +1,12 @@
 -- The alignments of a node repeat after the least common multiple of the periods of its frames ahead, its turn, which may be far
 -- shorter than its hyperperiod: from an instant and from the same one a turn later these frames are released at the same distances.
 -- So a search need only visit the alignments of the first turn.
-use Prim.Native.Nat.{ℕ, zero, suc, _+_, _-_, _*_, _/_, _%_, _≤_, _<_, _∣_}
+use Prim.Native.Nat.{ℕ, suc, _+_, _-_, _*_, _%_, _≤_, _<_, _∣_}
 use mathlib.Core.Path.{_≡_, refl, sym, ap, ap₂, subst, _∙_, fun-ext}
 use mathlib.Core.List.{List, [], _∷_, List·Memᴰ as Mem, List·Memᴰ·eq-of-singleton, List·Memᴰ·head as here, List·Memᴰ·tail as there, List·Memᴰ·not-nil}
-use mathlib.Core.Bool.{Bool, true, false, cond}
+use mathlib.Core.Bool.{Bool}
 use native.Mathlib.Omega.{arith}
-use native.Mathlib.Nat.{le-of-dvd, mod-lt, mod-eq-of-lt, mod-mod-of-dvd, add-mul-mod-self-right, zero-mod, zero-mul, suc-mul, mul-zero, mul-suc, div-mul-cancel}
+use native.Mathlib.Nat.{le-of-dvd, mod-lt, mod-eq-of-lt, mod-mod-of-dvd, add-mul-mod-self-right, zero-mod}
 use native.Mathlib.Decide.{ℕ-discrete}
 use lib.Dec.{T, leb}
 use lib.ListN.{length, set, length-set}
@@ -74,44 +74,6 @@ module _ (t : ℕ → ℕ) (xs ys : List ℕ) (into : (a : ℕ) → Mem a xs →
   found-back : (f : ℕ → Found) → ((a : ℕ) → f (t a) ≡ f a) → greatestFound f xs ≡ greatestFound f ys
   found-back f same =
       rw (greatest-found f xs, greatest-found f ys, exists-back (λ a. isNone (f a)) (λ a. ap isNone (same a)), greatest-back (λ a. orZero (f a)) (λ a. ap orZero (same a)))
-
--- ---- how many pass a test that repeats
-
-module _ (p : ℕ → Bool) where
-  -- how many of n .. n + m - 1 pass
-  abbrev passing : ℕ → ℕ → ℕ
-  passing n m = length (keep p (range n m))
-
-  -- One number more.
-  passing-suc : (n m : ℕ) → passing n (suc m) ≡ cond (p n) 1 0 + passing (suc n) m
-  unfolding keep range
-  passing-suc n m = go (p n)
-    where
-      go : (b : Bool) → length (cond b (n ∷ keep p (range (suc n) m)) (keep p (range (suc n) m))) ≡ cond b 1 0 + length (keep p (range (suc n) m))
-      go true = omega arith
-      go false = omega arith
-
-  -- Those of a range are those of its two parts.
-  passing-parts : (n a b m c : ℕ) → m ≡ n + a → c ≡ a + b → passing n c ≡ passing n a + passing m b
-  unfolding keep range
-  passing-parts n zero b m c at whole = let same : m ≡ n = omega arith in let all : c ≡ b = omega arith in rw (same, all) (omega arith)
-  passing-parts n (suc a) b m zero at whole = absurd (omega arith)
-  passing-parts n (suc a) b m (suc c) at whole = omega (arith, passing-suc n c, passing-suc n a, passing-parts (suc n) a b m c (omega arith) (omega arith))
-
-  -- d later just as many pass, where the test repeats after d.
-  passing-later : (d : ℕ) → ((a : ℕ) → p (a + d) ≡ p a) → (n n′ m : ℕ) → n′ ≡ n + d → passing n′ m ≡ passing n m
-  unfolding keep range
-  passing-later d same n n′ zero at = refl
-  passing-later d same n n′ (suc m) at =
-      let now : p n′ ≡ p n = rw at (same n) in
-      rw (passing-suc n′ m, passing-suc n m, now, passing-later d same (suc n) (suc n′) m (omega arith))
-
-  -- In q turns, q times as many pass as in the first.
-  passing-turns : (t : ℕ) → ((a : ℕ) → p (a % t) ≡ p a) → (q : ℕ) → passing 0 (q * t) ≡ passing 0 t * q
-  passing-turns t same zero = unfold keep range in rw zero-mul (sym (mul-zero (passing 0 t)))
-  passing-turns t same (suc q) =
-      let later : (a : ℕ) → p (a + q * t) ≡ p a = λ a. sym (same (a + q * t)) ∙ ap p (add-mul-mod-self-right a q t) ∙ same a in
-      omega (arith, passing-parts 0 (q * t) t (q * t) (suc q * t) (omega arith) (suc-mul q t), passing-later (q * t) later 0 (q * t) t (omega arith), passing-turns t same q, mul-suc (passing 0 t) q)
 
 module _ {fs : List Frame} (valid : Valid fs) (k : Frame) (j : ℕ) where
   -- ---- the turn
@@ -209,14 +171,6 @@ module _ {fs : List Frame} (valid : Valid fs) (k : Frame) (j : ℕ) where
   -- The same of all the node's frames ahead.
   pub node-work-turn : (c : Choice) (n : ℕ) → nodeWork (ofNode (ahead fs k) j) (firstTurn fs k j) c n ≡ nodeWork (ofNode (ahead fs k) j) (alignments fs k j) c n
   node-work-turn = part-work-turn (λ g m. m)
-
-  -- The alignments are so many as those of the first turn, times the turns of the hyperperiod.
-  pub length-turn : length (alignments fs k j) ≡ length (firstTurn fs k j) * (hyperperiod (ofNode fs j) / turn fs k j)
-  unfolding alignments firstTurn
-  length-turn =
-      let turns = hyperperiod (ofNode fs j) / turn fs k j in
-      let whole : turns * turn fs k j ≡ hyperperiod (ofNode fs j) = div-mul-cancel (turn fs k j) turn-divides in
-      rw whole at (passing-turns (isAlignment fs k j) (turn fs k j) aligned-turn turns)
 
 -- ---- scenarios that look alike
 
