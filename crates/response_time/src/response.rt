@@ -16,7 +16,7 @@ ghost use lib.Dec.{T};
 ghost use Rattle.arith.specs.Least.{orZero};
 ghost use Rattle.arith.specs.declared.Found.the-variants.{At};
 ghost use Rattle.bus_model.specs.declared.Choice.the-variants.{Fixed};
-ghost use Rattle.bus_model.specs.Bounds.{choiceOf, blocking, busyWindow, responseTime, scenarioResponse};
+ghost use Rattle.bus_model.specs.Bounds.{choiceOf, blocking, busyWindow, responseTime};
 ghost use Rattle.bus_model.specs.theory.Approximate.{both, scenarioFound};
 ghost use Rattle.workload.specs.Stored.{stored};
 ghost use Rattle.workload.specs.Grouped.{Grouped, InTable, FineTable};

@@ -123,19 +123,6 @@ module _ (p : ℕ → Bool) where
   pub keep-end : (e n : ℕ) → least p (e - n) n ≡ Nothing → keep p (range n (e - n)) ≡ []
   keep-end e n none = kept-none (e - n) n none
 
--- A loop through a range may go from one of them to the next.
-module _ {A B : Type 0} (F : List ℕ → B) (join : A → B → B) (p : ℕ → Bool) (e : ℕ) (goal : B) where
-  pub count-next : {done next : A} {n b : ℕ} {found : Found} → CountUp (λ ns. F (keep p ns)) join e goal done n → found ≡ least p (e - n) n → found ≡ At b
-      → ((xs : List ℕ) → join done (F (b ∷ xs)) ≡ join next (F xs)) → CountUp (λ ns. F (keep p ns)) join e goal next (b + 1)
-  count-next {n = n} {b} c is at step =
-      let (low, high, t) = least-within p e (sym is ∙ at) in
-      record { inside = omega arith; is = rw add-one (sym (step _) ∙ (rw (keep-next p e n b (sym is ∙ at)) at (c .is))) }
-
-  -- It ends where none is left.
-  pub count-none : {done : A} {n : ℕ} {found : Found} → CountUp (λ ns. F (keep p ns)) join e goal done n → found ≡ least p (e - n) n → found ≡ Nothing
-      → join done (F []) ≡ goal
-  count-none {n = n} c is none = rw (keep-end p e n (sym is ∙ none)) at (c .is)
-
 -- The walk stands at a, the first of what is left.
 pub record Walk {A B : Type 0} (F : List ℕ → B) (join : A → B → B) (p : ℕ → Bool) (e : ℕ) (goal : B) (done : A) (a : ℕ) : Type 0 where
   pub inside : a < e

@@ -21,13 +21,12 @@ use Rattle.bus_model.specs.declared.Frame.{Frame}
 use Rattle.bus_model.specs.declared.Choice.{Choice}
 use Rattle.bus_model.specs.declared.Choice.the-variants.{Fixed}
 use Rattle.bus_model.specs.Frame.{row}
-use Rattle.bus_model.specs.Valid.{ValidFrame, Valid}
+use Rattle.bus_model.specs.Valid.{Valid}
 use Rattle.bus_model.specs.Bounds.{windowLimit, ahead, better, blocking, distance, choiceOf, demand, work, windowLoad, busyWindow, delayLoad, queueingDelay, ownDistance, instanceResponse, responseTime}
 use Rattle.bus_model.specs.theory.Frames.{better-ahead}
 use Rattle.bus_model.specs.theory.Work.{RefinedBy, work-mono, work-refine, work-own}
 use Rattle.bus_model.specs.theory.Response.{window-at, window-least, own-distance, delay-at, delay-within}
 use Rattle.bus_model.specs.theory.Iteration.{delay-next}
-use Rattle.bus_model.specs.theory.Refine.{own-kept}
 use Rattle.workload.specs.Grouped.{FineTable, InTable}
 use Rattle.workload.specs.Laid.{laidOut, laidWork, AllFixed, FineFrames}
 use Rattle.workload.specs.laws.Fine.{in-table-fine}
@@ -189,13 +188,6 @@ module _ {fs : List Frame} (valid : Valid fs) {k : Frame} {at : ℕ} (inside : a
       subst (λ (f : Frame). choiceOf cs (f .node) ≡ Fixed own → busyWindow fs f cs ≡ At l
       → (q : ℕ) → distance f own + q * f .period < l → (w : ℕ) × (queueingDelay fs f cs q ≡ At w) × (w + f .length ≤ l))
       (sym is) (λ f. delay-within valid inside cs own f l) fixed window
-
--- ---- a scenario that refines that one
-
-module _ {fs : List Frame} (valid : Valid fs) {k : Frame} {at : ℕ} (inside : at < length fs) (is : k ≡ row fs at) (cs cs′ : List Choice) (finer : RefinedBy fs k cs cs′) (own : ℕ) where
-  -- It fixes the same alignment of k's own node.
-  pub own-finer : choiceOf cs (k .node) ≡ Fixed own → choiceOf cs′ (k .node) ≡ Fixed own
-  own-finer = own-kept fs k cs cs′ finer (subst ValidFrame (sym is) (valid .frame at inside))
 
 -- ---- the instances released in a busy window
 

@@ -1,4 +1,4 @@
--- `response_time::bounds::cut_product` meets its contract: the product of the two limits fits 64 bits, and the test is that of the cut. Assumes nothing.
+-- The product of the two limits fits 64 bits, and the test is that of the cut.
 use Prim.Native.Nat.{_*_, _≤_}
 use native.Mathlib.Omega.{arith}
 use native.Mathlib.Nat.{mul-le-mul}

@@ -1,4 +1,4 @@
--- `response_time::bounds::scenario_count` meets its contract: the invariant has the product over the nodes that are passed, cut after each. Assumes nothing.
+-- The invariant has the product over the nodes that are passed, cut after each.
 use Prim.Native.Nat.{ℕ, _+_, _-_, _*_, _≤_, min}
 use mathlib.Core.Path.{_≡_, refl, ap, _∙_}
 use native.Mathlib.Omega.{arith}

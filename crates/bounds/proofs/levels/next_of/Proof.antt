@@ -1,4 +1,4 @@
--- `response_time::bounds::next_of` meets its contract: the rows handed on are those of node j, whose instants are its alignments and whose hyperperiod is the end. Assumes nothing.
+-- The rows handed on are those of node j, whose instants are its alignments and whose turn is the end.
 use Prim.Native.Nat.{_+_, _-_, _*_, _≤_, _<_}
 use mathlib.Core.Path.{_∙_}
 use native.Mathlib.Omega.{arith}

@@ -1,4 +1,4 @@
--- `response_time::bounds::node_at` meets its contract: the three cases are those of `nodeAt`. Assumes nothing.
+-- The three cases are those of `nodeAt`.
 use mathlib.Core.Path.{sym, ap, _∙_}
 use native.Mathlib.Omega.{arith}
 use borrow.Author.Needs.{needs}
