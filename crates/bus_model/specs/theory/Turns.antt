@@ -79,7 +79,7 @@ module _ {fs : List Frame} (valid : Valid fs) (k : Frame) (j : ℕ) where
   -- ---- the turn
 
   -- the frames ahead at the node are valid
-  node-frame : {g : Frame} → Mem g (ofNode (ahead fs k) j) → ValidFrame g
+  pub node-frame : {g : Frame} → Mem g (ofNode (ahead fs k) j) → ValidFrame g
   node-frame m = valid-frame valid (of-ahead fs k (of-node (ahead fs k) j m .0))
 
   -- It is not 0.

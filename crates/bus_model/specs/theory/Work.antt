@@ -38,7 +38,7 @@ module _ {n n′ : ℕ} (le : n ≤ n′) where
   at-mono gs valid a = sum-le gs (λ g m. demand-mono (valid g m) a)
 
   -- So does a node's work.
-  node-mono : (gs : List Frame) → ((g : Frame) → Mem g gs → ValidFrame g) → (als : List ℕ) (c : Choice) → nodeWork gs als c n ≤ nodeWork gs als c n′
+  pub node-mono : (gs : List Frame) → ((g : Frame) → Mem g gs → ValidFrame g) → (als : List ℕ) (c : Choice) → nodeWork gs als c n ≤ nodeWork gs als c n′
   unfolding nodeWork
   node-mono gs valid als (Fixed a) = at-mono gs valid a
   node-mono gs valid als Any = greatest-le als (λ a m. le-trans (at-mono gs valid a) (le-greatest (λ b. workAt gs b n′) m))
