@@ -1,7 +1,6 @@
 // A scenario in place of one that leaves nodes open: each of those stands at the alignment that gave its greatest work last.
 // Whatever it is, the scenario has no more work, so that a search in it, which costs little, leads up to the one wanted.
-use crate::kept::GUESS;
-use crate::kept::SLOTS;
+use crate::stairs::GUESSES;
 use alignment_walk::next_alignment;
 use arith::Found;
 use bus_model::Choice;
@@ -35,7 +34,7 @@ fn guess(
     requires { ⌜ Kept (stored (now frames)) k (now sums) ⌝ }
     ensures { λ r. ⌜ Mem r (orEmpty (alignments (stored (now (frames .entry))) k (j + 1))) ⌝ }
 {
-    let kept = sums[SLOTS * j + GUESS];
+    let kept = sums[GUESSES + j];
     if 0 < kept {
         return (kept - 1) as u32;
     }

@@ -1,6 +1,11 @@
 // The work with a memory. A node left open is the costly one, since all its alignments are visited for its greatest work; that does
-// not depend on the other nodes' choices, so it is kept by length, and not looked for again while it is.
+// not depend on the other nodes' choices, so it is kept, and not looked for again while it is.
+use crate::stairs::GUESSES;
+use crate::stairs::keep;
+use crate::stairs::set_of;
+use crate::stairs::told;
 use alignment_walk::best_alignment;
+use arith::Found;
 use bus_model::Choice;
 use bus_model::Frame;
 use workload::GROUP;
@@ -8,46 +13,69 @@ use workload::NODES;
 use workload::work_in;
 ghost use mathlib.Core.Path.{_≡_};
 ghost use Prim.Native.Nat.{_+_, _*_, _≤_, _<_};
-ghost use lib.ListN.{length};
-ghost use Rattle.bus_model.specs.declared.Choice.the-variants.{Any};
 ghost use Rattle.bus_model.specs.Pattern.{ofNode};
-ghost use Rattle.bus_model.specs.Bounds.{ahead, alignments, nodeWork, work};
+ghost use Rattle.bus_model.specs.Bounds.{ahead, alignments, workAt, nodeWork, work};
+ghost use Rattle.bus_model.specs.theory.Turns.{turn};
 ghost use Rattle.workload.specs.Stored.{stored};
 ghost use Rattle.workload.specs.Grouped.{FineTable, Grouped};
-ghost use Rattle.greatest_work.specs.Kept.{Kept, keptAfter};
+ghost use Rattle.greatest_work.specs.Kept.{most, Kept};
 
-// So many numbers are kept: for each node 127 lengths with their greatest works, and an alignment.
-pub const SUMS: usize = 2048;
-
-// So many of them are a node's.
-pub const SLOTS: usize = 128;
-
-// A length has its first place among so many, and its second among those after them: lengths that meet in one seldom do in both.
-const FIRSTS: usize = 64;
-
-const SECONDS: usize = 63;
-
-// There a node has one more than its alignment, or 0.
-pub const GUESS: usize = 127;
-
-// A number is a length times this, and the work.
-const UNIT: u64 = 68_719_476_736;
-
-// Keeps a work of node j + 1 with its length n, and the alignment that gives it. What stands in the length's first place moves to its
-// own second one.
-fn keep(sums: &mut [u64], j: usize, n: u32, alignment: u32, work: u64)
-    requires { ⌜ (length (now sums) ≡ 2048) × (j < 16) × (n ≤ 1000001) × (work ≤ 64 * 400400400) ⌝ }
-    ensures { λ _. ⌜ now (sums .exit) ≡ keptAfter (now (sums .entry)) j n alignment work ⌝ }
+// The work of whole turns of node j + 1, which is the same from every instant.
+fn turns_work(
+    frames: &[u32],
+    members: &[u8],
+    counts: &[usize],
+    ends: &[u32],
+    k: Frame,
+    j: usize,
+    turns: u32,
+) -> u64
+    requires { ⌜ FineTable (stored (now frames)) ⌝ }
+    requires { ⌜ Grouped (stored (now frames)) k (now members) (now counts) (now ends) ⌝ }
+    requires { ⌜ (j < 16) × (turns ≤ 1000001) ⌝ }
+    ensures { λ r. ⌜ r ≡ turns * workAt (ofNode (ahead (stored (now (frames .entry))) k) (j + 1)) 0 (turn (stored (now (frames .entry))) k (j + 1)) ⌝ }
 {
-    let first = SLOTS * j + n as usize % FIRSTS;
-    let old = sums[first];
-    let second = SLOTS * j + FIRSTS + (old / UNIT) as usize % SECONDS;
-    sums[second] = old;
-    sums[first] = n as u64 * UNIT + work;
-    sums[SLOTS * j + GUESS] = alignment as u64 + 1;
+    if turns == 0 {
+        return 0;
+    }
+    let from = GROUP * j;
+    let to = from + counts[j];
+    turns as u64 * work_in(frames, &members[from..to], 0, ends[j])
 }
 
-// The greatest work of node j + 1 in the first n ticks, looked for only where it is not kept.
+// The greatest work of node j + 1 in fewer ticks than a turn has, looked for only where no stair tells it.
+fn stair_work(
+    frames: &[u32],
+    members: &[u8],
+    counts: &[usize],
+    ends: &[u32],
+    k: Frame,
+    j: usize,
+    n: u32,
+    set: usize,
+    sums: &mut [u64],
+) -> u64
+    requires { ⌜ FineTable (stored (now frames)) ⌝ }
+    requires { ⌜ Grouped (stored (now frames)) k (now members) (now counts) (now ends) ⌝ }
+    requires { ⌜ (j < 16) × (n ≤ 1000001) × (set < 512) ⌝ }
+    requires { ⌜ Kept (stored (now frames)) k (now sums) ⌝ }
+    ensures { λ r. ⌜ r ≡ most (stored (now (frames .entry))) k (j + 1) n ⌝ }
+    ensures kept { λ _. ⌜ Kept (stored (now (frames .entry))) k (now (sums .exit)) ⌝ }
+{
+    let found = told(sums, set, j, n);
+    if let Found::At(work) = found {
+        return work as u64;
+    }
+    let from = GROUP * j;
+    let to = from + counts[j];
+    let best = best_alignment(frames, &members[from..to], ends[j], n);
+    keep(sums, set, j, n, best.work);
+    sums[GUESSES + j] = best.alignment as u64 + 1;
+    best.work
+}
+
+// The greatest work of node j + 1 in the first n ticks: that of whole turns, and that of the rest. The nodes before it have `before`
+// frames.
 fn kept_work(
     frames: &[u32],
     members: &[u8],
@@ -56,29 +84,25 @@ fn kept_work(
     k: Frame,
     j: usize,
     n: u32,
+    before: usize,
     sums: &mut [u64],
 ) -> u64
     requires { ⌜ FineTable (stored (now frames)) ⌝ }
     requires { ⌜ Grouped (stored (now frames)) k (now members) (now counts) (now ends) ⌝ }
-    requires { ⌜ (j < 16) × (n ≤ 1000001) ⌝ }
+    requires { ⌜ (j < 16) × (n ≤ 1000001) × (before ≤ 1024) ⌝ }
     requires { ⌜ Kept (stored (now frames)) k (now sums) ⌝ }
-    ensures { λ r. ⌜ r ≡ nodeWork (ofNode (ahead (stored (now (frames .entry))) k) (j + 1)) (alignments (stored (now (frames .entry))) k (j + 1)) Any n ⌝ }
+    ensures { λ r. ⌜ r ≡ most (stored (now (frames .entry))) k (j + 1) n ⌝ }
     ensures small { λ r. ⌜ r ≤ 64 * 400400400 ⌝ }
     ensures kept { λ _. ⌜ Kept (stored (now (frames .entry))) k (now (sums .exit)) ⌝ }
 {
-    let first = sums[SLOTS * j + n as usize % FIRSTS];
-    if first / UNIT == n as u64 {
-        return first % UNIT;
+    let turns = n / ends[j];
+    let rest = n % ends[j];
+    let whole = turns_work(frames, members, counts, ends, k, j, turns);
+    if rest == 0 {
+        return whole;
     }
-    let second = sums[SLOTS * j + FIRSTS + n as usize % SECONDS];
-    if second / UNIT == n as u64 {
-        return second % UNIT;
-    }
-    let from = GROUP * j;
-    let to = from + counts[j];
-    let best = best_alignment(frames, &members[from..to], ends[j], n);
-    keep(sums, j, n, best.alignment, best.work);
-    best.work
+    let set = set_of(before, counts[j], rest, ends[j]);
+    whole + stair_work(frames, members, counts, ends, k, j, rest, set, sums)
 }
 
 // The work of node j + 1 in the first n ticks, by its choice.
@@ -91,11 +115,12 @@ fn node_work(
     j: usize,
     choice: Choice,
     n: u32,
+    before: usize,
     sums: &mut [u64],
 ) -> u64
     requires { ⌜ FineTable (stored (now frames)) ⌝ }
     requires { ⌜ Grouped (stored (now frames)) k (now members) (now counts) (now ends) ⌝ }
-    requires { ⌜ (j < 16) × (n ≤ 1000001) ⌝ }
+    requires { ⌜ (j < 16) × (n ≤ 1000001) × (before ≤ 1024) ⌝ }
     requires { ⌜ Kept (stored (now frames)) k (now sums) ⌝ }
     ensures { λ r. ⌜ r ≡ nodeWork (ofNode (ahead (stored (now (frames .entry))) k) (j + 1)) (alignments (stored (now (frames .entry))) k (j + 1)) choice n ⌝ }
     ensures small { λ r. ⌜ r ≤ 64 * 400400400 ⌝ }
@@ -107,7 +132,7 @@ fn node_work(
             let to = from + counts[j];
             work_in(frames, &members[from..to], a, n)
         }
-        Choice::Any => kept_work(frames, members, counts, ends, k, j, n, sums),
+        Choice::Any => kept_work(frames, members, counts, ends, k, j, n, before, sums),
     }
 }
 
@@ -131,10 +156,12 @@ pub fn whole_work(
     ensures kept { λ _. ⌜ Kept (stored (now (frames .entry))) k (now (sums .exit)) ⌝ }
 {
     let mut sum: u64 = 0;
+    let mut before = 0;
     let mut j = 0;
     while j < NODES {
         let choice = choices[j];
-        sum += node_work(frames, members, counts, ends, k, j, choice, n, sums);
+        sum += node_work(frames, members, counts, ends, k, j, choice, n, before, sums);
+        before += counts[j];
         j += 1;
     }
     sum

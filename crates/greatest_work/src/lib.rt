@@ -1,7 +1,8 @@
-// The greatest work that a node's alignments give, kept by length, and guesses of the alignment that gives it.
+// The greatest work that a node's alignments give, kept in stairs, and guesses of the alignment that gives it.
 mod guesses;
 mod kept;
+mod stairs;
 
 pub use guesses::guessed;
-pub use kept::SUMS;
 pub use kept::whole_work;
+pub use stairs::SUMS;

@@ -55,6 +55,11 @@ least-none p (suc k) n fails = go (p n) (fails n (omega arith) (omega arith)) (l
     go true f later = absurd (f tt)
     go false f later = later
 
+-- What is found is not nothing.
+pub none-at : {m : ℕ} → Nothing ≡ At m → ⊥
+unfolding isNone
+none-at is = subst (λ (r : Found). T (isNone r)) is tt
+
 -- A search finds a number, or its test for none passes.
 pub not-none : (r : Found) → ¬ T (isNone r) → (l : ℕ) × (r ≡ At l)
 unfolding isNone

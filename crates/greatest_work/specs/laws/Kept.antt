@@ -1,25 +1,32 @@
--- What is kept: at first nothing, then one length after the other.
-use Prim.Native.Nat.{ℕ, zero, suc, _+_, _-_, _*_, _/_, _%_, _≤_, _<_}
-use mathlib.Core.Path.{_≡_, refl, sym, ap, _∙_}
-use mathlib.Core.Bool.{Bool, true, false}
+-- What is kept: at first nothing, then one stair after the other, or one that is longer.
+use Prim.Native.Nat.{ℕ, zero, suc, _+_, _-_, _*_, _/_, _%_, _≤_, _<_, min, max}
+use mathlib.Core.Path.{_≡_, refl, sym, ap, ap₂, _∙_}
+use mathlib.Core.Bool.{Bool, true, false, _&&_}
 use mathlib.Core.List.{List, [], _∷_, List·Memᴰ as Mem, List·Memᴰ·head as here, List·Memᴰ·tail as there}
 use native.Mathlib.Omega.{arith}
-use native.Mathlib.Nat.{le-refl}
-use lib.ListN.{getD, set, replicate, length-set, length-replicate}
-use lib.Dec.{eqb}
+use native.Mathlib.Nat.{le-refl, mul-le-mul, mul-le-mul-right, le-trans, suc-mul, mul-comm, div-add-mod}
+use native.Mathlib.Decide.{decLe}
+use lib.ListN.{length, getD, set, replicate, length-set, length-replicate}
+use lib.Dec.{eqb, leb}
 use lib.Seq.{getD-set-same, getD-set-other}
-use borrow.Author.Tests.{eqb-true, eqb-false}
+use borrow.Author.Tests.{eqb-true, eqb-false, leb-true}
 use Rattle.arith.specs.Lists.{sum}
 use Rattle.arith.specs.Releases.{releasesBefore}
 use Rattle.arith.specs.laws.Releases.{count-small}
+use Rattle.arith.specs.laws.Tests.{and-both}
 use Rattle.arith.specs.laws.Members.{of-keep}
 use Rattle.arith.specs.laws.Sums.{greatest-le}
 use Rattle.bus_model.specs.declared.Frame.{Frame}
 use Rattle.bus_model.specs.Pattern.{ofNode}
-use Rattle.bus_model.specs.Bounds.{ahead, alignments, orEmpty, distance, demand, workAt, nodeWork}
-use Rattle.workload.specs.Grouped.{Fine, FineTable}
-use Rattle.greatest_work.specs.Kept.{unit, most, Holds, Kept, keptAfter}
+use Rattle.bus_model.specs.Valid.{Valid}
+use Rattle.bus_model.specs.Bounds.{isAhead, ahead, alignments, orEmpty, distance, demand, workAt, nodeWork}
+use Rattle.bus_model.specs.theory.Turns.{turn}
+use Rattle.bus_model.specs.theory.Stairs.{stair, most-turns}
+use Rattle.workload.specs.Grouped.{Fine, FineTable, Grouped}
+use Rattle.greatest_work.specs.Kept.{unit, packed, nodeIn, lowIn, highIn, workIn, isOn, isOf, widened, pushed, most, Holds, Kept, Told, KeptWith}
 use Rattle.workload.specs.laws.Fine.{member-fine}
+use Rattle.workload.specs.laws.Groups.{lent-end}
+use Rattle.workload.specs.laws.Laid.{keep-few}
 
 -- ---- nothing is kept
 
@@ -29,97 +36,158 @@ zeros-read zero i = refl
 zeros-read (suc n) zero = refl
 zeros-read (suc n) (suc i) = zeros-read n i
 
--- There is no work in the first 0 ticks.
-no-work : (gs : List Frame) (a : ℕ) → ((g : Frame) → Mem g gs → Fine g) → workAt gs a 0 ≤ 0
+-- In n ticks frames have at most this work.
+work-small : (gs : List Frame) → ((g : Frame) → Mem g gs → Fine g) → (a n : ℕ) → workAt gs a n ≤ length gs * (400 * n)
 unfolding workAt sum demand
-no-work [] a fine = le-refl 0
-no-work (g ∷ gs) a fine =
-    let none : releasesBefore (distance g a) (g .period) 0 ≡ 0 = omega (arith, count-small (distance g a) (fine g (here refl) .period-low) 0) in
-    rw none (omega (arith, no-work gs a (λ f m. fine f (there m))))
+work-small [] fine a n = omega arith
+work-small (g ∷ gs) fine a n =
+    let own : g .length * releasesBefore (distance g a) (g .period) n ≤ 400 * n
+    = mul-le-mul {n₂ = 400} {m₂ = n} (fine g (here refl) .length-high) (count-small (distance g a) (fine g (here refl) .period-low) n) in
+    omega (arith, own, work-small gs (λ f m. fine f (there m)) a n, suc-mul (length gs) (400 * n))
 
-module _ {fs : List Frame} (table : FineTable fs) (k : Frame) where
-  none-most : (j : ℕ) → most fs k j 0 ≡ 0
+module _ {fs : List Frame} (table : FineTable fs) (k : Frame) (j : ℕ) where
+  -- So a node has at most this.
+  most-le : (n : ℕ) → most fs k j n ≤ 64 * (400 * n)
   unfolding nodeWork ofNode ahead
-  none-most j =
-      let least = greatest-le {f = λ a. workAt (ofNode (ahead fs k) j) a 0} {n = 0} (alignments fs k j) (λ a m. no-work _ a (λ g l. member-fine fs table (of-keep _ fs (of-keep _ _ l .0) .0))) in
-      omega (arith, least)
+  most-le n =
+      let gs = ofNode (ahead fs k) j in
+      let few : length gs ≤ 64 = omega (arith, keep-few (λ (g : Frame). eqb (g .node) j) (ahead fs k), keep-few (isAhead k) fs, table .few) in
+      greatest-le (alignments fs k j) (λ a m. le-trans (work-small gs (λ g l. member-fine fs table (of-keep _ fs (of-keep _ _ l .0) .0)) a n) (mul-le-mul-right (400 * n) few))
 
-  -- A length 0 holds its work.
-  holds-none : (j : ℕ) → Holds fs k j 0
-  holds-none j = record { is = sym (none-most j); small = omega arith }
+  most-small : (n : ℕ) → n ≤ 1000001 → most fs k j n ≤ 64 * 400400400
+  most-small n few = omega (arith, most-le n)
 
-  -- So an array of zeros keeps what it should.
-  pub kept-zeros : {sums : List ℕ} {n : ℕ} → n ≡ 2048 → sums ≡ replicate n 0 → Kept fs k sums
-  kept-zeros {n = n} size zeros = rw zeros (record {
-    size = length-replicate n 0 ∙ size;
-    works = λ j s l m. rw (zeros-read n (128 * j + s)) (holds-none (j + 1));
-    guess = λ j l taken. absurd (omega (arith, zeros-read n (128 * j + 127), taken));
-    guess-small = λ j l. rw (zeros-read n (128 * j + 127)) (omega arith);
-  })
+  -- There is none in the first 0 ticks.
+  pub most-none : most fs k j 0 ≡ 0
+  most-none = omega (arith, most-le 0)
 
--- ---- one more
+-- It is that of whole turns, and that of the rest.
+module _ {fs : List Frame} (table : FineTable fs) {k : Frame} {members counts ends : List ℕ} (g : Grouped fs k members counts ends) (j : ℕ) (l : j < 16) where
+  pub most-rest : (n : ℕ) → n ≤ 1000001 → {a b : ℕ} → a ≡ n / getD ends j 0 * workAt (ofNode (ahead fs k) (j + 1)) 0 (turn fs k (j + 1)) → b ≡ most fs k (j + 1) (n % getD ends j 0)
+      → (a + b ≡ most fs k (j + 1) n) × (a + b ≤ 64 * 400400400)
+  most-rest n few {a} {b} whole rest =
+      let t = turn fs k (j + 1) in
+      let split : n / t * t + n % t ≡ n = ap (λ (m : ℕ). m + n % t) (mul-comm (n / t) t) ∙ div-add-mod n t in
+      let is : a + b ≡ most fs k (j + 1) n
+      = ap₂ _+_ (rw (lent-end g j l) at whole) (rw (lent-end g j l) at rest) ∙ sym (most-turns (table .valid) k (j + 1) (n / t) (n % t)) ∙ ap (most fs k (j + 1)) split in
+      (is, rw is (most-small table k (j + 1) n few))
 
--- A length and its work are read again from the number that holds them.
-held-length : (n w : ℕ) → w < unit → (n * unit + w) / unit ≡ n
-held-length n w less = omega arith
+-- ---- a stair is read from its number
 
-held-work : (n w : ℕ) → w < unit → (n * unit + w) % unit ≡ w
-held-work n w less = omega arith
+left-again : (a b : ℕ) → b < unit → (a * unit + b) / unit ≡ a
+left-again a b less = omega arith
 
-module _ {fs : List Frame} {k : Frame} {sums : List ℕ} (p : Kept fs k sums) (j : ℕ) (l : j < 16) where
-  -- What is kept is the work, where its length is the one wanted.
-  pub kept-found : (s n : ℕ) {v : ℕ} → s < 127 → v ≡ getD sums (128 * j + s) 0 → v / unit ≡ n → (v % unit ≡ most fs k (j + 1) n) × (v % unit ≤ 64 * 400400400)
-  kept-found s n m is same = let h = p .works j s l m in rw is (h .is ∙ ap (most fs k (j + 1)) (rw is at same), h .small)
+right-again : (a b : ℕ) → b < unit → (a * unit + b) % unit ≡ b
+right-again a b less = omega arith
 
-  -- A number may be put in one of the node's places, if it holds what it says.
-  kept-put : (s v : ℕ) → s < 127 → Holds fs k (j + 1) v → Kept fs k (set sums (128 * j + s) v)
-  kept-put s v m holds = record {
-    size = length-set sums (128 * j + s) v ∙ p .size;
-    works = λ i r l′ m′. by-place i r l′ m′ (eqb (128 * i + r) (128 * j + s)) refl;
-    guess = λ i l′ taken. let same = other i l′ in rw same (p .guess i l′ (rw same at taken));
-    guess-small = λ i l′. rw (other i l′) (p .guess-small i l′);
+module _ (j : ℕ) {low high w : ℕ} (l : low < unit) (h : high < unit) (s : w < unit) where
+  work-again : workIn (packed j low high w) ≡ w
+  work-again = right-again ((j * unit + low) * unit + high) w s
+
+  rest : packed j low high w / unit ≡ (j * unit + low) * unit + high
+  rest = left-again ((j * unit + low) * unit + high) w s
+
+  high-again : highIn (packed j low high w) ≡ high
+  high-again = rw rest (right-again (j * unit + low) high h)
+
+  low-again : lowIn (packed j low high w) ≡ low
+  low-again = rw (rest, left-again (j * unit + low) high h) (right-again j low l)
+
+  node-again : nodeIn (packed j low high w) ≡ j
+  node-again = rw (rest, left-again (j * unit + low) high h) (left-again j low l)
+
+  -- It holds what is so from its one length to the other.
+  pub holds-packed : {fs : List Frame} {k : Frame} → low ≤ high → ((n : ℕ) → low ≤ n → n ≤ high → most fs k (j + 1) n ≡ w) → Holds fs k (packed j low high w)
+  holds-packed some all = record { some = rw (low-again, high-again) some; is = rw (low-again, high-again, node-again, work-again) all }
+
+-- ---- a stair is asked
+
+module _ {fs : List Frame} {k : Frame} where
+  -- What it tells is the greatest work.
+  pub told-is : {sums : List ℕ} → Kept fs k sums → {j n w : ℕ} → Told sums j n w → w ≡ most fs k (j + 1) n
+  told-is {sums} p {j} {n} t =
+      let v = getD sums (t .place) 0 in
+      let (node, inside) = and-both (eqb (nodeIn v) j) (leb (lowIn v) n && leb n (highIn v)) (t .on) in
+      let (low, high) = and-both (leb (lowIn v) n) (leb n (highIn v)) inside in
+      t .is ∙ sym (p .stairs (t .place) (t .inside) .is n (leb-true _ _ low) (leb-true _ _ high)) ∙ ap (λ (i : ℕ). most fs k (i + 1) n) (eqb-true _ _ node)
+
+  -- A stair with the same work may be widened, since the greatest work does not fall.
+  pub holds-widened : Valid fs → (v j n w : ℕ) → Holds fs k v → isOf v j w ≡ true → n < unit → most fs k (j + 1) n ≡ w → Holds fs k (widened v n)
+  holds-widened valid v j n w h same less is =
+      let (node, work) = and-both (eqb (nodeIn v) j) (eqb (workIn v) w) same in
+      let own : nodeIn v ≡ j = eqb-true _ _ node in
+      let so : workIn v ≡ w = eqb-true _ _ work in
+      let now : most fs k (nodeIn v + 1) n ≡ workIn v = rw (own, so) is in
+      let first : most fs k (nodeIn v + 1) (lowIn v) ≡ workIn v = h .is (lowIn v) (le-refl _) (h .some) in
+      let last : most fs k (nodeIn v + 1) (highIn v) ≡ workIn v = h .is (highIn v) (h .some) (le-refl _) in
+      holds-packed (nodeIn v) (omega arith) (omega arith) (omega arith) (omega (arith, h .some)) (λ m low high. elim (decLe (lowIn v) m) [
+        | yes above ↦ elim (decLe m (highIn v)) [
+            | yes below ↦ h .is m above below
+            | no over ↦ stair valid k (nodeIn v + 1) (omega arith) (omega arith) (last ∙ sym now) ∙ last
+          ]
+        | no under ↦ stair valid k (nodeIn v + 1) {low = n} {high = lowIn v} (omega arith) (omega arith) (now ∙ sym first) ∙ now
+      ])
+
+-- ---- one more is kept
+
+module _ {fs : List Frame} {k : Frame} {sums : List ℕ} (p : Kept fs k sums) where
+  -- A stair may be put in any place, if it holds what it says.
+  pub kept-put : (s v : ℕ) → s < 2048 → Holds fs k v → Kept fs k (set sums s v)
+  kept-put s v inside holds = record {
+    size = length-set sums s v ∙ p .size;
+    stairs = λ i l. by-place i l (eqb i s) refl;
+    guess = λ j l taken. let same = other j in rw same (p .guess j l (rw same at taken));
+    guess-small = λ j l. rw (other j) (p .guess-small j l);
   }
     where
-      other : (i : ℕ) → i < 16 → getD (set sums (128 * j + s) v) (128 * i + 127) 0 ≡ getD sums (128 * i + 127) 0
-      other i l′ = getD-set-other sums (128 * j + s) (128 * i + 127) v 0 (λ q. omega arith)
+      other : (j : ℕ) → getD (set sums s v) (2048 + j) 0 ≡ getD sums (2048 + j) 0
+      other j = getD-set-other sums s (2048 + j) v 0 (λ q. omega arith)
 
-      by-place : (i r : ℕ) → i < 16 → r < 127 → (b : Bool) → eqb (128 * i + r) (128 * j + s) ≡ b → Holds fs k (i + 1) (getD (set sums (128 * j + s) v) (128 * i + r) 0)
-      by-place i r l′ m′ true e =
-          let same = eqb-true (128 * i + r) (128 * j + s) e in
-          let node : i ≡ j = omega arith in
-          rw (same, getD-set-same sums (128 * j + s) v 0 (omega (arith, p .size)), node) holds
-      by-place i r l′ m′ false e = rw (getD-set-other sums (128 * j + s) (128 * i + r) v 0 (eqb-false (128 * i + r) (128 * j + s) e)) (p .works i r l′ m′)
+      by-place : (i : ℕ) → i < 2048 → (b : Bool) → eqb i s ≡ b → Holds fs k (getD (set sums s v) i 0)
+      by-place i l true e = rw (eqb-true i s e, getD-set-same sums s v 0 (omega (arith, p .size))) holds
+      by-place i l false e = rw (getD-set-other sums s i v 0 (eqb-false i s e)) (p .stairs i l)
 
-  -- So may one more than an alignment in its own.
-  guess-put : (a : ℕ) → a < 4294967296 → Mem a (orEmpty (alignments fs k (j + 1))) → Kept fs k (set sums (128 * j + 127) (a + 1))
-  guess-put a small listed = record {
-    size = length-set sums (128 * j + 127) (a + 1) ∙ p .size;
-    works = λ i r l′ m′. rw (getD-set-other sums (128 * j + 127) (128 * i + r) (a + 1) 0 (λ q. omega arith)) (p .works i r l′ m′);
+  -- So may one more than an alignment in its node's.
+  pub guess-put : (j a : ℕ) → j < 16 → a < 4294967296 → Mem a (orEmpty (alignments fs k (j + 1))) → Kept fs k (set sums (2048 + j) (a + 1))
+  guess-put j a l small listed = record {
+    size = length-set sums (2048 + j) (a + 1) ∙ p .size;
+    stairs = λ i m. rw (getD-set-other sums (2048 + j) i (a + 1) 0 (λ q. omega arith)) (p .stairs i m);
     guess = λ i l′ taken. by-node i l′ (eqb i j) refl .0 taken;
     guess-small = λ i l′. by-node i l′ (eqb i j) refl .1;
   }
     where
       now : ℕ → ℕ
-      now i = getD (set sums (128 * j + 127) (a + 1)) (128 * i + 127) 0
+      now i = getD (set sums (2048 + j) (a + 1)) (2048 + i) 0
 
       by-node : (i : ℕ) → i < 16 → (b : Bool) → eqb i j ≡ b → (0 < now i → Mem (now i - 1) (orEmpty (alignments fs k (i + 1)))) × (now i ≤ 4294967296)
       by-node i l′ true e =
-          let node = eqb-true i j e in
-          let read = getD-set-same sums (128 * j + 127) (a + 1) 0 (omega (arith, p .size)) in
+          let read = getD-set-same sums (2048 + j) (a + 1) 0 (omega (arith, p .size)) in
           let back : a + 1 - 1 ≡ a = omega arith in
-          rw (node, read, back) (λ taken. listed, omega arith)
+          rw (eqb-true i j e, read, back) (λ taken. listed, omega arith)
       by-node i l′ false e =
           let other = eqb-false i j e in
-          rw (getD-set-other sums (128 * j + 127) (128 * i + 127) (a + 1) 0 (λ q. other (omega arith))) (p .guess i l′, p .guess-small i l′)
+          rw (getD-set-other sums (2048 + j) (2048 + i) (a + 1) 0 (λ q. other (omega arith))) (p .guess i l′, p .guess-small i l′)
 
-module _ {fs : List Frame} {k : Frame} {sums : List ℕ} (p : Kept fs k sums) (j : ℕ) (l : j < 16) (n a w : ℕ) where
-  abbrev old : ℕ
-  old = getD sums (128 * j + n % 64) 0
+-- The stairs at a place are put one further, and one in front of them.
+pub kept-pushed : {fs : List Frame} {k : Frame} {sums : List ℕ} → Kept fs k sums → (s v : ℕ) → s + 3 < 2048 → Holds fs k v → Kept fs k (pushed sums s v)
+kept-pushed p s v inside holds =
+    let first = kept-put p s v (omega arith) holds in
+    let second = kept-put first (s + 1) _ (omega arith) (p .stairs s (omega arith)) in
+    let third = kept-put second (s + 2) _ (omega arith) (p .stairs (s + 1) (omega arith)) in
+    kept-put third (s + 3) _ inside (p .stairs (s + 2) (omega arith))
 
-  -- A greatest work is kept with the others.
-  pub kept-more : a < 4294967296 → Mem a (orEmpty (alignments fs k (j + 1))) → w ≡ most fs k (j + 1) n → w ≤ 64 * 400400400 → Kept fs k (keptAfter sums j n a w)
-  kept-more small listed is few =
-      let place : 128 * j + 64 + old / unit % 63 ≡ 128 * j + (64 + old / unit % 63) = omega arith in
-      let held : Holds fs k (j + 1) (n * unit + w) = record { is = held-work n w (omega arith) ∙ is ∙ ap (most fs k (j + 1)) (sym (held-length n w (omega arith))); small = rw (held-work n w (omega arith)) few } in
-      let moved = rw (← place) at (kept-put p j l (64 + old / unit % 63) old (omega arith) (p .works j (n % 64) l (omega arith))) in
-      guess-put (kept-put moved j l (n % 64) (n * unit + w) (omega arith) held) j l a small listed
+-- ---- at the start
+
+module _ {fs : List Frame} (table : FineTable fs) (k : Frame) where
+  -- The number 0 says that the first node has no work in the first 0 ticks.
+  holds-none : Holds fs k 0
+  holds-none = record { some = le-refl 0; is = λ n l h. let none : n ≡ 0 = omega arith in rw none (most-none table k 1) }
+
+  -- So an array of zeros keeps what it should.
+  pub kept-zeros : {sums : List ℕ} {n : ℕ} → n ≡ 2064 → sums ≡ replicate n 0 → Kept fs k sums
+  kept-zeros {n = n} size zeros = rw zeros (record {
+    size = length-replicate n 0 ∙ size;
+    stairs = λ s l. rw (zeros-read n s) holds-none;
+    guess = λ j l taken. absurd (omega (arith, zeros-read n (2048 + j), taken));
+    guess-small = λ j l. rw (zeros-read n (2048 + j)) (omega arith);
+  })

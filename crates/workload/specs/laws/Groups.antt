@@ -25,7 +25,7 @@ use Rattle.bus_model.specs.Bounds.{isAhead, isBelow, ahead, below, blocking, al
 use Rattle.bus_model.specs.Valid.{Valid}
 use Rattle.bus_model.specs.theory.Visits.{isAlignment}
 use Rattle.bus_model.specs.theory.Hyperperiod.{commonOf}
-use Rattle.bus_model.specs.theory.Turns.{turn, firstTurn, turn-le, node-work-turn}
+use Rattle.bus_model.specs.theory.Turns.{turn, firstTurn, turn-pos, turn-le, node-work-turn}
 use Rattle.workload.specs.Grouped.{FineTable, FinePart, framesIn, isInstant, instantsIn, isCounted, partOf, Grouped}
 use Rattle.workload.specs.laws.Fine.{member-fine, group-fine}
 
@@ -216,12 +216,16 @@ module _ {fs : List Frame} {k : Frame} {members counts ends : List ℕ} (g : Gro
   pub lent-frames : framesIn fs (lent members counts i) ≡ ofNode (ahead fs k) (i + 1)
   lent-frames = ap (framesIn fs) lent-part ∙ g .part (i + 1) (omega arith) (omega arith)
 
-  lent-end : getD ends i 0 ≡ turn fs k (i + 1)
+  pub lent-end : getD ends i 0 ≡ turn fs k (i + 1)
   lent-end = rw place at (g .end (i + 1) (omega arith) (omega arith))
 
-  -- They are inside the members.
+  -- They are few, and
+  pub lent-few : getD counts i 0 ≤ 64
+  lent-few = rw place at (g .few (i + 1) (omega arith) (omega arith))
+
+  -- inside the members.
   pub lent-inside : 64 * i + getD counts i 0 ≤ length members
-  lent-inside = let few : getD counts i 0 ≤ 64 = rw place at (g .few (i + 1) (omega arith) (omega arith)) in omega (arith, g .members-size)
+  lent-inside = omega (arith, lent-few, g .members-size)
 
   -- They and the node's turn are within their limits.
   pub lent-fine : FineTable fs → FinePart fs (lent members counts i) × (getD ends i 0 ≤ 1000000)
@@ -243,6 +247,10 @@ module _ {fs : List Frame} {k : Frame} {members counts ends : List ℕ} (g : Gro
   -- The choice that is read is the node's.
   pub lent-choice : (cs : List Choice) → length cs ≡ 16 → getD cs i (Fixed 0) ≡ choiceOf cs (i + 1)
   lent-choice cs all = rw place (getD-within cs i (Fixed 0) Any (omega arith))
+
+  -- The turn is not 0.
+  pub lent-pos : Valid fs → 1 ≤ getD ends i 0
+  lent-pos valid = rw lent-end (turn-pos valid k (i + 1))
 
   -- They give the node's work by a choice.
   pub lent-node : Valid fs → (choice : Choice) (n : ℕ) {r : ℕ}

@@ -98,7 +98,7 @@ module _ (fs : List Frame) (k : Frame) (gs : List Frame) (fine : (g : Frame) →
   unfolding work
   exact fixed = sum-same (range 1 nodes) (λ j m. node-exact j (fixed j m .1)) ∙ sym (laid-nodes gs fine cs n)
 
-keep-few : {A : Type 0} (p : A → Bool) (xs : List A) → length (keep p xs) ≤ length xs
+pub keep-few : {A : Type 0} (p : A → Bool) (xs : List A) → length (keep p xs) ≤ length xs
 unfolding keep
 keep-few p [] = omega arith
 keep-few p (x ∷ xs) = let rest = keep-few p xs in cond-cases (λ (ys : List _). length ys ≤ suc (length xs)) (p x) (λ t. omega arith) (λ f. omega arith)

@@ -9,14 +9,11 @@ use Rattle.workload.specs.laws.Groups.{lent-inside, lent-fine, lent-search}
 use Rattle.greatest_work.proofs.guesses.guess.Statement.{statement}
 use Rattle.greatest_work.proofs.guesses.guess.Tie as tie
 
-mul-kept : tie.Need-mul-kept
-mul-kept c = search needs
-
 add-kept : tie.Need-add-kept
 add-kept c = search needs
 
-mul-kept-2 : tie.Need-mul-kept-2
-mul-kept-2 c = search needs
+mul-kept : tie.Need-mul-kept
+mul-kept c = search needs
 
 shared-slice-read-kept : tie.Need-shared-slice-read-kept
 shared-slice-read-kept c = search needs
@@ -95,9 +92,8 @@ pub guess-spec : {M : Type 1} → statement M
 guess-spec =
     tie.close
     (tie.spec
-    mul-kept
     add-kept
-    mul-kept-2
+    mul-kept
     shared-slice-read-kept
     sub-result
     cast-result

@@ -21,7 +21,8 @@ shared-slice-read-to c = search needs
 
 add-to : tie.Need-add-to
 add-to c =
-    let s = c .before .before .before .before .before .before .before .before .before in omega (arith, lent-inside (s .pre .1 .0) (s .args .j) (s .pre .1 .1 .0 .0), s .pre .1 .0 .members-size)
+    let s = c .before .before .before .before .before .before .before .before .before in
+    omega (arith, lent-inside (s .pre .1 .0) (s .args .j) (s .pre .1 .1 .0 .0), s .pre .1 .0 .members-size)
 
 sub-work-in : tie.Need-sub-work-in
 sub-work-in c = search needs
@@ -30,11 +31,14 @@ part-work-in-start : tie.Need-part-work-in-start
 part-work-in-start c = search needs
 
 part-work-in-end : tie.Need-part-work-in-end
-part-work-in-end c = let s = c .before .before .before .before .before .before .before .before .before in lent-inside (s .pre .1 .0) (s .args .j) (s .pre .1 .1 .0 .0)
+part-work-in-end c =
+    let s = c .before .before .before .before .before .before .before .before .before in
+    lent-inside (s .pre .1 .0) (s .args .j) (s .pre .1 .1 .0 .0)
 
 work-in-requires : tie.Need-work-in-requires
 work-in-requires c κs =
-    let s = c .before .before .before .before .before .before .before .before .before .before in (lent-fine (s .pre .1 .0) (s .args .j) (s .pre .1 .1 .0 .0) (s .pre .0) .0, s .pre .1 .1 .0 .1)
+    let s = c .before .before .before .before .before .before .before .before .before .before in
+    (lent-fine (s .pre .1 .0) (s .args .j) (s .pre .1 .1 .0 .0) (s .pre .0) .0, s .pre .1 .1 .0 .1)
 
 enum-told : tie.Need-enum-told
 enum-told c = search needs

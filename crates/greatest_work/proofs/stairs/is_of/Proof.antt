@@ -1,0 +1,17 @@
+-- The second test counts where the first holds.
+use borrow.Author.Tests.{eq-eqb, ne-eqb}
+use Rattle.greatest_work.proofs.stairs.is_of.Statement.{statement}
+use Rattle.greatest_work.proofs.stairs.is_of.Tie as tie
+
+returns : tie.Need-returns
+returns c = simp (eq-eqb _ _ (c .if1 .taken))
+
+returns-2 : tie.Need-returns-2
+returns-2 c = simp (ne-eqb _ _ (c .if1 .left))
+
+pub is-of-spec : {M : Type 1} → statement M
+is-of-spec =
+    tie.close
+    (tie.spec
+    returns
+    returns-2)

@@ -1,0 +1,142 @@
+// The memory of greatest works. A node's greatest work rises in stairs: where two lengths have the same, so has each between them. A
+// number holds a stair as far as it is known: the node, its first and last length that were asked for, and the work.
+use arith::Found;
+ghost use mathlib.Core.Path.{_≡_};
+ghost use Prim.Native.Nat.{ℕ, _*_, _≤_, _<_, min, max};
+ghost use mathlib.Core.Bool.{true};
+ghost use lib.ListN.{length, getD};
+ghost use Rattle.arith.specs.declared.Found.the-variants.{At};
+ghost use Rattle.greatest_work.specs.Kept.{packed, isOn, isOf, widened, pushed, Told, KeptWith};
+
+// So many numbers are kept: stairs, and an alignment for each node.
+pub const SUMS: usize = 2064;
+
+// There the alignments start.
+pub const GUESSES: usize = 2048;
+
+// So many stairs share a place,
+const WAYS: usize = 4;
+
+// and so many places there are.
+const SETS: usize = 512;
+
+// So many of them a node has for each of its frames: those of all nodes, 64 frames at the most, are just these.
+const FRAME_SETS: usize = 8;
+
+const UNIT: u64 = 1_048_576;
+
+// The place for a length of a node, whose frames are `count`, behind those of the nodes before it: the lengths below `end`, after which
+// they look the same, are cut into as many parts. Nothing is promised of it, since a stair says itself what it holds of.
+pub fn set_of(before: usize, count: usize, n: u32, end: u32) -> usize
+    requires { ⌜ (before ≤ 1024) × (count ≤ 64) × (n ≤ 1000001) × (1 ≤ end) ⌝ }
+    ensures { λ r. ⌜ r < 512 ⌝ }
+{
+    let at = n as usize * (FRAME_SETS * count) / end as usize;
+    (FRAME_SETS * before + at) % SETS
+}
+
+fn pack(j: u64, low: u64, high: u64, work: u64) -> u64
+    requires { ⌜ (j < 16) × (low < 1048576) × (high < 1048576) × (work < 1048576) ⌝ }
+    ensures { λ r. ⌜ r ≡ packed j low high work ⌝ }
+{
+    ((j * UNIT + low) * UNIT + high) * UNIT + work
+}
+
+fn is_on(v: u64, j: usize, n: u32) -> bool
+    ensures { λ r. ⌜ r ≡ isOn v j n ⌝ }
+{
+    if v / UNIT / UNIT / UNIT != j as u64 {
+        return false;
+    }
+    v / UNIT / UNIT % UNIT <= n as u64 && n as u64 <= v / UNIT % UNIT
+}
+
+fn is_of(v: u64, j: usize, work: u64) -> bool
+    ensures { λ r. ⌜ r ≡ isOf v j work ⌝ }
+{
+    v / UNIT / UNIT / UNIT == j as u64 && v % UNIT == work
+}
+
+fn lesser(a: u64, b: u64) -> u64
+    ensures { λ r. ⌜ r ≡ min a b ⌝ }
+{
+    if a < b { a } else { b }
+}
+
+fn greater(a: u64, b: u64) -> u64
+    ensures { λ r. ⌜ r ≡ max a b ⌝ }
+{
+    if a < b { b } else { a }
+}
+
+fn widen(v: u64, n: u32) -> u64
+    requires { ⌜ n < 1048576 ⌝ }
+    ensures { λ r. ⌜ r ≡ widened v n ⌝ }
+{
+    let low = lesser(v / UNIT / UNIT % UNIT, n as u64);
+    let high = greater(v / UNIT % UNIT, n as u64);
+    pack(v / UNIT / UNIT / UNIT, low, high, v % UNIT)
+}
+
+// The greatest work of node j + 1 in the first n ticks, if a stair tells it.
+pub fn told(sums: &[u64], set: usize, j: usize, n: u32) -> Found
+    requires { ⌜ (length (now sums) ≡ 2064) × (set < 512) ⌝ }
+    ensures { λ r. ⌜ ((w : ℕ) → r ≡ At w → Told (now (sums .entry)) j n w) ⌝ }
+{
+    let mut i = 0;
+    while i < WAYS {
+        let v = sums[WAYS * set + i];
+        if is_on(v, j, n) {
+            return Found::At((v % UNIT) as u32);
+        }
+        i += 1;
+    }
+    Found::Nothing
+}
+
+// Where a stair of node j + 1 with this work is kept.
+fn stair_at(sums: &[u64], set: usize, j: usize, work: u64) -> Found
+    requires { ⌜ (length (now sums) ≡ 2064) × (set < 512) ⌝ }
+    ensures { λ r. ⌜ ((p : ℕ) → r ≡ At p → (p < 2048) × (isOf (getD (now (sums .entry)) p 0) j work ≡ true)) ⌝ }
+{
+    let mut i = 0;
+    while i < WAYS {
+        let p = WAYS * set + i;
+        if is_of(sums[p], j, work) {
+            return Found::At(p as u32);
+        }
+        i += 1;
+    }
+    Found::Nothing
+}
+
+// Puts a stair in front of those at its place; the last one goes.
+fn push(sums: &mut [u64], set: usize, v: u64)
+    requires { ⌜ (length (now sums) ≡ 2064) × (set < 512) ⌝ }
+    ensures { λ _. ⌜ now (sums .exit) ≡ pushed (now (sums .entry)) (4 * set) v ⌝ }
+{
+    let first = WAYS * set;
+    let a = sums[first];
+    let b = sums[first + 1];
+    let c = sums[first + 2];
+    sums[first] = v;
+    sums[first + 1] = a;
+    sums[first + 2] = b;
+    sums[first + 3] = c;
+}
+
+// Keeps the greatest work of node j + 1 in the first n ticks: a stair of the same work is widened, or else there is a new one.
+pub fn keep(sums: &mut [u64], set: usize, j: usize, n: u32, work: u64)
+    requires { ⌜ (length (now sums) ≡ 2064) × (set < 512) × (j < 16) × (n < 1048576) ⌝ }
+    ensures { λ _. ⌜ KeptWith j n work (now (sums .entry)) (now (sums .exit)) ⌝ }
+{
+    if UNIT <= work {
+        return;
+    }
+    let found = stair_at(sums, set, j, work);
+    if let Found::At(p) = found {
+        sums[p as usize] = widen(sums[p as usize], n);
+        return;
+    }
+    push(sums, set, pack(j as u64, n as u64, n as u64, work));
+}
