@@ -129,13 +129,22 @@ impl<const ROOM: usize> Walk<ROOM> {
     }
 }
 
-/// So many greatest works are kept for each node.
-const SLOTS: usize = 127;
+/// The greatest work is the same from one length to another.
+#[derive(Clone, Copy, Default)]
+struct Stair {
+    low: u64,
+    high: u64,
+    work: u64,
+}
+
+/// So many stairs share a place, and so many places has a node for each of its frames.
+const WAYS: usize = 4;
+const FRAME_SETS: usize = 8;
 
 /// What is kept of a node's greatest works.
 struct Memory {
-    /// Some of them, each behind its length.
-    kept: [(u64, u64); SLOTS],
+    /// Stairs below the turn, by the part of it that they are in.
+    stairs: Vec<[Stair; WAYS]>,
     /// The alignment found best last, at first the first one.
     guess: u64,
     /// The lengths that were looked at, where they are counted.
@@ -143,20 +152,20 @@ struct Memory {
 }
 
 impl Memory {
-    /// The two slots of a length.
-    fn slots(n: u64) -> [usize; 2] {
-        [n as usize % 64, 64 + n as usize % 63]
+    fn work(&self, set: usize, n: u64) -> Option<u64> {
+        let is_on = |stair: &&Stair| (stair.low..=stair.high).contains(&n);
+        self.stairs[set].iter().find(is_on).map(|stair| stair.work)
     }
 
-    fn work(&self, n: u64) -> Option<u64> {
-        let mut kept = Memory::slots(n).into_iter().map(|slot| self.kept[slot]);
-        kept.find(|(length, _)| *length == n).map(|(_, work)| work)
-    }
-
-    /// Takes the first slot of a length; what stands there moves to its own second one.
-    fn keep(&mut self, n: u64, work: u64) {
-        let moved = std::mem::replace(&mut self.kept[Memory::slots(n)[0]], (n, work));
-        self.kept[Memory::slots(moved.0)[1]] = moved;
+    /// Widens the stair of this work, or puts one in front of the others at its place.
+    fn keep(&mut self, set: usize, n: u64, work: u64) {
+        let set = &mut self.stairs[set];
+        if let Some(stair) = set.iter_mut().find(|stair| stair.work == work) {
+            (stair.low, stair.high) = (stair.low.min(n), stair.high.max(n));
+            return;
+        }
+        set.rotate_right(1);
+        set[0] = Stair { low: n, high: n, work };
     }
 }
 
@@ -165,6 +174,7 @@ impl Memory {
 pub struct Node {
     frames: Vec<Frame>,
     turn: u64,
+    turn_work: u64,
     memory: RefCell<Memory>,
 }
 
@@ -172,8 +182,10 @@ impl Node {
     pub fn new(frames: Vec<Frame>) -> Node {
         let turn = frames.iter().fold(1, |turn, frame| common_multiple(turn, frame.period));
         let guess = first_alignment(&frames);
-        let memory = Memory { kept: [(0, 0); SLOTS], guess, looks: None };
-        Node { frames, turn, memory: RefCell::new(memory) }
+        let turn_work = frames.iter().map(|frame| turn / frame.period * frame.length).sum();
+        let stairs = vec![Default::default(); FRAME_SETS * frames.len()];
+        let memory = RefCell::new(Memory { stairs, guess, looks: None });
+        Node { frames, turn, turn_work, memory }
     }
 
     pub fn turn(&self) -> u64 {
@@ -208,12 +220,19 @@ impl Node {
         }
     }
 
-    /// The greatest work in the first n ticks.
+    /// The greatest work in the first n ticks: that of whole turns, and that of the rest.
     pub fn greatest(&self, n: u64) -> u64 {
+        let (turns, rest) = (n / self.turn, n % self.turn);
+        turns * self.turn_work + self.greatest_below(rest)
+    }
+
+    /// That in fewer ticks than a turn has.
+    fn greatest_below(&self, n: u64) -> u64 {
         let memory = &mut *self.memory.borrow_mut();
-        memory.work(n).unwrap_or_else(|| {
+        let set = (n * memory.stairs.len() as u64 / self.turn) as usize;
+        memory.work(set, n).unwrap_or_else(|| {
             let (alignment, work) = self.best(n);
-            memory.keep(n, work);
+            memory.keep(set, n, work);
             memory.guess = alignment;
             memory.looks.iter_mut().for_each(|looks| looks.push(n));
             work

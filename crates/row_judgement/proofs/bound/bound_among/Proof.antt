@@ -34,7 +34,7 @@ slice-aggregate-bound-frame-5 c = search needs
 
 bound-frame-requires : tie.Need-bound-frame-requires
 bound-frame-requires c κs =
-    let s = c .before .before .before .before .before .before .before .before .before .before .before .before .before in (s .pre .0, (c .before .before .before .before .before .before .before .before .group .ensures, (s .pre .1, kept-zeros (s .pre .0) _ {n = 2048} refl refl)))
+    let s = c .before .before .before .before .before .before .before .before .before .before .before .before .before in (s .pre .0, (c .before .before .before .before .before .before .before .before .group .ensures, (s .pre .1, kept-zeros (s .pre .0) _ {n = 2064} refl refl)))
 
 returns : tie.Need-returns
 returns c = search needs

@@ -34,7 +34,7 @@ slice-aggregate-judge-frame-5 c = search needs
 
 judge-frame-requires : tie.Need-judge-frame-requires
 judge-frame-requires c κs =
-    let s = c .before .before .before .before .before .before .before .before .before .before .before .before .before in (s .pre .0, (c .before .before .before .before .before .before .before .before .group .ensures, (s .pre .1, kept-zeros (s .pre .0) _ {n = 2048} refl refl)))
+    let s = c .before .before .before .before .before .before .before .before .before .before .before .before .before in (s .pre .0, (c .before .before .before .before .before .before .before .before .group .ensures, (s .pre .1, kept-zeros (s .pre .0) _ {n = 2064} refl refl)))
 
 returns : tie.Need-returns
 returns c = search needs
