@@ -4,7 +4,7 @@ use mathlib.Core.Path.{_≡_}
 use mathlib.Core.List.{List, List·Memᴰ as Mem}
 use mathlib.Core.Bool.{Bool, true, _&&_}
 use lib.Dec.{eqb, leb}
-use lib.ListN.{length, getD, set}
+use lib.ListN.{length, getD}
 use Rattle.bus_model.specs.declared.Frame.{Frame}
 use Rattle.bus_model.specs.declared.Choice.the-variants.{Any}
 use Rattle.bus_model.specs.Pattern.{ofNode}
@@ -45,10 +45,6 @@ isOf v j w = eqb (nodeIn v) j && eqb (workIn v) w
 -- the stair with length n on it too
 abbrev pub widened : ℕ → ℕ → ℕ
 widened v n = packed (nodeIn v) (min (lowIn v) n) (max (highIn v) n) (workIn v)
-
--- four stairs from s on, when one is put in front of them and the last one goes
-abbrev pub pushed : List ℕ → ℕ → ℕ → List ℕ
-pushed sums s v = set (set (set (set sums s v) (s + 1) (getD sums s 0)) (s + 2) (getD sums (s + 1) 0)) (s + 3) (getD sums (s + 2) 0)
 
 -- ---- what they say
 

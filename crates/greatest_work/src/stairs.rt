@@ -2,11 +2,10 @@
 // number holds a stair as far as it is known: the node, its first and last length that were asked for, and the work.
 use arith::Found;
 ghost use mathlib.Core.Path.{_≡_};
-ghost use Prim.Native.Nat.{ℕ, _*_, _≤_, _<_, min, max};
-ghost use mathlib.Core.Bool.{true};
-ghost use lib.ListN.{length, getD};
+ghost use Prim.Native.Nat.{ℕ, _≤_, _<_, min, max};
+ghost use lib.ListN.{length};
 ghost use Rattle.arith.specs.declared.Found.the-variants.{At};
-ghost use Rattle.greatest_work.specs.Kept.{packed, isOn, isOf, widened, pushed, Told, KeptWith};
+ghost use Rattle.greatest_work.specs.Kept.{packed, isOn, isOf, widened, Told, KeptWith};
 
 // So many numbers are kept: stairs, and an alignment for each node.
 pub const SUMS: usize = 2064;
@@ -94,35 +93,21 @@ pub fn told(sums: &[u64], set: usize, j: usize, n: u32) -> Found
     Found::Nothing
 }
 
-// Where a stair of node j + 1 with this work is kept.
-fn stair_at(sums: &[u64], set: usize, j: usize, work: u64) -> Found
+// The place for a stair of node j + 1 with this work: where one stands or none yet, or else the last. Lengths are asked for rising, over
+// and over: so the others stay, where those that were used least lately would go just before they are asked for.
+fn place_for(sums: &[u64], set: usize, j: usize, work: u64) -> usize
     requires { ⌜ (length (now sums) ≡ 2064) × (set < 512) ⌝ }
-    ensures { λ r. ⌜ ((p : ℕ) → r ≡ At p → (p < 2048) × (isOf (getD (now (sums .entry)) p 0) j work ≡ true)) ⌝ }
+    ensures { λ r. ⌜ r < 2048 ⌝ }
 {
     let mut i = 0;
     while i < WAYS {
-        let p = WAYS * set + i;
-        if is_of(sums[p], j, work) {
-            return Found::At(p as u32);
+        let v = sums[WAYS * set + i];
+        if v == 0 || is_of(v, j, work) {
+            return WAYS * set + i;
         }
         i += 1;
     }
-    Found::Nothing
-}
-
-// Puts a stair in front of those at its place; the last one goes.
-fn push(sums: &mut [u64], set: usize, v: u64)
-    requires { ⌜ (length (now sums) ≡ 2064) × (set < 512) ⌝ }
-    ensures { λ _. ⌜ now (sums .exit) ≡ pushed (now (sums .entry)) (4 * set) v ⌝ }
-{
-    let first = WAYS * set;
-    let a = sums[first];
-    let b = sums[first + 1];
-    let c = sums[first + 2];
-    sums[first] = v;
-    sums[first + 1] = a;
-    sums[first + 2] = b;
-    sums[first + 3] = c;
+    WAYS * set + WAYS - 1
 }
 
 // Keeps the greatest work of node j + 1 in the first n ticks: a stair of the same work is widened, or else there is a new one.
@@ -133,10 +118,11 @@ pub fn keep(sums: &mut [u64], set: usize, j: usize, n: u32, work: u64)
     if UNIT <= work {
         return;
     }
-    let found = stair_at(sums, set, j, work);
-    if let Found::At(p) = found {
-        sums[p as usize] = widen(sums[p as usize], n);
-        return;
+    let p = place_for(sums, set, j, work);
+    let v = sums[p];
+    if is_of(v, j, work) {
+        sums[p] = widen(v, n);
+    } else {
+        sums[p] = pack(j as u64, n as u64, n as u64, work);
     }
-    push(sums, set, pack(j as u64, n as u64, n as u64, work));
 }

@@ -23,7 +23,7 @@ use Rattle.bus_model.specs.Bounds.{isAhead, ahead, alignments, orEmpty, distanc
 use Rattle.bus_model.specs.theory.Turns.{turn}
 use Rattle.bus_model.specs.theory.Stairs.{stair, most-turns}
 use Rattle.workload.specs.Grouped.{Fine, FineTable, Grouped}
-use Rattle.greatest_work.specs.Kept.{unit, packed, nodeIn, lowIn, highIn, workIn, isOn, isOf, widened, pushed, most, Holds, Kept, Told, KeptWith}
+use Rattle.greatest_work.specs.Kept.{unit, packed, nodeIn, lowIn, highIn, workIn, isOn, isOf, widened, most, Holds, Kept, Told, KeptWith}
 use Rattle.workload.specs.laws.Fine.{member-fine}
 use Rattle.workload.specs.laws.Groups.{lent-end}
 use Rattle.workload.specs.laws.Laid.{keep-few}
@@ -167,14 +167,6 @@ module _ {fs : List Frame} {k : Frame} {sums : List ℕ} (p : Kept fs k sums) wh
       by-node i l′ false e =
           let other = eqb-false i j e in
           rw (getD-set-other sums (2048 + j) (2048 + i) (a + 1) 0 (λ q. other (omega arith))) (p .guess i l′, p .guess-small i l′)
-
--- The stairs at a place are put one further, and one in front of them.
-pub kept-pushed : {fs : List Frame} {k : Frame} {sums : List ℕ} → Kept fs k sums → (s v : ℕ) → s + 3 < 2048 → Holds fs k v → Kept fs k (pushed sums s v)
-kept-pushed p s v inside holds =
-    let first = kept-put p s v (omega arith) holds in
-    let second = kept-put first (s + 1) _ (omega arith) (p .stairs s (omega arith)) in
-    let third = kept-put second (s + 2) _ (omega arith) (p .stairs (s + 1) (omega arith)) in
-    kept-put third (s + 3) _ inside (p .stairs (s + 2) (omega arith))
 
 -- ---- at the start
 
