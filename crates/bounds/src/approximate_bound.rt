@@ -4,15 +4,46 @@ use crate::levels::with_choice;
 use arith::Found;
 use bus_model::Choice;
 use bus_model::Frame;
+use response_time::all_left;
 use response_time::busy_window;
 use response_time::or_zero;
 use response_time::raised;
 ghost use mathlib.Core.Path.{_≡_};
+ghost use Prim.Native.Nat.{ℕ, _≤_};
+ghost use Rattle.arith.specs.declared.Found.the-variants.{At};
 ghost use Rattle.bus_model.specs.Bounds.{blocking};
 ghost use Rattle.bus_model.specs.theory.Approximate.{approximateFound};
 ghost use Rattle.workload.specs.Stored.{stored};
 ghost use Rattle.workload.specs.Grouped.{Grouped, InTable, FineTable};
 ghost use Rattle.greatest_work.specs.Kept.{Kept};
+ghost use Rattle.response_time.specs.Load.{WindowWithin};
+
+// A length that the window of the scenario does not exceed: the one given, or else the window itself.
+fn limit_of(
+    frames: &[u32],
+    members: &[u8],
+    counts: &[usize],
+    ends: &[u32],
+    k: Frame,
+    choices: [Choice; 16],
+    blocked: u32,
+    limit: Found,
+    sums: &mut [u64],
+) -> Found
+    requires { ⌜ FineTable (stored (now frames)) ⌝ }
+    requires { ⌜ Grouped (stored (now frames)) k (now members) (now counts) (now ends) ⌝ }
+    requires { ⌜ InTable (stored (now frames)) k ⌝ }
+    requires { ⌜ blocked ≡ blocking (stored (now frames)) k ⌝ }
+    requires { ⌜ ((l : ℕ) → limit ≡ At l → (l ≤ 1000000) × WindowWithin (stored (now frames)) k choices l) ⌝ }
+    requires { ⌜ Kept (stored (now frames)) k (now sums) ⌝ }
+    ensures { λ r. ⌜ ((l : ℕ) → r ≡ At l → (l ≤ 1000000) × WindowWithin (stored (now (frames .entry))) k choices l) ⌝ }
+    ensures kept { λ _. ⌜ Kept (stored (now (frames .entry))) k (now (sums .exit)) ⌝ }
+{
+    match limit {
+        Found::At(l) => Found::At(l),
+        Found::Nothing => busy_window(frames, members, counts, ends, k, choices, blocked, sums),
+    }
+}
 
 // The approximate bound, or nothing where some alignment of k's node has no busy window.
 pub fn approximate(
@@ -48,6 +79,17 @@ pub fn approximate(
     let mut a = or_zero(next_of(frames, members, counts, ends, k, j, 0));
     loop {
         let choices = with_choice([Choice::Any; 16], j, a);
+        let nearer = limit_of(
+            frames,
+            members,
+            counts,
+            ends,
+            k,
+            choices,
+            blocked,
+            limit,
+            sums,
+        );
         let more = raised(
             frames,
             members,
@@ -57,9 +99,10 @@ pub fn approximate(
             choices,
             a,
             blocked,
-            limit,
+            nearer,
             most,
             true,
+            all_left(),
             hints,
             sums,
         );

@@ -7,10 +7,15 @@ use crate::levels::with_choice;
 use arith::Found;
 use bus_model::Choice;
 use bus_model::Frame;
+use response_time::ROOM;
+use response_time::Unserved;
+use response_time::all_left;
 use response_time::busy_window;
 use response_time::is_within;
 use response_time::or_zero;
 use response_time::raised;
+use response_time::sweep;
+use response_time::with_none;
 use workload::NODES;
 ghost use mathlib.Core.Path.{_≡_};
 ghost use mathlib.Core.Bool.{false};
@@ -25,7 +30,7 @@ ghost use Rattle.bus_model.specs.theory.Refine.{nodeAt, levels, refined, Level}
 ghost use Rattle.workload.specs.Stored.{stored};
 ghost use Rattle.workload.specs.Grouped.{Grouped, InTable, FineTable};
 ghost use Rattle.greatest_work.specs.Kept.{Kept};
-ghost use Rattle.response_time.specs.Load.{WindowWithin};
+ghost use Rattle.response_time.specs.Load.{WindowWithin, Left};
 
 // Whether no response exceeds `most` in any scenario with one of the alignments of a level's node.
 fn is_split_within(
@@ -40,6 +45,7 @@ fn is_split_within(
     limit: u32,
     level: usize,
     most: u32,
+    known: Unserved,
     hints: &[u32],
     sums: &mut [u64],
 ) -> bool
@@ -49,6 +55,7 @@ fn is_split_within(
     requires { ⌜ (choiceOf choices (k .node) ≡ Fixed own) × (blocked ≡ blocking (stored (now frames)) k) ⌝ }
     requires { ⌜ (1 ≤ level) × (level < 16) × (length choices ≡ 16) × (choiceOf choices (nodeAt k level) ≡ Any) ⌝ }
     requires { ⌜ (limit ≤ 1000000) × WindowWithin (stored (now frames)) k choices limit ⌝ }
+    requires { ⌜ Left (stored (now frames)) k choices own most (known .list) (known .count) (known .end) ⌝ }
     requires { ⌜ Kept (stored (now frames)) k (now sums) ⌝ }
     ensures { λ r. ⌜ (T r → (a : ℕ) → Mem a (orEmpty (alignments (stored (now (frames .entry))) k (nodeAt k level))) → scenarioResponse (stored (now (frames .entry))) k (set choices (nodeAt k level - 1) (Fixed a)) ≤ most) ⌝ }
     ensures kept { λ _. ⌜ Kept (stored (now (frames .entry))) k (now (sums .exit)) ⌝ }
@@ -69,6 +76,7 @@ fn is_split_within(
             limit,
             most,
             true,
+            known,
             hints,
             sums,
         );
@@ -83,9 +91,10 @@ fn is_split_within(
     }
 }
 
-// Whether no scenario from a level on has a response above `most`: the one with the open nodes at `Any` has none, or none of
-// those in which the node of the level `heavy` has one of its alignments besides. Where it is not asked, it does not look.
-fn is_ruled_out(
+// Which instances are left in the scenario with the open nodes at `Any`. None are where no scenario from a level on has a response above
+// `most`: that one has none, or none of those in which the node of the level `heavy` has one of its alignments besides. Where it is not
+// asked, it does not look.
+fn left_over(
     frames: &[u32],
     members: &[u8],
     counts: &[usize],
@@ -99,23 +108,26 @@ fn is_ruled_out(
     most: u32,
     heavy: usize,
     asked: bool,
+    known: Unserved,
     hints: &[u32],
     sums: &mut [u64],
-) -> bool
+) -> Unserved
     requires { ⌜ FineTable (stored (now frames)) ⌝ }
     requires { ⌜ Grouped (stored (now frames)) k (now members) (now counts) (now ends) ⌝ }
     requires { ⌜ InTable (stored (now frames)) k ⌝ }
     requires { ⌜ (choiceOf choices (k .node) ≡ Fixed own) × (blocked ≡ blocking (stored (now frames)) k) ⌝ }
     requires { ⌜ (1 ≤ level) × (level ≤ 16) × Level k level choices ⌝ }
     requires { ⌜ (limit ≤ 1000000) × WindowWithin (stored (now frames)) k choices limit ⌝ }
+    requires { ⌜ Left (stored (now frames)) k choices own most (known .list) (known .count) (known .end) ⌝ }
     requires { ⌜ Kept (stored (now frames)) k (now sums) ⌝ }
-    ensures { λ r. ⌜ (T r → refined (stored (now (frames .entry))) k (levels k level nodes) choices ≤ most) ⌝ }
+    ensures { λ r. ⌜ Left (stored (now (frames .entry))) k choices own most (r .list) (r .count) (r .end) ⌝ }
+    ensures none { λ r. ⌜ (T (r .none) → refined (stored (now (frames .entry))) k (levels k level nodes) choices ≤ most) ⌝ }
     ensures kept { λ _. ⌜ Kept (stored (now (frames .entry))) k (now (sums .exit)) ⌝ }
 {
     if !asked {
-        return false;
+        return with_none(known, false);
     }
-    if is_within(
+    let left = sweep(
         frames,
         members,
         counts,
@@ -127,18 +139,15 @@ fn is_ruled_out(
         limit,
         most,
         true,
+        known,
+        ROOM,
         hints,
         sums,
-    ) {
-        return true;
+    );
+    if left.none || heavy <= level || NODES <= heavy {
+        return left;
     }
-    if heavy <= level {
-        return false;
-    }
-    if NODES <= heavy {
-        return false;
-    }
-    is_split_within(
+    let split = is_split_within(
         frames,
         members,
         counts,
@@ -150,9 +159,11 @@ fn is_ruled_out(
         limit,
         heavy,
         most,
+        left,
         hints,
         sums,
-    )
+    );
+    with_none(left, split)
 }
 
 // The greatest of `best` and the responses where the nodes of the levels from `level` on take each of their
@@ -171,6 +182,7 @@ fn improve(
     level: usize,
     best: u32,
     heavy: usize,
+    known: Unserved,
     hints: &mut [u32],
     sums: &mut [u64],
 ) -> u32
@@ -180,6 +192,7 @@ fn improve(
     requires { ⌜ (choiceOf choices (k .node) ≡ Fixed own) × (blocked ≡ blocking (stored (now frames)) k) ⌝ }
     requires { ⌜ (1 ≤ level) × (level ≤ 16) × Level k level choices ⌝ }
     requires { ⌜ (limit ≤ 1000000) × WindowWithin (stored (now frames)) k choices limit ⌝ }
+    requires { ⌜ Left (stored (now frames)) k choices own best (known .list) (known .count) (known .end) ⌝ }
     requires { ⌜ Kept (stored (now frames)) k (now sums) ⌝ }
     ensures { λ r. ⌜ r ≡ max best (refined (stored (now (frames .entry))) k (levels k level nodes) choices) ⌝ }
     ensures kept { λ _. ⌜ Kept (stored (now (frames .entry))) k (now (sums .exit)) ⌝ }
@@ -197,6 +210,7 @@ fn improve(
             Found::At(limit),
             best,
             false,
+            known,
             hints,
             sums,
         ));
@@ -205,8 +219,9 @@ fn improve(
     let mut most = best;
     let mut a = or_zero(next_of(frames, members, counts, ends, k, j, 0));
     let mut asked = has_later(frames, members, counts, ends, k, j, a);
+    let mut left = known;
     loop {
-        if is_ruled_out(
+        left = left_over(
             frames,
             members,
             counts,
@@ -220,9 +235,11 @@ fn improve(
             most,
             heavy,
             asked,
+            left,
             hints,
             sums,
-        ) {
+        );
+        if left.none {
             return most;
         }
         let finer = with_choice(choices, j, a);
@@ -239,6 +256,7 @@ fn improve(
             level + 1,
             most,
             heavy,
+            left,
             hints,
             sums,
         );
@@ -291,6 +309,7 @@ pub fn precise(
             1,
             most,
             heavy,
+            all_left(),
             hints,
             sums,
         );

@@ -1,14 +1,15 @@
 -- The load that a busy window must hold, and that a start must allow for, as one search has them.
 use Prim.Native.Nat.{ℕ, suc, _+_, _-_, _*_, _≤_, _<_, min}
 use mathlib.Core.Path.{_≡_}
-use mathlib.Core.List.{List}
+use mathlib.Core.List.{List, List·Memᴰ as Mem}
 use mathlib.Core.Bool.{Bool, true, false, cond}
 use lib.Dec.{T, leb, ltb}
+use lib.ListN.{length, take}
 use Rattle.arith.specs.declared.Found.{Found}
 use Rattle.arith.specs.declared.Found.the-variants.{At, Nothing}
 use Rattle.bus_model.specs.declared.Frame.{Frame}
 use Rattle.bus_model.specs.declared.Choice.{Choice}
-use Rattle.bus_model.specs.Bounds.{ahead, better, work, busyWindow}
+use Rattle.bus_model.specs.Bounds.{ahead, better, blocking, distance, work, busyWindow}
 use Rattle.workload.specs.Laid.{laidWork}
 
 -- base and the work up to x: of a start that of the better frames, with those released at x itself
@@ -46,3 +47,26 @@ pub record WindowWithin (fs : List Frame) (k : Frame) (cs : List Choice) (limit 
   pub window : ℕ
   pub is : busyWindow fs k cs ≡ At window
   pub within : window ≤ limit
+
+-- ---- instances in time
+
+-- instance q may start where it has a response of `most` at the most
+pub record InTime (fs : List Frame) (k : Frame) (cs : List Choice) (own most q : ℕ) : Type 0 where
+  pub start : ℕ
+  pub inside : start < 1000000
+  pub fits : start + k .length ≤ most + (distance k own + q * k .period)
+  pub holds : T (holds fs k cs true (blocking fs k + q * k .length) start)
+
+-- each instance before `end` may, but for those that are left
+abbrev pub InTimeBut : List Frame → Frame → List Choice → ℕ → ℕ → List ℕ → ℕ → Type 0
+InTimeBut fs k cs own most left end = (i : ℕ) → i < end → (Mem i left → ⊥) → InTime fs k cs own most i
+
+-- of a list the first `count` are left, and all from `end` on
+pub record Left (fs : List Frame) (k : Frame) (cs : List Choice) (own most : ℕ) (list : List ℕ) (count end : ℕ) : Type 0 where
+  pub size : length list ≡ 64
+  pub few : count ≤ 64
+  pub served : InTimeBut fs k cs own most (take count list) end
+
+-- what a list had among its first n it has among the first n′ of what it became
+abbrev pub NotedMore : List ℕ → ℕ → List ℕ → ℕ → Type 0
+NotedMore list n list′ n′ = (i : ℕ) → Mem i (take n list) → Mem i (take n′ list′)

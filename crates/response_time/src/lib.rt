@@ -2,10 +2,16 @@
 mod hints;
 mod response;
 mod search;
+mod unserved;
 mod within;
 
 pub use hints::HINTS;
 pub use response::busy_window;
 pub use response::or_zero;
 pub use response::raised;
-pub use within::is_within;
+pub use unserved::ROOM;
+pub use unserved::Unserved;
+pub use unserved::all_left;
+pub use unserved::is_within;
+pub use unserved::sweep;
+pub use unserved::with_none;

@@ -3,7 +3,8 @@ use crate::hints::place_of;
 use crate::hints::remember;
 use crate::search::WINDOW_LIMIT;
 use crate::search::settle;
-use crate::within::is_within;
+use crate::unserved::Unserved;
+use crate::unserved::is_within;
 use arith::Found;
 use bus_model::Choice;
 use bus_model::Frame;
@@ -21,7 +22,7 @@ ghost use Rattle.bus_model.specs.theory.Approximate.{both, scenarioFound};
 ghost use Rattle.workload.specs.Stored.{stored};
 ghost use Rattle.workload.specs.Grouped.{Grouped, InTable, FineTable};
 ghost use Rattle.greatest_work.specs.Kept.{Kept};
-ghost use Rattle.response_time.specs.Load.{WindowWithin};
+ghost use Rattle.response_time.specs.Load.{WindowWithin, Left};
 
 pub fn bigger(a: u32, b: u32) -> u32
     ensures { λ r. ⌜ r ≡ max a b ⌝ }
@@ -191,6 +192,7 @@ fn is_limited(
     limit: Found,
     most: u32,
     open: bool,
+    known: Unserved,
     hints: &[u32],
     sums: &mut [u64],
 ) -> bool
@@ -199,6 +201,7 @@ fn is_limited(
     requires { ⌜ InTable (stored (now frames)) k ⌝ }
     requires { ⌜ (choiceOf choices (k .node) ≡ Fixed own) × (blocked ≡ blocking (stored (now frames)) k) ⌝ }
     requires { ⌜ ((l : ℕ) → limit ≡ At l → (l ≤ 1000000) × WindowWithin (stored (now frames)) k choices l) ⌝ }
+    requires { ⌜ Left (stored (now frames)) k choices own most (known .list) (known .count) (known .end) ⌝ }
     requires { ⌜ Kept (stored (now frames)) k (now sums) ⌝ }
     ensures { λ r. ⌜ (T r → At most ≡ both (At most) (scenarioFound (stored (now (frames .entry))) k choices)) ⌝ }
     ensures kept { λ _. ⌜ Kept (stored (now (frames .entry))) k (now (sums .exit)) ⌝ }
@@ -216,6 +219,7 @@ fn is_limited(
             l,
             most,
             open,
+            known,
             hints,
             sums,
         ),
@@ -224,7 +228,7 @@ fn is_limited(
 }
 
 // The greater of `most` and the scenario's response, where it has a busy window; `limit`, if there is one, is not below that.
-// `open` tells that some node stands at `Any`.
+// `open` tells that some node stands at `Any`, and `known` which instances are left.
 pub fn raised(
     frames: &[u32],
     members: &[u8],
@@ -237,6 +241,7 @@ pub fn raised(
     limit: Found,
     most: u32,
     open: bool,
+    known: Unserved,
     hints: &mut [u32],
     sums: &mut [u64],
 ) -> Found
@@ -245,6 +250,7 @@ pub fn raised(
     requires { ⌜ InTable (stored (now frames)) k ⌝ }
     requires { ⌜ (choiceOf choices (k .node) ≡ Fixed own) × (blocked ≡ blocking (stored (now frames)) k) ⌝ }
     requires { ⌜ ((l : ℕ) → limit ≡ At l → (l ≤ 1000000) × WindowWithin (stored (now frames)) k choices l) ⌝ }
+    requires { ⌜ Left (stored (now frames)) k choices own most (known .list) (known .count) (known .end) ⌝ }
     requires { ⌜ Kept (stored (now frames)) k (now sums) ⌝ }
     ensures { λ r. ⌜ r ≡ both (At most) (scenarioFound (stored (now (frames .entry))) k choices) ⌝ }
     ensures kept { λ _. ⌜ Kept (stored (now (frames .entry))) k (now (sums .exit)) ⌝ }
@@ -261,6 +267,7 @@ pub fn raised(
         limit,
         most,
         open,
+        known,
         hints,
         sums,
     ) {

@@ -1,32 +1,24 @@
-// Whether no response of a scenario exceeds a number, by starts that are looked at once and, where none of these serves, searched for.
+// Starts that serve an instance: some are looked at once and, where none of these serves, one is searched for.
 use crate::hints::KEPT;
 use crate::hints::place_of;
 use crate::hints::recall;
 use crate::search::WINDOW_LIMIT;
-use crate::search::is_held;
 use crate::search::load;
 use crate::search::settle;
 use arith::Found;
 use bus_model::Choice;
 use bus_model::Frame;
-use workload::FRAME;
-use workload::FRAMES;
-use workload::distance_from;
 use workload::laid_work;
-use workload::lay_out;
-use workload::releases_before;
 ghost use mathlib.Core.Path.{_≡_};
 ghost use mathlib.Core.Bool.{true};
 ghost use Prim.Native.Nat.{ℕ, _+_, _*_, _≤_, _<_};
-ghost use lib.Dec.{T};
-ghost use Rattle.arith.specs.declared.Found.the-variants.{At};
 ghost use Rattle.bus_model.specs.declared.Choice.the-variants.{Fixed};
-ghost use Rattle.bus_model.specs.Bounds.{choiceOf, blocking, busyWindow, scenarioResponse};
+ghost use Rattle.bus_model.specs.Bounds.{distance, choiceOf, blocking};
 ghost use Rattle.workload.specs.Stored.{stored};
 ghost use Rattle.workload.specs.Grouped.{FineTable, Grouped, InTable};
 ghost use Rattle.workload.specs.Laid.{laidOut, FineFrames};
 ghost use Rattle.greatest_work.specs.Kept.{Kept};
-ghost use Rattle.response_time.specs.Load.{latestStart, WindowWithin, Serves, ServesLaid};
+ghost use Rattle.response_time.specs.Load.{latestStart, Serves, ServesLaid, InTime};
 
 // So many steps does a climb take that is only to save visits.
 const STEPS: usize = 16;
@@ -394,63 +386,23 @@ fn served_by(
     )
 }
 
-// A length that the scenario's window does not exceed, where `limit` is one: the last window, if it would do here and has fewer
-// releases.
-fn window_limit(
-    frames: &[u32],
-    members: &[u8],
-    counts: &[usize],
-    ends: &[u32],
-    k: Frame,
-    choices: [Choice; 16],
-    blocked: u32,
-    d: u32,
-    limit: u32,
-    hints: &[u32],
-    sums: &mut [u64],
-) -> u32
-    requires { ⌜ FineTable (stored (now frames)) ⌝ }
-    requires { ⌜ Grouped (stored (now frames)) k (now members) (now counts) (now ends) ⌝ }
-    requires { ⌜ InTable (stored (now frames)) k ⌝ }
-    requires { ⌜ (blocked ≡ blocking (stored (now frames)) k) × (limit ≤ 1000000) ⌝ }
-    requires { ⌜ Kept (stored (now frames)) k (now sums) ⌝ }
-    ensures { λ r. ⌜ ((l : ℕ) → busyWindow (stored (now (frames .entry))) k choices ≡ At l → l ≤ limit → l ≤ r) ⌝ }
-    ensures small { λ r. ⌜ r ≤ limit ⌝ }
-    ensures kept { λ _. ⌜ Kept (stored (now (frames .entry))) k (now (sums .exit)) ⌝ }
-{
-    let last = recall(hints, 0, 0);
-    if last == 0 || limit <= last {
-        return limit;
-    }
-    if releases_before(d, k.period, limit, 0) <= releases_before(d, k.period, last, 0) {
-        return limit;
-    }
-    if is_held(
-        frames,
-        members,
-        counts,
-        ends,
-        k,
-        choices,
-        0,
-        false,
-        blocked as u64,
-        last,
-        sums,
-    ) {
-        last
-    } else {
-        limit
-    }
-}
-
 // Where to climb from for the next instance: from the last start that is not just the latest.
-fn next_from(from: u32, start: u32, latest: u32) -> u32 {
-    if start < latest { start } else { from }
+fn next_from(from: u32, served: Served, latest: u32) -> u32 {
+    if 0 < served.count && served.start < latest {
+        served.start
+    } else {
+        from
+    }
 }
 
-// Whether no response of the scenario exceeds `most`, as far as the starts tell that are found. If one does, they never do.
-pub fn is_within(
+// How many instances pass, and where to climb from for the next.
+pub struct Passed {
+    pub count: u32,
+    pub from: u32,
+}
+
+// How many instances from q on are served by a start that leaves them a response of `most` at the most.
+pub fn served_instance(
     frames: &[u32],
     members: &[u8],
     counts: &[usize],
@@ -459,72 +411,50 @@ pub fn is_within(
     choices: [Choice; 16],
     own: u32,
     blocked: u32,
-    limit: u32,
+    d: u32,
+    q: u32,
     most: u32,
+    from: u32,
     open: bool,
+    laid: &[u32],
     hints: &[u32],
     sums: &mut [u64],
-) -> bool
+) -> Passed
     requires { ⌜ FineTable (stored (now frames)) ⌝ }
     requires { ⌜ Grouped (stored (now frames)) k (now members) (now counts) (now ends) ⌝ }
     requires { ⌜ InTable (stored (now frames)) k ⌝ }
-    requires { ⌜ (choiceOf choices (k .node) ≡ Fixed own) × (blocked ≡ blocking (stored (now frames)) k) ⌝ }
-    requires { ⌜ (limit ≤ 1000000) × WindowWithin (stored (now frames)) k choices limit ⌝ }
+    requires { ⌜ (choiceOf choices (k .node) ≡ Fixed own) × (blocked ≡ blocking (stored (now frames)) k) × (d ≡ distance k own) ⌝ }
+    requires { ⌜ (blocked + q * k .length ≤ 1000000000) × (d + q * k .period < 1000000) ⌝ }
+    requires { ⌜ stored (now laid) ≡ laidOut (stored (now frames)) k true choices ⌝ }
     requires { ⌜ Kept (stored (now frames)) k (now sums) ⌝ }
-    ensures { λ r. ⌜ (T r → scenarioResponse (stored (now (frames .entry))) k choices ≤ most) ⌝ }
+    ensures { λ r. ⌜ ((i : ℕ) → i < r .count → InTime (stored (now (frames .entry))) k choices own most (q + i)) ⌝ }
+    ensures small { λ r. ⌜ r .count ≤ 1000001 ⌝ }
     ensures kept { λ _. ⌜ Kept (stored (now (frames .entry))) k (now (sums .exit)) ⌝ }
 {
-    let d = distance_from(k, own, 0);
-    if limit <= d {
-        return true;
-    }
-    let l = window_limit(
+    let base = blocked as u64 + q as u64 * k.length as u64;
+    let found = latest_start(most, k.length, d + q * k.period);
+    let Found::At(latest) = found else {
+        return Passed { count: 0, from };
+    };
+    let served = served_by(
         frames,
         members,
         counts,
         ends,
         k,
         choices,
-        blocked,
-        d,
-        limit,
+        own,
+        base,
+        from,
+        latest,
+        open,
+        laid,
         hints,
+        place_of(q),
         sums,
     );
-    let releases = releases_before(d, k.period, l, 0);
-    let mut area = [0u32; FRAMES];
-    let to = FRAME * lay_out(frames, k, true, choices, &mut area);
-    let mut from: u32 = 0;
-    let mut q: u32 = 0;
-    while q < releases {
-        let base = blocked as u64 + q as u64 * k.length as u64;
-        let found = latest_start(most, k.length, d + q * k.period);
-        let Found::At(latest) = found else {
-            return false;
-        };
-        let at = place_of(q);
-        let served = served_by(
-            frames,
-            members,
-            counts,
-            ends,
-            k,
-            choices,
-            own,
-            base,
-            from,
-            latest,
-            open,
-            &area[0..to],
-            hints,
-            at,
-            sums,
-        );
-        if served.count == 0 {
-            return false;
-        }
-        from = next_from(from, served.start, latest);
-        q += served.count;
+    Passed {
+        count: served.count,
+        from: next_from(from, served, latest),
     }
-    true
 }

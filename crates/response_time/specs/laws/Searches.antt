@@ -108,7 +108,7 @@ module _ {fs : List Frame} (table : FineTable fs) (k : Frame) (cs : List Choice)
 
 module _ {fs : List Frame} (valid : Valid fs) (k : Frame) (cs cs′ : List Choice) (finer : RefinedBy fs k cs cs′) where
   -- That has no greater load.
-  load-finer : (delay : Bool) (base x : ℕ) → loadOf fs k cs′ delay base x ≤ loadOf fs k cs delay base x
+  pub load-finer : (delay : Bool) (base x : ℕ) → loadOf fs k cs′ delay base x ≤ loadOf fs k cs delay base x
   unfolding loadOf
   load-finer true base x = omega (arith, work-refine valid k (better-ahead fs k) cs cs′ finer (suc x))
   load-finer false base x = omega (arith, work-refine valid k (λ g m. m) cs cs′ finer x)

@@ -5,8 +5,8 @@ use borrow.Author.Tests.{leb-false}
 use Rattle.workload.specs.laws.Fine.{in-table-fine}
 use Rattle.workload.specs.laws.Groups.{blocking-small}
 use Rattle.response_time.specs.laws.Searches.{window-held}
-use Rattle.response_time.proofs.within.window_limit.Statement.{statement}
-use Rattle.response_time.proofs.within.window_limit.Tie as tie
+use Rattle.response_time.proofs.unserved.window_limit.Statement.{statement}
+use Rattle.response_time.proofs.unserved.window_limit.Tie as tie
 
 recall-requires : tie.Need-recall-requires
 recall-requires c κs = search needs
