@@ -33,7 +33,8 @@ use Rattle.bus_model.specs.theory.Refine.{refined, free, set-same, nodeAt, leve
 use Rattle.bus_model.specs.theory.Approximate.{both, greatestFound, scenarioFound, approximateFound, found-at, found-counts}
 use Rattle.bus_model.specs.theory.Turns.{turn, firstTurn, refined-turn, split-turn, approximate-turn, visit-first, found-listed, first-listed}
 use Rattle.workload.specs.Grouped.{FineTable, framesIn, instantsIn, Grouped, InTable}
-use Rattle.response_time.specs.Load.{WindowWithin}
+use Rattle.response_time.specs.Load.{WindowWithin, Left}
+use Rattle.response_time.specs.laws.Within.{left-finer}
 use Rattle.workload.specs.laws.Groups.{lent, lent-frames}
 
 -- ---- the number of scenarios
@@ -219,6 +220,11 @@ module _ {fs : List Frame} (accepted : FineTable fs) {k : Frame} (table : InTabl
       → {j : ℕ} → j ≡ nodeAt k i → {a : ℕ} → Mem a (orEmpty (alignments fs k j)) → {cs′ : List Choice} → cs′ ≡ set cs (j - 1) (Fixed a)
       → (choiceOf cs′ (k .node) ≡ Fixed own) × WindowWithin fs k cs′ limit
   split-next = rw (table .is) (row-split (accepted .valid) (table .inside))
+
+  -- Nor are more instances left there.
+  pub left-next : {i : ℕ} {cs : List Choice} → i < nodes → length cs ≡ nodes → choiceOf cs (nodeAt k i) ≡ Any → {j : ℕ} → j ≡ nodeAt k i → {a : ℕ} → Mem a (orEmpty (alignments fs k j))
+      → {cs′ : List Choice} → cs′ ≡ set cs (j - 1) (Fixed a) → {own most count end : ℕ} {list : List ℕ} → Left fs k cs own most list count end → Left fs k cs′ own most list count end
+  left-next {i} {cs} less long any at m e left = rw (e, at) (left-finer (accepted .valid) (refines-node fs k cs (level-node k valid-self i less) long any (rw at at m)) left)
 
   -- It goes on with an alignment of the level's node.
   pub reached-next : {i own limit : ℕ} {cs : List Choice} → Reached fs k i own limit cs → i < nodes → {j : ℕ} → j ≡ nodeAt k i

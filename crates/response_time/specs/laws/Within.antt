@@ -28,7 +28,7 @@ use Rattle.bus_model.specs.theory.Approximate.{both, scenarioFound, found-at}
 use Rattle.workload.specs.Grouped.{FineTable, InTable}
 use Rattle.workload.specs.Laid.{laidOut}
 use Rattle.workload.specs.laws.Laid.{better-above}
-use Rattle.response_time.specs.Load.{loadOf, holds, latestStart, WindowWithin, Serves, ServesLaid, InTime, InTimeBut, NotedMore}
+use Rattle.response_time.specs.Load.{loadOf, holds, latestStart, WindowWithin, Serves, ServesLaid, InTime, InTimeBut, Left, NotedMore}
 use Rattle.response_time.specs.laws.Searches.{load-finer}
 use Rattle.workload.specs.laws.Fine.{in-table-fine}
 use Rattle.workload.specs.laws.Groups.{blocking-small}
@@ -123,11 +123,11 @@ noted list n q less = rw (add-one, take-suc-set list n q less) (λ i m. mem-befo
 
 module _ {fs : List Frame} {k : Frame} {cs : List Choice} {own most : ℕ} where
   -- An instance that may start in time still may where more is allowed,
-  pub in-time-more : {q most′ : ℕ} → most ≤ most′ → InTime fs k cs own most q → InTime fs k cs own most′ q
+  in-time-more : {q most′ : ℕ} → most ≤ most′ → InTime fs k cs own most q → InTime fs k cs own most′ q
   in-time-more le t = record { start = t .start; inside = t .inside; fits = omega (arith, t .fits); holds = t .holds }
 
   -- and where more nodes are fixed.
-  pub in-time-finer : Valid fs → {cs′ : List Choice} → RefinedBy fs k cs cs′ → {q : ℕ} → InTime fs k cs own most q → InTime fs k cs′ own most q
+  in-time-finer : Valid fs → {cs′ : List Choice} → RefinedBy fs k cs cs′ → {q : ℕ} → InTime fs k cs own most q → InTime fs k cs′ own most q
   unfolding holds
   in-time-finer valid {cs′} finer {q} t =
       let base = blocking fs k + q * k .length in
@@ -154,6 +154,19 @@ module _ {fs : List Frame} {k : Frame} {cs : List Choice} {own most : ℕ} where
             | no later ↦ let (inside, not) = passed i (omega arith) less in known i inside not
           ]
       ]
+
+module _ {fs : List Frame} {k : Frame} {cs : List Choice} {own most : ℕ} {list : List ℕ} {count end : ℕ} where
+  -- At first all are left.
+  pub left-all : (length list ≡ 64) × (count ≤ 64) × (end ≡ 0) → Left fs k cs own most list count end
+  left-all (size, few, none) = record { size = size; few = few; served = λ i less out. absurd (omega arith) }
+
+  -- What is left is so where more is allowed,
+  pub left-more : {most′ : ℕ} → most ≤ most′ → Left fs k cs own most list count end → Left fs k cs own most′ list count end
+  left-more le left = record { size = left .size; few = left .few; served = λ i less out. in-time-more le (left .served i less out) }
+
+  -- and where more nodes are fixed.
+  pub left-finer : Valid fs → {cs′ : List Choice} → RefinedBy fs k cs cs′ → Left fs k cs own most list count end → Left fs k cs′ own most list count end
+  left-finer valid finer left = record { size = left .size; few = left .few; served = λ i less out. in-time-finer valid finer (left .served i less out) }
 
 -- Where no response of a scenario with a window exceeds `most`, that stays the greatest.
 pub most-stays : (fs : List Frame) (k : Frame) (cs : List Choice) {limit most : ℕ} → WindowWithin fs k cs limit → scenarioResponse fs k cs ≤ most → At most ≡ both (At most) (scenarioFound fs k cs)

@@ -12,10 +12,11 @@ use Rattle.bus_model.specs.Bounds.{nodes, alignments, orEmpty}
 use Rattle.bus_model.specs.theory.Refine.{free, set-same}
 use Rattle.bus_model.specs.theory.Visits.{isAlignment}
 use Rattle.bus_model.specs.theory.Approximate.{both, greatestFound, approximateFound, found-more, both-missing, both-zero}
+use Rattle.bus_model.specs.theory.Turns.{turn, turn-le, visit-first, first-listed, found-listed}
 use Rattle.workload.specs.Stored.{stored}
 use Rattle.greatest_work.specs.Kept.{Kept}
 use Rattle.response_time.specs.laws.Searches.{window-small}
-use Rattle.bus_model.specs.theory.Turns.{turn, turn-le, visit-first, first-listed, found-listed}
+use Rattle.response_time.specs.laws.Within.{left-all}
 use Rattle.bounds.specs.laws.Levels.{own-node, ownFound, found-end, free-within, own-found}
 use Rattle.bounds.proofs.approximate_bound.approximate.Statement.{statement}
 use Rattle.bounds.proofs.approximate_bound.approximate.Tie as tie
@@ -38,7 +39,9 @@ cast-j : tie.Need-cast-j Inv-loop μ-loop
 cast-j c = search needs
 
 busy-window-requires : tie.Need-busy-window-requires Inv-loop μ-loop
-busy-window-requires c κs = let p = c .before .before .before .before .before .before .before .before .pre in (p .0, (p .1 .0, (p .1 .1 .0, p .1 .1 .1)))
+busy-window-requires c κs =
+    let p = c .before .before .before .before .before .before .before .before .pre in
+    (p .0, (p .1 .0, (p .1 .1 .0, p .1 .1 .1)))
 
 next-of-requires : tie.Need-next-of-requires Inv-loop μ-loop
 next-of-requires c κs =
@@ -64,14 +67,25 @@ loop-holds c =
 with-choice-requires : tie.Need-with-choice-requires Inv-loop μ-loop
 with-choice-requires c κs = node (c .before .before .before .before .before .before .before .before .before .before .before .before .before .before)
 
+limit-of-requires : tie.Need-limit-of-requires Inv-loop μ-loop
+limit-of-requires c κs =
+    let s = c .before .before .before .before .before .before .before .before .before .before .before .before .before .before .before .before in
+    let l = c .before .before .loop in
+    let w = c .before .with-choice .ensures in
+    let limit = c .before .before .before .before .before .before .before .busy-window .ensures .0 in
+    (s .pre .0, (s .pre .1 .0, (s .pre .1 .1 .0, (s .pre .1 .1 .1 .0, (λ m e. (window-small _ _ _ (sym limit ∙ e), free-within (s .pre .0) (s .pre .1 .1 .0) (l .inv .1) (sym limit ∙ e) w), l .inv .3)))))
+
+all-left-requires : tie.Need-all-left-requires Inv-loop μ-loop
+all-left-requires c κs = search needs
+
 raised-requires : tie.Need-raised-requires Inv-loop μ-loop
 raised-requires c κs =
-    let s = c .before .before .before .before .before .before .before .before .before .before .before .before .before .before .before .before .before in
+    let s = c .before .before .before .before .before .before .before .before .before .before .before .before .before .before .before .before .before .before .before .before .before .before in
     let n = node s in
-    let l = c .before .before .before .loop in
-    let w = c .before .before .with-choice .ensures in
-    let limit = c .before .before .before .before .before .before .before .before .busy-window .ensures .0 in
-    (s .pre .0, (s .pre .1 .0, (s .pre .1 .1 .0, ((rw w (set-same free (mem-range 1 nodes (s .args .k .node) (n .0) (omega (arith, n .1))) (l .a) refl), s .pre .1 .1 .1 .0), (λ m e. (window-small _ _ _ (sym limit ∙ e), free-within (s .pre .0) (s .pre .1 .1 .0) (l .inv .1) (sym limit ∙ e) w), l .inv .3)))))
+    let l = c .before .before .before .before .before .before .before .before .loop in
+    let w = c .before .before .before .before .before .before .before .with-choice .ensures in
+    let limit = c .before .before .before .before .before .limit-of .ensures in
+    (s .pre .0, (s .pre .1 .0, (s .pre .1 .1 .0, ((rw w (set-same free (mem-range 1 nodes (s .args .k .node) (n .0) (omega (arith, n .1))) (l .a) refl), s .pre .1 .1 .1 .0), (limit .0, (left-all (c .before .before .all-left .ensures), limit .1))))))
 
 enum-known-more : tie.Need-enum-known-more Inv-loop μ-loop
 enum-known-more c = search needs
@@ -80,30 +94,28 @@ enum-told : tie.Need-enum-told Inv-loop μ-loop
 enum-told c = search needs
 
 same-length : tie.Need-same-length Inv-loop μ-loop
-same-length c =
-    c .before .before .before .before .before .before .raised .kept .1 .1 .1 .1 .1 .1 .1 .1 .1 .1 .1 .0 ∙ c .before .before .before .before .before .before .before .before .before .before .loop .inv .2
+same-length c = c .before .before .before .before .before .before .raised .kept .1 .1 .1 .1 .1 .1 .1 .1 .1 .1 .1 .1 .0 ∙ c .before .before .before .before .before .before .before .before .before .before .before .before .before .before .before .loop .inv .2
 
 same-length-2 : tie.Need-same-length-2 Inv-loop μ-loop
-same-length-2 c =
-    c .before .before .before .before .before .before .raised .ensures .1 .size ∙ sym (c .before .before .before .before .before .before .before .before .before .before .before .before .before .before .before .before .before .before .before .before .before .before .before .before .pre .1 .1 .1 .1 .size)
+same-length-2 c = c .before .before .before .before .before .before .raised .ensures .1 .size ∙ sym (c .before .before .before .before .before .before .before .before .before .before .before .before .before .before .before .before .before .before .before .before .before .before .before .before .before .before .before .before .before .pre .1 .1 .1 .1 .size)
 
 returns : tie.Need-returns Inv-loop μ-loop
 returns c =
-    let l = c .before .before .before .before .before .before .before .before .before .before .loop in
-    let more = rw (c .before .before .before .before .before .before .before .before .before .with-choice .ensures) at (c .before .before .before .before .before .before .raised .ensures .0) in
+    let l = c .before .before .before .before .before .before .before .before .before .before .before .before .before .before .before .loop in
+    let more = rw (c .before .before .before .before .before .before .before .before .before .before .before .before .before .before .with-choice .ensures) at (c .before .before .before .before .before .before .raised .ensures .0) in
     (sym (found-more _ (l .most) (l .a) (sym (c .enum-told .given .1) ∙ more) _ ∙ both-missing _) ∙ l .inv .0 .is, c .before .before .before .before .before .before .raised .ensures .1)
 
 add-next-of : tie.Need-add-next-of Inv-loop μ-loop
 add-next-of c =
-    let s = c .before .before .before .before .before .before .before .before .before .before .before .before .before .before .before .before .before .before .before .before .before .before .before .before .before in
+    let s = c .before .before .before .before .before .before .before .before .before .before .before .before .before .before .before .before .before .before .before .before .before .before .before .before .before .before .before .before .before .before in
     let n = node s in
-    omega (arith, c .before .before .before .before .before .before .before .before .before .before .before .loop .inv .0 .inside, s .pre .0 .hyper _ (n .0) (n .1), turn-le (s .pre .0 .valid) (s .args .k) (s .args .k .node))
+    omega (arith, c .before .before .before .before .before .before .before .before .before .before .before .before .before .before .before .before .loop .inv .0 .inside, s .pre .0 .hyper _ (n .0) (n .1), turn-le (s .pre .0 .valid) (s .args .k) (s .args .k .node))
 
 next-of-requires-2 : tie.Need-next-of-requires-2 Inv-loop μ-loop
 next-of-requires-2 c κs =
-    let s = c .before .before .before .before .before .before .before .before .before .before .before .before .before .before .before .before .before .before .before .before .before .before .before .before .before in
+    let s = c .before .before .before .before .before .before .before .before .before .before .before .before .before .before .before .before .before .before .before .before .before .before .before .before .before .before .before .before .before .before in
     let n = node s in
-    (s .pre .0, (s .pre .1 .0, (n .0, n .1, omega (arith, c .before .before .before .before .before .before .before .before .before .before .before .loop .inv .0 .inside))))
+    (s .pre .0, (s .pre .1 .0, (n .0, n .1, omega (arith, c .before .before .before .before .before .before .before .before .before .before .before .before .before .before .before .before .loop .inv .0 .inside))))
 
 enum-known-found : tie.Need-enum-known-found Inv-loop μ-loop
 enum-known-found c = search needs
@@ -112,35 +124,32 @@ enum-told-2 : tie.Need-enum-told-2 Inv-loop μ-loop
 enum-told-2 c = search needs
 
 same-length-3 : tie.Need-same-length-3 Inv-loop μ-loop
-same-length-3 c =
-    c .before .before .before .before .before .before .before .before .before .before .raised .kept .1 .1 .1 .1 .1 .1 .1 .1 .1 .1 .1 .0 ∙ c .before .before .before .before .before .before .before .before .before .before .before .before .before .before .loop .inv .2
+same-length-3 c = c .before .before .before .before .before .before .before .before .before .before .raised .kept .1 .1 .1 .1 .1 .1 .1 .1 .1 .1 .1 .1 .0 ∙ c .before .before .before .before .before .before .before .before .before .before .before .before .before .before .before .before .before .before .before .loop .inv .2
 
 same-length-4 : tie.Need-same-length-4 Inv-loop μ-loop
-same-length-4 c =
-    c .before .before .before .before .before .before .before .before .before .before .raised .ensures .1 .size ∙ sym (c .before .before .before .before .before .before .before .before .before .before .before .before .before .before .before .before .before .before .before .before .before .before .before .before .before .before .before .before .pre .1 .1 .1 .1 .size)
+same-length-4 c = c .before .before .before .before .before .before .before .before .before .before .raised .ensures .1 .size ∙ sym (c .before .before .before .before .before .before .before .before .before .before .before .before .before .before .before .before .before .before .before .before .before .before .before .before .before .before .before .before .before .before .before .before .before .pre .1 .1 .1 .1 .size)
 
 returns-2 : tie.Need-returns-2 Inv-loop μ-loop
 returns-2 c =
-    let l = c .before .before .before .before .before .before .before .before .before .before .before .before .before .before .loop in
-    let more = rw (c .before .before .before .before .before .before .before .before .before .before .before .before .before .with-choice .ensures) at (c .before .before .before .before .before .before .before .before .before .before .raised .ensures .0) in (
+    let l = c .before .before .before .before .before .before .before .before .before .before .before .before .before .before .before .before .before .before .before .loop in
+    let more = rw (c .before .before .before .before .before .before .before .before .before .before .before .before .before .before .before .before .before .before .with-choice .ensures) at (c .before .before .before .before .before .before .before .before .before .before .raised .ensures .0) in (
       found-end _ _
           ∙ walk-end _ _ _ _ _ (l .inv .0) (found-more _ (l .most) (l .a) (sym (c .before .before .before .before .more .given .1) ∙ more)) (sym (c .before .before .next-of2 .ensures) ∙ c .enum-told2 .given .1),
       c .before .before .before .before .before .before .before .before .before .before .raised .ensures .1,
     )
 
 loop-less : tie.Need-loop-less Inv-loop μ-loop
-loop-less c =
-    walk-less _ _ _ _ _ (c .before .before .before .before .before .before .before .before .before .before .before .before .before .before .before .loop .inv .0) (sym (c .before .before .before .next-of2 .ensures) ∙ c .before .found .given .1)
+loop-less c = walk-less _ _ _ _ _ (c .before .before .before .before .before .before .before .before .before .before .before .before .before .before .before .before .before .before .before .before .loop .inv .0) (sym (c .before .before .before .next-of2 .ensures) ∙ c .before .found .given .1)
 
 loop-again : tie.Need-loop-again Inv-loop μ-loop
 loop-again c =
-    let s = c .before .before .before .before .before .before .before .before .before .before .before .before .before .before .before .before .before .before .before .before .before .before .before .before .before .before .before .before .before in
-    let l = c .before .before .before .before .before .before .before .before .before .before .before .before .before .before .before .loop in
-    let more = rw (c .before .before .before .before .before .before .before .before .before .before .before .before .before .before .with-choice .ensures) at (c .before .before .before .before .before .before .before .before .before .before .before .raised .ensures .0) in
+    let s = c .before .before .before .before .before .before .before .before .before .before .before .before .before .before .before .before .before .before .before .before .before .before .before .before .before .before .before .before .before .before .before .before .before .before in
+    let l = c .before .before .before .before .before .before .before .before .before .before .before .before .before .before .before .before .before .before .before .before .loop in
+    let more = rw (c .before .before .before .before .before .before .before .before .before .before .before .before .before .before .before .before .before .before .before .with-choice .ensures) at (c .before .before .before .before .before .before .before .before .before .before .before .raised .ensures .0) in
     let next = sym (c .before .before .before .next-of2 .ensures) ∙ c .before .found .given .1 in (
       walk-more _ _ _ _ _ (l .inv .0) (found-more _ (l .most) (l .a) (sym (c .before .before .before .before .before .more .given .1) ∙ more)) next,
       found-listed (s .pre .0 .valid) _ _ _ next,
-      c .before .before .before .before .before .before .before .before .before .before .before .raised .kept .1 .1 .1 .1 .1 .1 .1 .1 .1 .1 .1 .0 ∙ l .inv .2,
+      c .before .before .before .before .before .before .before .before .before .before .before .raised .kept .1 .1 .1 .1 .1 .1 .1 .1 .1 .1 .1 .1 .0 ∙ l .inv .2,
       c .before .before .before .before .before .before .before .before .before .before .before .raised .ensures .1,
     )
 
@@ -156,6 +165,8 @@ approximate-spec =
     or-zero-requires
     loop-holds
     with-choice-requires
+    limit-of-requires
+    all-left-requires
     raised-requires
     enum-known-more
     enum-told
