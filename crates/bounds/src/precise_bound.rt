@@ -144,7 +144,13 @@ fn left_over(
         hints,
         sums,
     );
-    if left.none || heavy <= level || NODES <= heavy {
+    if left.none {
+        return left;
+    }
+    if heavy <= level {
+        return left;
+    }
+    if NODES <= heavy {
         return left;
     }
     let split = is_split_within(
