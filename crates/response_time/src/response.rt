@@ -5,14 +5,18 @@ use crate::search::WINDOW_LIMIT;
 use crate::search::settle;
 use crate::unserved::Unserved;
 use crate::unserved::is_within;
+use crate::within::served_instance;
 use arith::Found;
 use bus_model::Choice;
 use bus_model::Frame;
+use workload::FRAME;
+use workload::FRAMES;
 use workload::distance_from;
+use workload::lay_out;
 use workload::releases_before;
 ghost use mathlib.Core.Path.{_≡_};
 ghost use mathlib.Core.Bool.{true};
-ghost use Prim.Native.Nat.{ℕ, _+_, _-_, _*_, _≤_, _<_, max};
+ghost use Prim.Native.Nat.{ℕ, _+_, _-_, _*_, _≤_, _<_, min, max};
 ghost use lib.Dec.{T};
 ghost use Rattle.arith.specs.Least.{orZero};
 ghost use Rattle.arith.specs.declared.Found.the-variants.{At};
@@ -28,6 +32,12 @@ pub fn bigger(a: u32, b: u32) -> u32
     ensures { λ r. ⌜ r ≡ max a b ⌝ }
 {
     if a < b { b } else { a }
+}
+
+fn smaller(a: u32, b: u32) -> u32
+    ensures { λ r. ⌜ r ≡ min a b ⌝ }
+{
+    if a < b { a } else { b }
 }
 
 pub fn or_zero(found: Found) -> u32
@@ -51,7 +61,8 @@ fn response(delay: u32, length: u32, released: u32) -> u32
     }
 }
 
-// The greatest response of the instances released in the scenario's busy window, whose length is l.
+// The greater of `most` and the responses of the instances released in the scenario's busy window, whose length is l. An instance that has
+// no greater response than the greatest so far is passed over.
 fn greatest_response(
     frames: &[u32],
     members: &[u8],
@@ -62,6 +73,8 @@ fn greatest_response(
     own: u32,
     blocked: u32,
     l: u32,
+    most: u32,
+    open: bool,
     hints: &mut [u32],
     sums: &mut [u64],
 ) -> u32
@@ -70,15 +83,41 @@ fn greatest_response(
     requires { ⌜ InTable (stored (now frames)) k ⌝ }
     requires { ⌜ (choiceOf choices (k .node) ≡ Fixed own) × (blocked ≡ blocking (stored (now frames)) k) × (busyWindow (stored (now frames)) k choices ≡ At l) ⌝ }
     requires { ⌜ Kept (stored (now frames)) k (now sums) ⌝ }
-    ensures { λ r. ⌜ r ≡ responseTime (stored (now (frames .entry))) k choices l ⌝ }
+    ensures { λ r. ⌜ r ≡ max most (responseTime (stored (now (frames .entry))) k choices l) ⌝ }
     ensures kept { λ _. ⌜ Kept (stored (now (frames .entry))) k (now (sums .exit)) ⌝ }
 {
     let d = distance_from(k, own, 0);
     let instances = releases_before(d, k.period, l, 0);
-    let mut best: u32 = 0;
+    let mut area = [0u32; FRAMES];
+    let to = FRAME * lay_out(frames, k, true, choices, &mut area);
+    let mut best = most;
+    let mut near: u32 = 0;
     let mut from: u32 = 0;
     let mut q: u32 = 0;
     while q < instances {
+        let passed = served_instance(
+            frames,
+            members,
+            counts,
+            ends,
+            k,
+            choices,
+            own,
+            blocked,
+            d,
+            q,
+            best,
+            near,
+            open,
+            &area[0..to],
+            hints,
+            sums,
+        );
+        if 0 < passed.count {
+            near = passed.from;
+            q = smaller(q + passed.count, instances);
+            continue;
+        }
         let base = blocked as u64 + q as u64 * k.length as u64;
         let found = settle(
             frames,
@@ -97,6 +136,7 @@ fn greatest_response(
         let delay = or_zero(found);
         remember(hints, place_of(q), delay);
         best = bigger(best, response(delay, k.length, d + q * k.period));
+        near = delay;
         from = delay + k.length;
         q += 1;
     }
@@ -138,8 +178,8 @@ pub fn busy_window(
     )
 }
 
-// The greatest response of a scenario in which k's node has alignment `own`, where it has a busy window.
-pub fn scenario_response(
+// The greater of `most` and the response of a scenario in which k's node has alignment `own`, where it has a busy window.
+fn scenario_response(
     frames: &[u32],
     members: &[u8],
     counts: &[usize],
@@ -148,6 +188,8 @@ pub fn scenario_response(
     choices: [Choice; 16],
     own: u32,
     blocked: u32,
+    most: u32,
+    open: bool,
     hints: &mut [u32],
     sums: &mut [u64],
 ) -> Found
@@ -156,7 +198,7 @@ pub fn scenario_response(
     requires { ⌜ InTable (stored (now frames)) k ⌝ }
     requires { ⌜ (choiceOf choices (k .node) ≡ Fixed own) × (blocked ≡ blocking (stored (now frames)) k) ⌝ }
     requires { ⌜ Kept (stored (now frames)) k (now sums) ⌝ }
-    ensures { λ r. ⌜ r ≡ scenarioFound (stored (now (frames .entry))) k choices ⌝ }
+    ensures { λ r. ⌜ r ≡ both (At most) (scenarioFound (stored (now (frames .entry))) k choices) ⌝ }
     ensures kept { λ _. ⌜ Kept (stored (now (frames .entry))) k (now (sums .exit)) ⌝ }
 {
     let found = busy_window(frames, members, counts, ends, k, choices, blocked, sums);
@@ -174,6 +216,8 @@ pub fn scenario_response(
         own,
         blocked,
         l,
+        most,
+        open,
         hints,
         sums,
     ))
@@ -273,7 +317,7 @@ pub fn raised(
     ) {
         return Found::At(most);
     }
-    let found = scenario_response(
+    scenario_response(
         frames,
         members,
         counts,
@@ -282,11 +326,9 @@ pub fn raised(
         choices,
         own,
         blocked,
+        most,
+        open,
         hints,
         sums,
-    );
-    let Found::At(response) = found else {
-        return Found::Nothing;
-    };
-    Found::At(bigger(most, response))
+    )
 }

@@ -1,11 +1,12 @@
 -- The two searches of a scenario, as one loop computes them: the load of a number, what the loop may pass over,
 -- the busy window, and the instances of a window one after the other.
-use Prim.Native.Nat.{ℕ, suc, _+_, _-_, _*_, _≤_, _<_, max}
+use Prim.Native.Nat.{ℕ, zero, suc, _+_, _-_, _*_, _≤_, _<_, min, max}
 use mathlib.Core.Path.{_≡_, refl, sym, ap, subst, fun-ext, _∙_}
 use mathlib.Core.List.{List}
 use mathlib.Core.Bool.{Bool, true, false}
 use native.Mathlib.Omega.{arith}
-use native.Mathlib.Nat.{add-zero}
+use native.Mathlib.Nat.{add-zero, add-mul}
+use native.Mathlib.Decide.{decLt}
 use native.Mathlib.Numerals.{add-one}
 use lib.Dec.{T, leb, leb→le, le→leb}
 use lib.ListN.{length}
@@ -200,15 +201,39 @@ pub record Windowed (fs : List Frame) (k : Frame) (cs : List Choice) (own l d in
   pub away : d ≡ distance k own
   pub number : instances ≡ releasesBefore d (k .period) l
 
--- Instance q is next: those before it are counted, and no delay of it is below `from`.
-pub record Turn (fs : List Frame) (k : Frame) (cs : List Choice) (l instances best from q : ℕ) : Type 0 where
-  pub counts : CountUp (greatest (instanceResponse fs k cs)) max instances (responseTime fs k cs l) best q
+-- Instance q is next: `best` is the greatest of `most` and what is counted before it, and no delay of it is below `from`.
+pub record Turn (fs : List Frame) (k : Frame) (cs : List Choice) (l instances most best from q : ℕ) : Type 0 where
+  pub counts : CountUp (greatest (instanceResponse fs k cs)) max instances (max most (responseTime fs k cs l)) best q
   pub later : (w : ℕ) → delayLoad fs k cs q w ≤ w → from ≤ w
 
--- The last one was counted.
-pub turn-end : {fs : List Frame} {k : Frame} {cs : List Choice} {l instances best from q : ℕ} → Turn fs k cs l instances best from q → instances ≤ q → best ≡ responseTime fs k cs l
-unfolding greatest
-turn-end turn over = let all = count-end _ _ _ _ (turn .counts) over in omega arith
+module _ {fs : List Frame} {k : Frame} {cs : List Choice} {l instances most best from : ℕ} where
+  -- The last one was counted.
+  pub turn-end : {q : ℕ} → Turn fs k cs l instances most best from q → instances ≤ q → best ≡ max most (responseTime fs k cs l)
+  unfolding greatest
+  turn-end turn over = let all = count-end _ _ _ _ (turn .counts) over in omega arith
+
+  -- One that has no greater response may be passed over: the next one waits for no less.
+  turn-pass : {q : ℕ} → Turn fs k cs l instances most best from q → q < instances → instanceResponse fs k cs q ≤ best → Turn fs k cs l instances most best from (q + 1)
+  unfolding delayLoad
+  turn-pass {q} turn inside le =
+      record {
+        counts = count-more _ _ _ _ (turn .counts) inside (greatest-more _ best q (omega arith));
+        later = λ w t. turn .later w (omega (arith, add-mul q 1 (k .length), t));
+      }
+
+  -- So may some, up to the last.
+  pub turn-skip : (c : ℕ) {q : ℕ} → Turn fs k cs l instances most best from q → ((i : ℕ) → i < c → instanceResponse fs k cs (q + i) ≤ best) → Turn fs k cs l instances most best from (min (q + c) instances)
+  turn-skip zero {q} turn each = let same : min (q + 0) instances ≡ q = omega (arith, turn .counts .inside) in rw same turn
+  turn-skip (suc c) {q} turn each =
+      elim (decLt q instances) [
+        | yes inside ↦
+            let none : q + 0 ≡ q = omega arith in
+            let first : instanceResponse fs k cs q ≤ best = rw none at (each 0 (omega arith)) in
+            let next = turn-skip c (turn-pass turn inside first) (λ i less. let is : q + (i + 1) ≡ q + 1 + i = omega arith in rw is at (each (i + 1) (omega arith))) in
+            let same : q + 1 + c ≡ q + suc c = omega arith in
+            rw same at next
+        | no over ↦ let same : min (q + suc c) instances ≡ q = omega (arith, turn .counts .inside) in rw same turn
+      ]
 
 module _ {fs : List Frame} {k : Frame} {cs : List Choice} {own l d instances : ℕ} (v : Windowed fs k cs own l d instances) where
   valid : Valid fs
@@ -218,11 +243,11 @@ module _ {fs : List Frame} {k : Frame} {cs : List Choice} {own l d instances : �
   own-away = own-distance fs k cs own (v .fixed) ∙ sym (v .away)
 
   -- The first one.
-  pub turn-start : Turn fs k cs l instances 0 0 0
+  pub turn-start : {most : ℕ} → Turn fs k cs l instances most most 0 0
   unfolding responseTime
-  turn-start = record { counts = count-start _ _ _ _ (rw (v .number, own-away) (omega arith)); later = λ w t. omega arith }
+  turn-start = record { counts = count-start _ _ _ _ (rw (v .number, own-away)); later = λ w t. omega arith }
 
-  module _ {best from q : ℕ} (turn : Turn fs k cs l instances best from q) (inside : q < instances) where
+  module _ {most best from q : ℕ} (turn : Turn fs k cs l instances most best from q) (inside : q < instances) where
     released : d + q * k .period < l
     released = counted d (in-table-fine fs (v .accepted) (v .listed) .period-low) l q .0 (rw (v .number) at inside)
 
@@ -254,7 +279,7 @@ module _ {fs : List Frame} {k : Frame} {cs : List Choice} {own l d instances : �
 
       -- and with its response counted the next one's turn is there.
       pub turn-more : {next response : ℕ} → response ≡ delay + k .length - (d + q * k .period) → next ≡ max best response
-          → Turn fs k cs l instances next (delay + k .length) (q + 1)
+          → Turn fs k cs l instances most next (delay + k .length) (q + 1)
       unfolding instanceResponse orZero
       turn-more {response = response} response-is next-is =
           let its : response ≡ instanceResponse fs k cs q = response-is ∙ rw (its-delay .0, own-away) in

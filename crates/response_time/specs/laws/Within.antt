@@ -82,7 +82,7 @@ module _ (fs : List Frame) (k : Frame) (cs : List Choice) {own d : ℕ} (fixed :
       omega (arith, ap orZero e, own-away)
 
   -- So it is with what may start in time.
-  in-time-within : (q most : ℕ) → InTime fs k cs own most q → instanceResponse fs k cs q ≤ most
+  pub in-time-within : (q most : ℕ) → InTime fs k cs own most q → instanceResponse fs k cs q ≤ most
   in-time-within q most t = start-within q most refl (rw away (t .fits)) (t .inside) (t .holds)
 
   -- The instances that a start serves may start in time: those after the first are released later.

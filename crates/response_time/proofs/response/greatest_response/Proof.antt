@@ -1,22 +1,24 @@
 -- The loop goes through the instances released in the window; each starts in the window, and no delay of the next one is below the end of this one,
--- so its search starts there. The measure is how many instances are left.
+-- so its search starts there. Those that are served with no greater response are passed over. The measure is how many instances are left.
 use Prim.Native.Nat.{_-_, _+_, _*_, _≤_, _<_}
 use mathlib.Core.Path.{_≡_, refl, sym, _∙_}
 use native.Mathlib.Omega.{arith}
+use native.Mathlib.Nat.{sub-zero}
 use borrow.Author.Needs.{needs}
 use lib.ListN.{length}
 use Rattle.workload.specs.Stored.{stored}
 use Rattle.greatest_work.specs.Kept.{Kept}
 use Rattle.workload.specs.laws.Fine.{in-table-fine}
-use Rattle.response_time.specs.laws.Searches.{window-small, Windowed, Turn, turn-start, turn-fits, turn-ends, turn-more, turn-end}
+use Rattle.response_time.specs.laws.Searches.{window-small, Windowed, Turn, turn-start, turn-fits, turn-ends, turn-more, turn-skip, turn-end}
+use Rattle.response_time.specs.laws.Within.{in-time-within}
 use Rattle.response_time.proofs.response.greatest_response.Statement.{statement}
 use Rattle.response_time.proofs.response.greatest_response.Tie as tie
 
 abbrev Inv-loop : tie.InvT-loop
-Inv-loop frames members counts ends k choices own blocked l hints₀ sums₀ d instances best₀ from₀ q₀ hints sums best from q = (length hints ≡ length hints₀) × Kept (stored frames) k sums × Turn (stored frames) k choices l instances best from q
+Inv-loop frames members counts ends k choices own blocked l most isOpen hints₀ sums₀ d instances area to best₀ near₀ from₀ q₀ hints sums best near from q = (length hints ≡ length hints₀) × Kept (stored frames) k sums × Turn (stored frames) k choices l instances most best from q
 
 abbrev μ-loop : tie.MeasureT-loop
-μ-loop frames members counts ends k choices own blocked l hints₀ sums₀ d instances best₀ from₀ q₀ hints sums best from q = instances - q
+μ-loop frames members counts ends k choices own blocked l most isOpen hints₀ sums₀ d instances area to best₀ near₀ from₀ q₀ hints sums best near from q = instances - q
 
 distance-from-requires : tie.Need-distance-from-requires Inv-loop μ-loop
 distance-from-requires c κs =
@@ -28,6 +30,15 @@ releases-before-requires c κs =
     let s = c .before .before .before .before .before .before .before in
     let f = in-table-fine _ (s .pre .0) (s .pre .1 .1 .0) in
     (f .period-low, f .period-high, omega (arith, window-small _ _ _ (s .pre .1 .1 .1 .0 .2)))
+
+slice-aggregate-lay-out : tie.Need-slice-aggregate-lay-out Inv-loop μ-loop
+slice-aggregate-lay-out c = search needs
+
+lay-out-requires : tie.Need-lay-out-requires Inv-loop μ-loop
+lay-out-requires c κs = search needs
+
+mul-to : tie.Need-mul-to Inv-loop μ-loop
+mul-to c = search needs
 
 -- what the calls before the loop tell of the window
 window : (c : tie.After-releases-before Inv-loop μ-loop) →
@@ -44,17 +55,51 @@ window c =
     }
 
 loop-holds : tie.Need-loop-holds Inv-loop μ-loop
-loop-holds c = (refl, c .before .before .before .before .before .before .before .before .pre .1 .1 .1 .1, turn-start (window c))
+loop-holds c = (refl, c .before .before .before .before .before .before .before .before .before .before .before .pre .1 .1 .1 .1, turn-start (window (c .before .before .before)))
 
 -- what an instance waits for and its release are small
 fits : (c : tie.In-loop Inv-loop μ-loop) →
-    let a = c .before .before .before .before .before .before .before .before .before .before .args in
-    (a .blocked + c .before .loop .q * a .k .length ≤ 1000000) × (c .before .before .before .distance-from .result + c .before .loop .q * a .k .period < 1000000)
-fits c = rw (c .before .before .before .before .before .before .before .before .before .before .pre .1 .1 .1 .0 .1) (turn-fits (window (c .before .before)) (c .before .loop .inv .2) (c .loop-test .taken))
+    let a = c .before .before .before .before .before .before .before .before .before .before .before .before .before .args in
+    (a .blocked + c .before .loop .q * a .k .length ≤ 1000000) × (c .before .before .before .before .before .before .distance-from .result + c .before .loop .q * a .k .period < 1000000)
+fits c = rw (c .before .before .before .before .before .before .before .before .before .before .before .before .before .pre .1 .1 .1 .0 .1) (turn-fits (window (c .before .before .before .before .before)) (c .before .loop .inv .2) (c .loop-test .taken))
 
--- and so is its end
-ends : (c : tie.After-or-zero Inv-loop μ-loop) → c .or-zero .result + c .before .before .before .before .before .before .before .before .before .before .before .before .before .before .before .before .args .k .length ≤ 1000000
-ends c = turn-ends (window (c .before .before .before .before .before .before .before .before)) (c .before .before .before .before .before .before .before .loop .inv .2) (c .before .before .before .before .before .before .loop-test .taken) (c .before .before .before .before .before .before .before .before .before .before .before .before .before .before .before .before .pre .1 .1 .1 .0 .1) (c .before .before .before .settle .ensures .0) (c .or-zero .ensures)
+-- and so is its number
+counted : (c : tie.In-loop Inv-loop μ-loop) → c .before .loop .q < 1000001
+counted c = let s = c .before .before .before .before .before .before .before .before .before .before .before .before .before in omega (arith, c .loop-test .taken, c .before .before .before .before .before .releases-before .ensures .1, window-small _ _ _ (s .pre .1 .1 .1 .0 .2))
+
+sub-served-instance : tie.Need-sub-served-instance Inv-loop μ-loop
+sub-served-instance c = search needs
+
+part-served-instance-start : tie.Need-part-served-instance-start Inv-loop μ-loop
+part-served-instance-start c = search needs
+
+part-served-instance-end : tie.Need-part-served-instance-end Inv-loop μ-loop
+part-served-instance-end c = search needs
+
+served-instance-requires : tie.Need-served-instance-requires Inv-loop μ-loop
+served-instance-requires c κs =
+    let s = c .before .before .before .before .before .before .before .before .before .before .before .before .before .before .before .before .before in
+    let p = s .pre .1 .1 .1 in
+    let f = fits (c .before .before .before .before) in
+    (s .pre .0, (s .pre .1 .0, (s .pre .1 .1 .0, ((p .0 .0, p .0 .1, c .before .before .before .before .before .before .before .before .before .before .distance-from .ensures .0), ((omega (arith, f .0), f .1), (rw sub-zero (c .before .before .before .before .before .before .before .lay-out .ensures .0), c .before .before .before .before .before .loop .inv .1))))))
+
+add-smaller : tie.Need-add-smaller Inv-loop μ-loop
+add-smaller c =
+    let i = counted (c .before .before .before .before .before .before .before .before .before .before) in
+    record { fits = omega (arith, i, c .before .before .before .before .before .served-instance .ensures .1 .0) }
+
+smaller-requires : tie.Need-smaller-requires Inv-loop μ-loop
+smaller-requires c κs = search needs
+
+loop-less : tie.Need-loop-less Inv-loop μ-loop
+loop-less c = omega (arith, c .before .before .before .before .before .before .before .before .before .before .before .loop-test .taken, c .before .before .if1 .taken, c .smaller .ensures)
+
+loop-again : tie.Need-loop-again Inv-loop μ-loop
+loop-again c =
+    let s = c .before .before .before .before .before .before .before .before .before .before .before .before .before .before .before .before .before .before .before .before .before .before .before .before in
+    let l = c .before .before .before .before .before .before .before .before .before .before .before .before .loop in
+    let r = c .before .before .before .before .before .before .served-instance .ensures in
+    (l .inv .0, r .1 .1, rw (c .smaller .ensures) (turn-skip (c .before .before .before .before .before .before .served-instance .result .count) (l .inv .2) (λ i less. in-time-within _ _ _ (s .pre .1 .1 .1 .0 .0) (c .before .before .before .before .before .before .before .before .before .before .before .before .before .before .before .before .before .distance-from .ensures .0) (l .q + i) (l .best) (r .0 i less))))
 
 cast-base : tie.Need-cast-base Inv-loop μ-loop
 cast-base c = search needs
@@ -63,18 +108,22 @@ cast-base-2 : tie.Need-cast-base-2 Inv-loop μ-loop
 cast-base-2 c = search needs
 
 mul-base : tie.Need-mul-base Inv-loop μ-loop
-mul-base c = omega (arith, fits (c .before) .0)
+mul-base c = omega (arith, fits (c .before .before .before .before .before .before .before .before .before .before) .0)
 
 add-base : tie.Need-add-base Inv-loop μ-loop
-add-base c = omega (arith, fits (c .before) .0)
+add-base c = omega (arith, fits (c .before .before .before .before .before .before .before .before .before .before) .0)
 
 settle-requires : tie.Need-settle-requires Inv-loop μ-loop
 settle-requires c κs =
-    let s = c .before .before .before .before .before .before .before .before .before .before .before .before in
-    (s .pre .0, (s .pre .1 .0, (s .pre .1 .1 .0, ((λ t. s .pre .1 .1 .1 .0 .0, omega (arith, fits (c .before .before) .0), omega arith), c .before .before .before .loop .inv .1))))
+    let s = c .before .before .before .before .before .before .before .before .before .before .before .before .before .before .before .before .before .before .before .before .before .before .before .before in
+    (s .pre .0, (s .pre .1 .0, (s .pre .1 .1 .0, ((λ t. s .pre .1 .1 .1 .0 .0, omega (arith, fits (c .before .before .before .before .before .before .before .before .before .before .before) .0), omega arith), c .before .before .before .before .before .before .served-instance .ensures .1 .1))))
 
 or-zero-requires : tie.Need-or-zero-requires Inv-loop μ-loop
 or-zero-requires c κs = search needs
+
+-- so is its end
+ends : (c : tie.After-or-zero Inv-loop μ-loop) → c .or-zero .result + c .before .before .before .before .before .before .before .before .before .before .before .before .before .before .before .before .before .before .before .before .before .before .before .before .before .before .before .before .args .k .length ≤ 1000000
+ends c = turn-ends (window (c .before .before .before .before .before .before .before .before .before .before .before .before .before .before .before .before .before .before .before .before)) (c .before .before .before .before .before .before .before .before .before .before .before .before .before .before .before .before .loop .inv .2) (c .before .before .before .before .before .before .before .before .before .before .before .before .before .before .before .loop-test .taken) (c .before .before .before .before .before .before .before .before .before .before .before .before .before .before .before .before .before .before .before .before .before .before .before .before .before .before .before .before .pre .1 .1 .1 .0 .1) (c .before .before .before .settle .ensures .0) (c .or-zero .ensures)
 
 place-of-requires : tie.Need-place-of-requires Inv-loop μ-loop
 place-of-requires c κs = search needs
@@ -83,14 +132,14 @@ remember-requires : tie.Need-remember-requires Inv-loop μ-loop
 remember-requires c κs = search needs
 
 mul-response : tie.Need-mul-response Inv-loop μ-loop
-mul-response c = omega (arith, fits (c .before .before .before .before .before .before .before .before .before .before .before .before) .1)
+mul-response c = omega (arith, fits (c .before .before .before .before .before .before .before .before .before .before .before .before .before .before .before .before .before .before .before .before .before) .1)
 
 add-response : tie.Need-add-response Inv-loop μ-loop
-add-response c = omega (arith, fits (c .before .before .before .before .before .before .before .before .before .before .before .before) .1)
+add-response c = omega (arith, fits (c .before .before .before .before .before .before .before .before .before .before .before .before .before .before .before .before .before .before .before .before .before) .1)
 
 response-requires : tie.Need-response-requires Inv-loop μ-loop
 response-requires c κs =
-    let s = c .before .before .before .before .before .before .before .before .before .before .before .before .before .before .before .before .before .before .before .before .before .before in
+    let s = c .before .before .before .before .before .before .before .before .before .before .before .before .before .before .before .before .before .before .before .before .before .before .before .before .before .before .before .before .before .before .before .before .before .before in
     (omega (arith, ends (c .before .before .before .before .before .before)), in-table-fine _ (s .pre .0) (s .pre .1 .1 .0) .length-high)
 
 bigger-requires : tie.Need-bigger-requires Inv-loop μ-loop
@@ -100,22 +149,22 @@ add-from : tie.Need-add-from Inv-loop μ-loop
 add-from c = omega (arith, ends (c .before .before .before .before .before .before .before .before .before))
 
 add-q : tie.Need-add-q Inv-loop μ-loop
-add-q c = search needs
+add-q c = record { fits = omega (arith, counted (c .before .before .before .before .before .before .before .before .before .before .before .before .before .before .before .before .before .before .before .before .before .before .before .before)) }
 
-loop-less : tie.Need-loop-less Inv-loop μ-loop
-loop-less c = search needs
+loop-less-2 : tie.Need-loop-less-2 Inv-loop μ-loop
+loop-less-2 c = omega (arith, c .before .before .before .before .before .before .before .before .before .before .before .before .before .before .before .before .before .before .before .before .before .before .before .before .loop-test .taken)
 
-loop-again : tie.Need-loop-again Inv-loop μ-loop
-loop-again c =
-    let l = c .before .before .before .before .before .before .before .before .before .before .before .before .before .before .before .before .loop in
-    let turn = turn-more (window (c .before .before .before .before .before .before .before .before .before .before .before .before .before .before .before .before .before)) (l .inv .2) (c .before .before .before .before .before .before .before .before .before .before .before .before .before .before .before .loop-test .taken) (c .before .before .before .before .before .before .before .before .before .before .before .before .before .before .before .before .before .before .before .before .before .before .before .before .before .pre .1 .1 .1 .0 .1) (c .before .before .before .before .before .before .before .before .before .before .before .before .settle .ensures .0) (c .before .before .before .before .before .before .before .before .before .or-zero .ensures) (c .before .before .response .ensures) (c .before .bigger .ensures) in
+loop-again-2 : tie.Need-loop-again-2 Inv-loop μ-loop
+loop-again-2 c =
+    let l = c .before .before .before .before .before .before .before .before .before .before .before .before .before .before .before .before .before .before .before .before .before .before .before .before .before .loop in
+    let turn = turn-more (window (c .before .before .before .before .before .before .before .before .before .before .before .before .before .before .before .before .before .before .before .before .before .before .before .before .before .before .before .before .before)) (l .inv .2) (c .before .before .before .before .before .before .before .before .before .before .before .before .before .before .before .before .before .before .before .before .before .before .before .before .loop-test .taken) (c .before .before .before .before .before .before .before .before .before .before .before .before .before .before .before .before .before .before .before .before .before .before .before .before .before .before .before .before .before .before .before .before .before .before .before .before .before .pre .1 .1 .1 .0 .1) (c .before .before .before .before .before .before .before .before .before .before .before .before .settle .ensures .0) (c .before .before .before .before .before .before .before .before .before .or-zero .ensures) (c .before .before .response .ensures) (c .before .bigger .ensures) in
     (omega (arith, c .before .before .before .before .before .before .remember .kept .0, l .inv .0), c .before .before .before .before .before .before .before .before .before .before .before .before .settle .ensures .1, turn)
 
 same-length : tie.Need-same-length Inv-loop μ-loop
 same-length c = search needs
 
 same-length-2 : tie.Need-same-length-2 Inv-loop μ-loop
-same-length-2 c = c .before .loop .inv .1 .size ∙ sym (c .before .before .before .before .before .before .before .before .before .before .pre .1 .1 .1 .1 .size)
+same-length-2 c = c .before .loop .inv .1 .size ∙ sym (c .before .before .before .before .before .before .before .before .before .before .before .before .before .pre .1 .1 .1 .1 .size)
 
 returns : tie.Need-returns Inv-loop μ-loop
 returns c = (turn-end (c .before .loop .inv .2) (c .loop-test .left), c .before .loop .inv .1)
@@ -128,7 +177,18 @@ greatest-response-spec =
     μ-loop
     distance-from-requires
     releases-before-requires
+    slice-aggregate-lay-out
+    lay-out-requires
+    mul-to
     loop-holds
+    sub-served-instance
+    part-served-instance-start
+    part-served-instance-end
+    served-instance-requires
+    add-smaller
+    smaller-requires
+    loop-less
+    loop-again
     cast-base
     cast-base-2
     mul-base
@@ -143,8 +203,8 @@ greatest-response-spec =
     bigger-requires
     add-from
     add-q
-    loop-less
-    loop-again
+    loop-less-2
+    loop-again-2
     same-length
     same-length-2
     returns)
