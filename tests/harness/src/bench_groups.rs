@@ -3,7 +3,7 @@
 use crate::bench_tables::{
     alike, crowded, late_jump, long_windows, many_looks, no_windows, Bursts, Drawing, Filled,
 };
-use analyser::table::Row;
+use analyser::table::{self, Row};
 
 /// A name and the rows.
 pub type Table = (String, Vec<Row>);
@@ -102,14 +102,45 @@ fn growing_alignments() -> Vec<Table> {
 }
 
 fn worst() -> Vec<Table> {
-    vec![
+    let built = [
         ("12650 instances, 256 alignments a node".into(), many_looks()),
         ("255 own alignments, a late jump".into(), late_jump()),
         ("starts that serve no other scenario".into(), BURSTS.rows()),
         ("11 bursts, each after the one before".into(), NESTED.rows()),
         ("5543 instances, a late burst".into(), LATE_BURST.rows()),
-    ]
+    ];
+    built.into_iter().chain(FILES.map(read)).collect()
 }
+
+fn read((name, file): (&str, &[u8])) -> Table {
+    (name.into(), table::parse(file).expect("an accepted table"))
+}
+
+/// Tables that a search found: windows above 800000, a load near 1, and thousands of instances of
+/// the judged frame.
+const FILES: [(&str, &[u8]); 9] = [
+    ("255 own alignments, 241 of another node", include_bytes!("../tables/own_255_other_241.txt")),
+    (
+        "255 own alignments, 239 of four others",
+        include_bytes!("../tables/own_255_four_others_239.txt"),
+    ),
+    (
+        "206 own alignments, more stairs than kept",
+        include_bytes!("../tables/own_206_many_stairs.txt"),
+    ),
+    (
+        "no window with all open, 4 other nodes",
+        include_bytes!("../tables/no_window_all_open_4_others.txt"),
+    ),
+    (
+        "no window with all open, 5 other nodes",
+        include_bytes!("../tables/no_window_all_open_5_others.txt"),
+    ),
+    ("own alignments, each above the one before", include_bytes!("../tables/rising_8_others.txt")),
+    ("the same, 13 other nodes", include_bytes!("../tables/rising_13_others.txt")),
+    ("54289 scenarios, two nodes of 30 frames", include_bytes!("../tables/scenarios_54289.txt")),
+    ("64009 scenarios, nodes of 43 and 19 frames", include_bytes!("../tables/scenarios_64009.txt")),
+];
 
 const BURSTS: Bursts = Bursts {
     first: (0, 62),

@@ -137,6 +137,30 @@ impl Best {
     }
 }
 
+/// So many unserved instances are listed at the most.
+const LISTED: usize = 64;
+
+/// The instances before an end that are not shown to be served with the open nodes at any
+/// alignment. Fixing a node's alignment makes no response longer, so that where more nodes are
+/// fixed, only these are looked at, and those from the end on.
+#[derive(Clone, Default)]
+struct Unserved {
+    /// Rising.
+    list: Vec<u64>,
+    end: u64,
+}
+
+impl Unserved {
+    /// The first one to be looked at from an instance on.
+    fn next(&self, instance: u64) -> u64 {
+        if instance >= self.end {
+            return instance;
+        }
+        let at = self.list.partition_point(|listed| *listed < instance);
+        self.list.get(at).copied().unwrap_or(self.end)
+    }
+}
+
 /// The bus as the frame of one row meets it.
 struct View {
     blocking: u64,
@@ -196,6 +220,11 @@ impl View {
         Search::Window(self.blocking)
     }
 
+    /// The window of a scenario, if it has one.
+    fn settled_window(&self, scenario: Scenario) -> Option<u64> {
+        self.window().settle(scenario, 1, LIMITS.window)
+    }
+
     /// The frames of the own node from an alignment, and those that have one alignment.
     fn placed(&self, own: u64) -> Vec<Placed> {
         let mut placed = Vec::new();
@@ -204,15 +233,16 @@ impl View {
         placed
     }
 
-    /// The rough bound, or none if an alignment of the own node has no window.
+    /// The rough bound, or none if an alignment of the own node has no window. The window with all
+    /// nodes open is the limit for each of these; without it, each has its own.
     fn approximate(&self) -> Option<u64> {
         let nodes: Vec<&Node> = self.nodes.iter().collect();
-        let limit =
-            self.window().settle(Scenario { fixed: &self.lone, open: &nodes }, 1, LIMITS.window);
+        let common = self.settled_window(Scenario { fixed: &self.lone, open: &nodes });
         let mut best = Best::new();
         for own in self.nodes[0].alignments() {
             let scenario = Scenario { fixed: &self.placed(own), open: &nodes[1..] };
-            if !limit.is_some_and(|limit| self.is_within(scenario, limit, &best)) {
+            let limit = common.or_else(|| self.settled_window(scenario))?;
+            if !self.is_within(scenario, limit, &best, &Unserved::default()) {
                 self.raise(scenario, &mut best)?;
             }
         }
@@ -225,53 +255,57 @@ impl View {
         for own in self.nodes[0].alignments() {
             let mut fixed = self.placed(own);
             let open: Vec<&Node> = self.nodes[1..].iter().collect();
-            let limit =
-                self.window().settle(Scenario { fixed: &fixed, open: &open }, 1, LIMITS.window)?;
-            self.improve(&mut fixed, &open, limit, &mut best)?;
+            let limit = self.settled_window(Scenario { fixed: &fixed, open: &open })?;
+            self.improve(&mut fixed, &open, limit, &mut best, &Unserved::default())?;
         }
         Some(best.response)
     }
 
     /// Fixes the open nodes one after the other, unless nothing below can exceed the best: that
-    /// is asked anew where the best has risen.
+    /// is asked anew where the best has risen. What is left unserved is handed down.
     fn improve(
         &self,
         fixed: &mut Vec<Placed>,
         open: &[&Node],
         limit: u64,
         best: &mut Best,
+        known: &Unserved,
     ) -> Option<()> {
         let Some((node, rest)) = open.split_first() else {
             let scenario = Scenario { fixed, open };
-            let within = self.is_within(scenario, limit, best);
+            let within = self.is_within(scenario, limit, best, known);
             return if within { Some(()) } else { self.raise(scenario, best) };
         };
-        let mut asked = None;
+        let (mut asked, mut unserved) = (None, known.clone());
         let kept = fixed.len();
         for alignment in node.alignments() {
-            if asked != Some(best.response) && self.is_ruled_out(fixed, open, limit, best) {
-                return Some(());
+            if asked != Some(best.response) {
+                let left = self.sweep(Scenario { fixed, open }, limit, best, &unserved, LISTED);
+                match left {
+                    Some(left) if !self.is_ruled_out(fixed, open, limit, best, &left) => {
+                        unserved = left;
+                    }
+                    _ => return Some(()),
+                }
+                asked = Some(best.response);
             }
-            asked = Some(best.response);
             node.place(alignment, fixed);
-            self.improve(fixed, rest, limit, best)?;
+            self.improve(fixed, rest, limit, best, &unserved)?;
             fixed.truncate(kept);
         }
         Some(())
     }
 
-    /// Whether no response exceeds the best, with the open nodes at any alignment, or with each
-    /// alignment of the one whose frames are longest together.
+    /// Whether no response exceeds the best with each alignment of the open node whose frames are
+    /// longest together. Not asked of the first one: that is fixed next anyway.
     fn is_ruled_out(
         &self,
         fixed: &mut Vec<Placed>,
         open: &[&Node],
         limit: u64,
         best: &Best,
+        known: &Unserved,
     ) -> bool {
-        if self.is_within(Scenario { fixed, open }, limit, best) {
-            return true;
-        }
         let heavy = (0..open.len()).rev().max_by_key(|at| open[*at].above(1));
         let Some(heavy) = heavy.filter(|at| *at > 0) else {
             return false;
@@ -280,7 +314,7 @@ impl View {
         let kept = fixed.len();
         let out = open[heavy].alignments().all(|alignment| {
             open[heavy].place(alignment, fixed);
-            let within = self.is_within(Scenario { fixed, open: &others }, limit, best);
+            let within = self.is_within(Scenario { fixed, open: &others }, limit, best, known);
             fixed.truncate(kept);
             within
         });
@@ -288,47 +322,86 @@ impl View {
     }
 
     /// Whether the starts that are found show that no response exceeds the best.
-    fn is_within(&self, scenario: Scenario, limit: u64, best: &Best) -> bool {
-        let Placed { frame, distance } = scenario.fixed[0];
-        if limit <= distance {
-            return true;
+    fn is_within(&self, scenario: Scenario, limit: u64, best: &Best, known: &Unserved) -> bool {
+        self.sweep(scenario, limit, best, known, 0).is_none()
+    }
+
+    /// The instances for which no start is found that shows a response up to the best: as many as
+    /// there is room for, up to the first one beyond; or none if there is no such instance. Those
+    /// that are known to be served are passed over.
+    fn sweep(
+        &self,
+        scenario: Scenario,
+        limit: u64,
+        best: &Best,
+        known: &Unserved,
+        room: usize,
+    ) -> Option<Unserved> {
+        let releases = self.releases(scenario, limit, best);
+        let mut list = Vec::new();
+        let (mut instance, mut from) = (known.next(0), 0);
+        while instance < releases {
+            let step = if let Some(found) = self.serve(scenario, instance, from, best) {
+                from = found.1;
+                found.0
+            } else if list.len() < room {
+                list.push(instance);
+                1
+            } else {
+                return Some(Unserved { list, end: instance });
+            };
+            instance = known.next(instance + step);
         }
+        (!list.is_empty()).then_some(Unserved { list, end: instance })
+    }
+
+    /// How often the judged frame is queued up to the limit, or in the last window, where that is
+    /// less often and no window of the scenario is longer.
+    fn releases(&self, scenario: Scenario, limit: u64, best: &Best) -> u64 {
+        let Placed { frame, distance } = scenario.fixed[0];
         let fewer = (1..limit).contains(&best.window)
             && frame.count(distance, best.window) < frame.count(distance, limit)
             && self.window().full_load(scenario, best.window) <= best.window;
-        let releases = frame.count(distance, if fewer { best.window } else { limit });
-        let (mut instance, mut from) = (0, 0);
-        while instance < releases {
-            let start = Search::Start(self.blocking + instance * frame.length);
-            let queued = distance + instance * frame.period;
-            let Some(latest) = (best.response + queued).checked_sub(frame.length) else {
-                return false;
-            };
-            let latest = latest.min(LIMITS.window - 1);
-            let kept = best.starts[instance as usize % PLACES];
-            let Some((x, load)) = found_start(start, scenario, from, latest, kept) else {
-                return false;
-            };
-            if x < latest {
-                from = x;
-            }
-            instance += 1 + (x - load) / frame.length;
-        }
-        true
+        frame.count(distance, if fewer { best.window } else { limit })
     }
 
-    /// Takes the scenario's responses into the best, or answers none if it has no window.
+    /// A start that shows a response up to the best: how many instances it serves from this one
+    /// on, and from where the next start is looked for.
+    fn serve(
+        &self,
+        scenario: Scenario,
+        instance: u64,
+        from: u64,
+        best: &Best,
+    ) -> Option<(u64, u64)> {
+        let Placed { frame, distance } = scenario.fixed[0];
+        let start = Search::Start(self.blocking + instance * frame.length);
+        let queued = distance + instance * frame.period;
+        let latest = (best.response + queued).checked_sub(frame.length)?.min(LIMITS.window - 1);
+        let kept = best.starts[instance as usize % PLACES];
+        let (x, load) = found_start(start, scenario, from, latest, kept)?;
+        Some((1 + (x - load) / frame.length, if x < latest { x } else { from }))
+    }
+
+    /// Takes the scenario's responses into the best, or answers none if it has no window. Instances
+    /// that do not exceed the best are passed over.
     fn raise(&self, scenario: Scenario, best: &mut Best) -> Option<()> {
         let Placed { frame, distance } = scenario.fixed[0];
-        best.window = self.window().settle(scenario, 1, LIMITS.window)?;
-        let mut least = 0;
-        for instance in 0..frame.count(distance, best.window) {
+        best.window = self.settled_window(scenario)?;
+        let releases = frame.count(distance, best.window);
+        let (mut instance, mut from, mut least) = (0, 0, 0);
+        while instance < releases {
+            if let Some((served, next)) = self.serve(scenario, instance, from, best) {
+                (instance, from) = (instance + served, next);
+                continue;
+            }
             let search = Search::Start(self.blocking + instance * frame.length);
             let start = search.settle(scenario, least, LIMITS.window - 1)?;
             best.remember(instance, start);
-            least = start + frame.length;
+            (from, least) = (start, start + frame.length);
             let queued = distance + instance * frame.period;
             best.response = best.response.max(least.saturating_sub(queued));
+            instance += 1;
         }
         Some(())
     }

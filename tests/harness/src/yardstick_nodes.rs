@@ -157,15 +157,17 @@ impl Memory {
         self.stairs[set].iter().find(is_on).map(|stair| stair.work)
     }
 
-    /// Widens the stair of this work, or puts one in front of the others at its place.
+    /// Widens the stair of this work, or puts one at the first empty place, or else at the last.
+    /// Lengths go round the turn in order, so that the one asked for longest ago comes next: the
+    /// last in, first out keeps most of them.
     fn keep(&mut self, set: usize, n: u64, work: u64) {
         let set = &mut self.stairs[set];
         if let Some(stair) = set.iter_mut().find(|stair| stair.work == work) {
             (stair.low, stair.high) = (stair.low.min(n), stair.high.max(n));
             return;
         }
-        set.rotate_right(1);
-        set[0] = Stair { low: n, high: n, work };
+        let empty = set.iter().position(|stair| stair.work == 0);
+        set[empty.unwrap_or(WAYS - 1)] = Stair { low: n, high: n, work };
     }
 }
 
