@@ -1,5 +1,5 @@
 -- What is kept: at first nothing, then one stair after the other, or one that is longer.
-use Prim.Native.Nat.{ℕ, zero, suc, _+_, _-_, _*_, _/_, _%_, _≤_, _<_, min, max}
+use Prim.Native.Nat.{ℕ, zero, suc, _+_, _-_, _*_, _/_, _%_, _≤_, _<_}
 use mathlib.Core.Path.{_≡_, refl, sym, ap, ap₂, _∙_}
 use mathlib.Core.Bool.{Bool, true, false, _&&_}
 use mathlib.Core.List.{List, [], _∷_, List·Memᴰ as Mem, List·Memᴰ·head as here, List·Memᴰ·tail as there}
@@ -23,7 +23,7 @@ use Rattle.bus_model.specs.Bounds.{isAhead, ahead, alignments, orEmpty, distanc
 use Rattle.bus_model.specs.theory.Turns.{turn}
 use Rattle.bus_model.specs.theory.Stairs.{stair, most-turns}
 use Rattle.workload.specs.Grouped.{Fine, FineTable, Grouped}
-use Rattle.greatest_work.specs.Kept.{unit, packed, nodeIn, lowIn, highIn, workIn, isOn, isOf, widened, most, Holds, Kept, Told, KeptWith}
+use Rattle.greatest_work.specs.Kept.{unit, packed, nodeIn, lowIn, highIn, workIn, isOf, widened, most, Holds, Kept, Told}
 use Rattle.workload.specs.laws.Fine.{member-fine}
 use Rattle.workload.specs.laws.Groups.{lent-end}
 use Rattle.workload.specs.laws.Laid.{keep-few}
@@ -122,9 +122,9 @@ module _ {fs : List Frame} {k : Frame} where
       let last : most fs k (nodeIn v + 1) (highIn v) ≡ workIn v = h .is (highIn v) (h .some) (le-refl _) in
       holds-packed (nodeIn v) (omega arith) (omega arith) (omega arith) (omega (arith, h .some)) (λ m low high. elim (decLe (lowIn v) m) [
         | yes above ↦ elim (decLe m (highIn v)) [
-            | yes below ↦ h .is m above below
-            | no over ↦ stair valid k (nodeIn v + 1) (omega arith) (omega arith) (last ∙ sym now) ∙ last
-          ]
+          | yes below ↦ h .is m above below
+          | no over ↦ stair valid k (nodeIn v + 1) (omega arith) (omega arith) (last ∙ sym now) ∙ last
+        ]
         | no under ↦ stair valid k (nodeIn v + 1) {low = n} {high = lowIn v} (omega arith) (omega arith) (now ∙ sym first) ∙ now
       ])
 

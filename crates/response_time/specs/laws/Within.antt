@@ -4,7 +4,7 @@ use mathlib.Core.Path.{_≡_, refl, sym, ap, subst, _∙_}
 use mathlib.Core.List.{List, [], _∷_, _++_, List·Memᴰ as Mem, List·Memᴰ·head as here, List·Memᴰ·tail as there}
 use mathlib.Core.Bool.{Bool, true, false, cond}
 use native.Mathlib.Omega.{arith}
-use native.Mathlib.Nat.{mul-le-mul-left, mul-le-mul-right, le-mul-of-pos-right, add-mul}
+use native.Mathlib.Nat.{mul-le-mul-left, le-mul-of-pos-right, add-mul}
 use native.Mathlib.Numerals.{add-one}
 use native.Mathlib.Decide.{decLt}
 use borrow.Author.Tests.{ltb-false}
@@ -147,12 +147,12 @@ module _ {fs : List Frame} {k : Frame} {cs : List Choice} {own most : ℕ} where
       elim (decLt i q) [
         | yes earlier ↦ before i earlier (λ m. out (more i m))
         | no late ↦ elim (decLt i (q + max 1 served)) [
-            | yes near ↦ elim (decLt (i - q) served) [
-                | yes inside ↦ let is : q + (i - q) ≡ i = omega arith in subst (InTime fs k cs own most) is (now (i - q) inside)
-                | no outside ↦ let same : i ≡ q = omega arith in absurd (out (rw same (told (omega arith))))
-              ]
-            | no later ↦ let (inside, not) = passed i (omega arith) less in known i inside not
+          | yes near ↦ elim (decLt (i - q) served) [
+            | yes inside ↦ let is : q + (i - q) ≡ i = omega arith in subst (InTime fs k cs own most) is (now (i - q) inside)
+            | no outside ↦ let same : i ≡ q = omega arith in absurd (out (rw same (told (omega arith))))
           ]
+          | no later ↦ let (inside, not) = passed i (omega arith) less in known i inside not
+        ]
       ]
 
 module _ {fs : List Frame} {k : Frame} {cs : List Choice} {own most : ℕ} {list : List ℕ} {count end : ℕ} where

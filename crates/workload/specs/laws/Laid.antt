@@ -1,6 +1,6 @@
 -- Frames laid out: their work is that of the scenario, or a bound of it where a node is open; and the loop that lays them out.
 use Prim.Native.Nat.{ℕ, suc, _+_, _*_, _≤_, _<_}
-use mathlib.Core.Path.{_≡_, refl, sym, ap, subst, _∙_}
+use mathlib.Core.Path.{_≡_, refl, sym, ap, _∙_}
 use mathlib.Core.List.{List, [], _∷_, map, List·Memᴰ as Mem, List·Memᴰ·head as here, List·Memᴰ·tail as there}
 use mathlib.Core.Bool.{Bool, true, false, cond}
 use mathlib.Core.Logic.{_≢_}
@@ -11,10 +11,10 @@ use native.Mathlib.Decide.{decLe}
 use lib.Dec.{eqb, eqb-refl, eqb→eq}
 use lib.ListN.{length, length-map, getD, take, drop, drop-of-length-le}
 use lib.Seq.{drop-cons}
-use Rattle.arith.specs.Lists.{sum, keep, greatest, range}
+use Rattle.arith.specs.Lists.{sum, keep, range}
 use Rattle.arith.specs.Releases.{releasesBefore}
 use Rattle.arith.specs.laws.Tests.{cond-yes, cond-no, cond-cases}
-use Rattle.arith.specs.laws.Members.{of-keep, of-map, mem-getD, list-places}
+use Rattle.arith.specs.laws.Members.{of-keep, of-map, list-places}
 use Rattle.arith.specs.laws.Sums.{sum-le, sum-same, sum-keep, sum-at, greatest-le}
 use Rattle.arith.specs.laws.Releases.{count-mono, count-later}
 use Rattle.bus_model.specs.declared.Frame.{Frame}
@@ -22,7 +22,7 @@ use Rattle.bus_model.specs.declared.Choice.{Choice}
 use Rattle.bus_model.specs.declared.Choice.the-variants.{Fixed, Any}
 use Rattle.bus_model.specs.Frame.{noFrame, row}
 use Rattle.bus_model.specs.Pattern.{ofNode}
-use Rattle.bus_model.specs.Bounds.{nodes, ahead, better, alignments, choiceOf, distance, demand, workAt, nodeWork, work}
+use Rattle.bus_model.specs.Bounds.{nodes, ahead, better, alignments, choiceOf, demand, workAt, nodeWork, work}
 use Rattle.bus_model.specs.theory.Frames.{of-node}
 use Rattle.bus_model.specs.theory.Alignment.{distance-lt}
 use Rattle.workload.specs.Stored.{stored, putAt}

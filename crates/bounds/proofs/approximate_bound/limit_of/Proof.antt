@@ -1,5 +1,5 @@
 -- The limit that is given, or the window that is found.
-use mathlib.Core.Path.{_≡_, sym, _∙_}
+use mathlib.Core.Path.{sym, _∙_}
 use native.Mathlib.Nat.{le-refl}
 use borrow.Author.Needs.{needs}
 use Rattle.response_time.specs.laws.Searches.{window-small}

@@ -82,11 +82,10 @@ same-length-2 : tie.Need-same-length-2 Inv-loop μ-loop
 same-length-2 c = c .before .before .before .before .before .before .is-within .ensures .1 .size ∙ sym (c .before .before .before .before .before .before .before .before .before .before .before .before .before .before .before .before .before .before .before .pre .1 .1 .1 .1 .1 .1 .1 .size)
 
 returns-2 : tie.Need-returns-2 Inv-loop μ-loop
-returns-2 c =
-    (
-      rw (← c .before .before .before .before .before .before .before .before .before .before .before .before .node-at .ensures) (λ t. every-split (c .before .before .before .before .before .before .before .before .before .before .before .before .before .before .before .before .before .before .before .pre .0) (c .before .before .before .before .before .before .before .before .before .before .before .before .before .before .before .before .before .before .before .pre .1 .1 .0) (c .before .before .before .before .before .before .before .before .before .before .before .before .before .before .before .before .before .before .before .args .choices) (c .before .before .before .before .before .before .before .before .before .before .before .before .before .before .before .before .before .before .before .pre .1 .1 .1 .1 .0 .2) (c .before .before .before .before .before .before .before .before .before .before .before .before .node-at .ensures) (c .before .before .before .before .before .before .before .before .before .before .before .before .before .before .before .before .before .before .before .pre .1 .1 .1 .1 .0 .1) (best-stays _ _ _ _ (c .before .before .before .before .before .before .before .before .before .loop .inv .0) (within (c .before .before .before)) (sym (c .before .before .next-of2 .ensures) ∙ c .enum-told .given .1))),
-      c .before .before .before .before .before .before .is-within .ensures .1,
-    )
+returns-2 c = (
+  rw (← c .before .before .before .before .before .before .before .before .before .before .before .before .node-at .ensures) (λ t. every-split (c .before .before .before .before .before .before .before .before .before .before .before .before .before .before .before .before .before .before .before .pre .0) (c .before .before .before .before .before .before .before .before .before .before .before .before .before .before .before .before .before .before .before .pre .1 .1 .0) (c .before .before .before .before .before .before .before .before .before .before .before .before .before .before .before .before .before .before .before .args .choices) (c .before .before .before .before .before .before .before .before .before .before .before .before .before .before .before .before .before .before .before .pre .1 .1 .1 .1 .0 .2) (c .before .before .before .before .before .before .before .before .before .before .before .before .node-at .ensures) (c .before .before .before .before .before .before .before .before .before .before .before .before .before .before .before .before .before .before .before .pre .1 .1 .1 .1 .0 .1) (best-stays _ _ _ _ (c .before .before .before .before .before .before .before .before .before .loop .inv .0) (within (c .before .before .before)) (sym (c .before .before .next-of2 .ensures) ∙ c .enum-told .given .1))),
+  c .before .before .before .before .before .before .is-within .ensures .1,
+)
 
 loop-less : tie.Need-loop-less Inv-loop μ-loop
 loop-less c = walk-less _ _ _ _ _ (c .before .before .before .before .before .before .before .before .before .before .loop .inv .0 .walk) (sym (c .before .before .before .next-of2 .ensures) ∙ c .before .found .given .1)

@@ -76,8 +76,7 @@ returns-5 : tie.Need-returns-5
 returns-5 c =
     let s = c .before .before .before .before .before .before .before .before .before .before .before .before .before .before .before .before .before .before .before in
     let (low, high) = further (c .before .before .before .before .before) in
-    let w = c .with-none2 .ensures in
-    (
+    let w = c .with-none2 .ensures in (
       rw (w .0, w .1, w .2) (c .before .before .before .before .before .before .before .before .before .before .sweep .ensures .0),
       (
         λ t. reached-split (s .pre .0) (s .pre .1 .1 .0) (reached s) (s .pre .1 .1 .1 .1 .0 .0) (omega arith) high (c .before .before .before .is-split-within .ensures .0 (rw (w .3) at t)),

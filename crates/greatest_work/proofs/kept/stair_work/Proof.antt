@@ -1,6 +1,5 @@
 -- What a stair tells is the work; else it is looked for, and kept.
-use Prim.Native.Nat.{_+_, _<_}
-use mathlib.Core.Path.{_≡_, _∙_, sym}
+use mathlib.Core.Path.{sym}
 use native.Mathlib.Omega.{arith}
 use borrow.Author.Needs.{needs}
 use Rattle.bus_model.specs.declared.Choice.the-variants.{Any}

@@ -1,10 +1,9 @@
 -- No turns have no work; else it is that of a turn from the first instant, so many times.
-use Prim.Native.Nat.{_+_, _*_, _≤_}
-use mathlib.Core.Path.{_≡_, sym, ap, _∙_}
+use Prim.Native.Nat.{_*_, _≤_}
+use mathlib.Core.Path.{sym}
 use native.Mathlib.Omega.{arith}
 use native.Mathlib.Nat.{mul-le-mul, zero-mul}
 use borrow.Author.Needs.{needs}
-use Rattle.bus_model.specs.Bounds.{workAt}
 use Rattle.workload.specs.laws.Groups.{lent-inside, lent-fine, lent-frames, lent-end}
 use Rattle.greatest_work.proofs.kept.turns_work.Statement.{statement}
 use Rattle.greatest_work.proofs.kept.turns_work.Tie as tie

@@ -1,5 +1,4 @@
 -- Each test counts where those before it hold.
-use borrow.Author.Needs.{needs}
 use borrow.Author.Tests.{eq-eqb, ne-eqb, le-leb, lt-leb}
 use Rattle.greatest_work.proofs.stairs.is_on.Statement.{statement}
 use Rattle.greatest_work.proofs.stairs.is_on.Tie as tie

@@ -50,8 +50,8 @@ returns-2 c =
     let p = c .before .before .before .before .place-for .result in
     let inside = c .before .before .before .before .place-for .ensures in
     λ fs k valid is kept.
-      kept-put kept p _ inside
-      (rw (c .widen .ensures) (holds-widened valid (getD (s .args .sums .now) p 0) (s .args .j) (s .args .n) (s .args .work) (kept .stairs p inside) (sym (c .before .before .is-of .ensures) ∙ c .before .if2 .taken) (s .pre .3) is))
+    kept-put kept p _ inside
+    (rw (c .widen .ensures) (holds-widened valid (getD (s .args .sums .now) p 0) (s .args .j) (s .args .n) (s .args .work) (kept .stairs p inside) (sym (c .before .before .is-of .ensures) ∙ c .before .if2 .taken) (s .pre .3) is))
 
 same-length-2 : tie.Need-same-length-2
 same-length-2 c = search needs
@@ -60,9 +60,9 @@ returns-3 : tie.Need-returns-3
 returns-3 c =
     let s = c .before .before .before .before .before .before .before .before in
     λ fs k valid is kept.
-      kept-put kept _ _ (c .before .before .before .before .place-for .ensures)
-      (rw (c .pack .ensures)
-      (holds-packed (s .args .j) (s .pre .3) (s .pre .3) (c .before .before .before .before .before .before .if1 .left) (le-refl (s .args .n)) (λ m low high. let same : m ≡ s .args .n = omega arith in rw same is)))
+    kept-put kept _ _ (c .before .before .before .before .place-for .ensures)
+    (rw (c .pack .ensures)
+    (holds-packed (s .args .j) (s .pre .3) (s .pre .3) (c .before .before .before .before .before .before .if1 .left) (le-refl (s .args .n)) (λ m low high. let same : m ≡ s .args .n = omega arith in rw same is)))
 
 pub keep-spec : {M : Type 1} → statement M
 keep-spec =

@@ -1,6 +1,5 @@
 -- The loop counts up; each place is one of the set's.
 use Prim.Native.Nat.{_-_}
-use native.Mathlib.Omega.{arith}
 use borrow.Author.Needs.{needs}
 use Rattle.greatest_work.proofs.stairs.place_for.Statement.{statement}
 use Rattle.greatest_work.proofs.stairs.place_for.Tie as tie

@@ -1,13 +1,13 @@
 -- The loop goes through the releases up to the window's limit. What is passed is served, listed, or known to be served; those of the
 -- window are among the releases. The measure is how many releases are left.
-use Prim.Native.Nat.{ℕ, _-_, _+_, _*_, _≤_, _<_}
+use Prim.Native.Nat.{_-_, _+_, _*_, _≤_, _<_}
 use mathlib.Core.Path.{_≡_, sym, _∙_}
 use mathlib.Core.List.{List·Memᴰ·not-nil}
 use native.Mathlib.Omega.{arith}
 use native.Mathlib.Nat.{sub-zero}
 use borrow.Author.Needs.{needs}
 use lib.Dec.{eqb→eq}
-use lib.ListN.{length, take}
+use lib.ListN.{length}
 use Rattle.arith.specs.laws.Releases.{count-mono}
 use Rattle.workload.specs.Stored.{stored}
 use Rattle.greatest_work.specs.Kept.{Kept}
@@ -161,9 +161,9 @@ returns-2 c =
       l .inv .0,
       (
         λ t.
-          let none : l .count ≡ 0 = eqb→eq (l .count) 0 t in
-          all-within _ _ _ (s .pre .1 .1 .1 .0 .0) (c .before .before .before .before .before .before .before .before .before .before .before .before .before .before .distance-from .ensures .0) window (omega (arith, c .before .before .before .before .before .before .before .before .before .releases-before .ensures .0, c .loop-test .left, most))
-          (λ i less. l .inv .0 .served i less (rw none (λ m. List·Memᴰ·not-nil m))),
+            let none : l .count ≡ 0 = eqb→eq (l .count) 0 t in
+            all-within _ _ _ (s .pre .1 .1 .1 .0 .0) (c .before .before .before .before .before .before .before .before .before .before .before .before .before .before .distance-from .ensures .0) window (omega (arith, c .before .before .before .before .before .before .before .before .before .releases-before .ensures .0, c .loop-test .left, most))
+            (λ i less. l .inv .0 .served i less (rw none (λ m. List·Memᴰ·not-nil m))),
         l .inv .1,
       ),
     )

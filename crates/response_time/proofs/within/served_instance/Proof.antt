@@ -1,6 +1,5 @@
 -- The instances that the start serves may start there in time.
-use Prim.Native.Nat.{ℕ, _+_, _*_, _≤_}
-use mathlib.Core.Path.{_≡_, sym, _∙_}
+use mathlib.Core.Path.{sym, _∙_}
 use native.Mathlib.Omega.{arith}
 use borrow.Author.Needs.{needs}
 use Rattle.response_time.specs.laws.Within.{latest-start-fits, serves-in-time}
