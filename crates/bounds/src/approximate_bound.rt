@@ -16,7 +16,7 @@ ghost use Rattle.bus_model.specs.theory.Approximate.{approximateFound};
 ghost use Rattle.workload.specs.Stored.{stored};
 ghost use Rattle.workload.specs.Grouped.{Grouped, InTable, FineTable};
 ghost use Rattle.greatest_work.specs.Kept.{Kept};
-ghost use Rattle.response_time.specs.Load.{WindowWithin};
+ghost use Rattle.delay_search.specs.Load.{WindowWithin};
 
 // A length that the window of the scenario does not exceed: the one given, or else the window itself.
 fn limit_of(

@@ -30,7 +30,7 @@ ghost use Rattle.bus_model.specs.theory.Refine.{nodeAt, levels, refined, Level}
 ghost use Rattle.workload.specs.Stored.{stored};
 ghost use Rattle.workload.specs.Grouped.{Grouped, InTable, FineTable};
 ghost use Rattle.greatest_work.specs.Kept.{Kept};
-ghost use Rattle.response_time.specs.Load.{WindowWithin, Left};
+ghost use Rattle.delay_search.specs.Load.{WindowWithin, Left};
 
 // Whether no response exceeds `most` in any scenario with one of the alignments of a level's node.
 fn is_split_within(

@@ -1,14 +1,14 @@
 // The response times of k in a scenario.
-use crate::hints::place_of;
-use crate::hints::remember;
-use crate::search::WINDOW_LIMIT;
-use crate::search::settle;
 use crate::unserved::Unserved;
 use crate::unserved::is_within;
-use crate::within::served_instance;
 use arith::Found;
 use bus_model::Choice;
 use bus_model::Frame;
+use delay_search::WINDOW_LIMIT;
+use delay_search::place_of;
+use delay_search::remember;
+use delay_search::served_instance;
+use delay_search::settle;
 use workload::FRAME;
 use workload::FRAMES;
 use workload::distance_from;
@@ -26,7 +26,7 @@ ghost use Rattle.bus_model.specs.theory.Approximate.{both, scenarioFound};
 ghost use Rattle.workload.specs.Stored.{stored};
 ghost use Rattle.workload.specs.Grouped.{Grouped, InTable, FineTable};
 ghost use Rattle.greatest_work.specs.Kept.{Kept};
-ghost use Rattle.response_time.specs.Load.{WindowWithin, Left};
+ghost use Rattle.delay_search.specs.Load.{WindowWithin, Left};
 
 pub fn bigger(a: u32, b: u32) -> u32
     ensures { λ r. ⌜ r ≡ max a b ⌝ }

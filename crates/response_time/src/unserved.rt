@@ -1,11 +1,11 @@
 // Which instances of a scenario no start is found for that leaves them a response of `most` at the most. Where more nodes are fixed, a start
 // that serves still does: only those that are left need be looked at there.
-use crate::hints::recall;
-use crate::search::is_held;
-use crate::within::served_instance;
 use arith::Found;
 use bus_model::Choice;
 use bus_model::Frame;
+use delay_search::is_held;
+use delay_search::recall;
+use delay_search::served_instance;
 use workload::FRAME;
 use workload::FRAMES;
 use workload::distance_from;
@@ -23,7 +23,7 @@ ghost use Rattle.bus_model.specs.Bounds.{choiceOf, blocking, busyWindow, scenar
 ghost use Rattle.workload.specs.Stored.{stored};
 ghost use Rattle.workload.specs.Grouped.{FineTable, Grouped, InTable};
 ghost use Rattle.greatest_work.specs.Kept.{Kept};
-ghost use Rattle.response_time.specs.Load.{WindowWithin, Left, NotedMore};
+ghost use Rattle.delay_search.specs.Load.{WindowWithin, Left, NotedMore};
 
 // So many instances are listed at the most.
 pub const ROOM: usize = 64;

@@ -68,7 +68,7 @@ fn bound_among(frames: &[u32], k: Frame, i: usize) -> Bounded
     let mut members = [0u8; workload::MEMBERS];
     let mut counts = [0usize; workload::NODES];
     let mut ends = [0u32; workload::NODES];
-    let mut hints = [0u32; response_time::HINTS];
+    let mut hints = [0u32; delay_search::HINTS];
     let mut sums = [0u64; greatest_work::SUMS];
     workload::group(frames, k, &mut members, &mut counts, &mut ends);
     bound_frame(

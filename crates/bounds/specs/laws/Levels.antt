@@ -33,8 +33,8 @@ use Rattle.bus_model.specs.theory.Refine.{refined, free, set-same, nodeAt, leve
 use Rattle.bus_model.specs.theory.Approximate.{both, greatestFound, scenarioFound, approximateFound, found-at, found-counts}
 use Rattle.bus_model.specs.theory.Turns.{turn, firstTurn, refined-turn, split-turn, approximate-turn, visit-first, found-listed, first-listed}
 use Rattle.workload.specs.Grouped.{FineTable, framesIn, instantsIn, Grouped, InTable}
-use Rattle.response_time.specs.Load.{WindowWithin, Left}
-use Rattle.response_time.specs.laws.Within.{left-finer}
+use Rattle.delay_search.specs.Load.{WindowWithin, Left}
+use Rattle.delay_search.specs.laws.Within.{left-finer}
 use Rattle.workload.specs.laws.Groups.{lent, lent-frames}
 
 -- ---- the number of scenarios

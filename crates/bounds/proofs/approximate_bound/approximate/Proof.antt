@@ -15,8 +15,8 @@ use Rattle.bus_model.specs.theory.Approximate.{both, greatestFound, approximate
 use Rattle.bus_model.specs.theory.Turns.{turn, turn-le, visit-first, first-listed, found-listed}
 use Rattle.workload.specs.Stored.{stored}
 use Rattle.greatest_work.specs.Kept.{Kept}
-use Rattle.response_time.specs.laws.Searches.{window-small}
-use Rattle.response_time.specs.laws.Within.{left-all}
+use Rattle.delay_search.specs.laws.Searches.{window-small}
+use Rattle.delay_search.specs.laws.Within.{left-all}
 use Rattle.bounds.specs.laws.Levels.{own-node, ownFound, found-end, free-within, own-found}
 use Rattle.bounds.proofs.approximate_bound.approximate.Statement.{statement}
 use Rattle.bounds.proofs.approximate_bound.approximate.Tie as tie

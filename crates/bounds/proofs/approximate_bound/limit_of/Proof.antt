@@ -2,7 +2,7 @@
 use mathlib.Core.Path.{sym, _∙_}
 use native.Mathlib.Nat.{le-refl}
 use borrow.Author.Needs.{needs}
-use Rattle.response_time.specs.laws.Searches.{window-small}
+use Rattle.delay_search.specs.laws.Searches.{window-small}
 use Rattle.bounds.proofs.approximate_bound.limit_of.Statement.{statement}
 use Rattle.bounds.proofs.approximate_bound.limit_of.Tie as tie
 

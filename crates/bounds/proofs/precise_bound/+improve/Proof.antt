@@ -14,8 +14,8 @@ use Rattle.bus_model.specs.theory.Turns.{turn, turn-le}
 use Rattle.bus_model.specs.theory.Refine.{refined-end}
 use Rattle.workload.specs.Stored.{stored}
 use Rattle.greatest_work.specs.Kept.{Kept}
-use Rattle.response_time.specs.Load.{Left}
-use Rattle.response_time.specs.laws.Within.{left-more}
+use Rattle.delay_search.specs.Load.{Left}
+use Rattle.delay_search.specs.laws.Within.{left-more}
 use Rattle.bounds.specs.laws.Levels.{Reached, Best, best-first, best-more, best-end, best-over, nextLevel, next-levels, at-within, raised-counts, reached-node, reached-next, left-next}
 use Rattle.bounds.proofs.precise_bound.improve.Reads as improve
 use Rattle.bounds.proofs.precise_bound.improve.Kinds as improve-kinds

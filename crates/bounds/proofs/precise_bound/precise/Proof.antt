@@ -10,8 +10,8 @@ use Rattle.bus_model.specs.theory.Turns.{turn, turn-le}
 use Rattle.bus_model.specs.theory.Refine.{free}
 use Rattle.workload.specs.Stored.{stored}
 use Rattle.greatest_work.specs.Kept.{Kept}
-use Rattle.response_time.specs.laws.Searches.{window-zero}
-use Rattle.response_time.specs.laws.Within.{left-all}
+use Rattle.delay_search.specs.laws.Searches.{window-zero}
+use Rattle.delay_search.specs.laws.Within.{left-all}
 use Rattle.bounds.specs.laws.Levels.{Best, best-first, best-more, best-end, nextLevel, own-node, reached-first, precise-levels}
 use Rattle.bounds.proofs.precise_bound.precise.Statement.{statement}
 use Rattle.bounds.proofs.precise_bound.precise.Tie as tie

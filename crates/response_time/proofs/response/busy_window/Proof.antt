@@ -3,7 +3,7 @@ use mathlib.Core.Path.{refl, sym}
 use native.Mathlib.Omega.{arith}
 use borrow.Author.Needs.{needs}
 use Rattle.workload.specs.laws.Groups.{blocking-small}
-use Rattle.response_time.specs.laws.Searches.{window-search}
+use Rattle.delay_search.specs.laws.Searches.{window-search}
 use Rattle.response_time.proofs.response.busy_window.Statement.{statement}
 use Rattle.response_time.proofs.response.busy_window.Tie as tie
 

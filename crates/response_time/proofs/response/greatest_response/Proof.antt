@@ -9,8 +9,8 @@ use lib.ListN.{length}
 use Rattle.workload.specs.Stored.{stored}
 use Rattle.greatest_work.specs.Kept.{Kept}
 use Rattle.workload.specs.laws.Fine.{in-table-fine}
-use Rattle.response_time.specs.laws.Searches.{window-small, Windowed, Turn, turn-start, turn-fits, turn-ends, turn-more, turn-skip, turn-end}
-use Rattle.response_time.specs.laws.Within.{in-time-within}
+use Rattle.delay_search.specs.laws.Searches.{window-small, Windowed, Turn, turn-start, turn-fits, turn-ends, turn-more, turn-skip, turn-end}
+use Rattle.delay_search.specs.laws.Within.{in-time-within}
 use Rattle.response_time.proofs.response.greatest_response.Statement.{statement}
 use Rattle.response_time.proofs.response.greatest_response.Tie as tie
 

@@ -1,7 +1,7 @@
 -- Where no response is found to exceed `most`, that stays the greatest.
 use mathlib.Core.Path.{sym, _∙_}
 use borrow.Author.Needs.{needs}
-use Rattle.response_time.specs.laws.Within.{most-stays}
+use Rattle.delay_search.specs.laws.Within.{most-stays}
 use Rattle.response_time.proofs.response.is_limited.Statement.{statement}
 use Rattle.response_time.proofs.response.is_limited.Tie as tie
 

@@ -3,7 +3,7 @@ use mathlib.Core.Path.{_∙_}
 use native.Mathlib.Omega.{arith}
 use borrow.Author.Needs.{needs}
 use lib.ListN.{length-set}
-use Rattle.response_time.specs.laws.Within.{noted}
+use Rattle.delay_search.specs.laws.Within.{noted}
 use Rattle.response_time.proofs.unserved.note.Statement.{statement}
 use Rattle.response_time.proofs.unserved.note.Tie as tie
 

@@ -12,8 +12,8 @@ use Rattle.arith.specs.laws.Releases.{count-mono}
 use Rattle.workload.specs.Stored.{stored}
 use Rattle.greatest_work.specs.Kept.{Kept}
 use Rattle.workload.specs.laws.Fine.{in-table-fine}
-use Rattle.response_time.specs.Load.{Left}
-use Rattle.response_time.specs.laws.Within.{instance-fits, swept-more, all-within}
+use Rattle.delay_search.specs.Load.{Left}
+use Rattle.delay_search.specs.laws.Within.{instance-fits, swept-more, all-within}
 use Rattle.response_time.proofs.unserved.sweep.Statement.{statement}
 use Rattle.response_time.proofs.unserved.sweep.Tie as tie
 

@@ -4,7 +4,7 @@ use borrow.Author.Needs.{needs}
 use borrow.Author.Tests.{leb-false}
 use Rattle.workload.specs.laws.Fine.{in-table-fine}
 use Rattle.workload.specs.laws.Groups.{blocking-small}
-use Rattle.response_time.specs.laws.Searches.{window-held}
+use Rattle.delay_search.specs.laws.Searches.{window-held}
 use Rattle.response_time.proofs.unserved.window_limit.Statement.{statement}
 use Rattle.response_time.proofs.unserved.window_limit.Tie as tie
 

@@ -1,0 +1,78 @@
+-- Where the work of the frames laid out is held, the measure is how many steps are left.
+use Prim.Native.Nat.{ℕ, _+_, _-_, _*_}
+use mathlib.Core.Path.{ap}
+use native.Mathlib.Omega.{arith}
+use borrow.Author.Needs.{needs}
+use Rattle.delay_search.proofs.within.climb_above.Statement.{statement}
+use Rattle.delay_search.proofs.within.climb_above.Tie as tie
+
+abbrev Inv-loop : tie.InvT-loop
+Inv-loop laid length base from latest x₀ steps₀ x steps = Unit {0}
+
+abbrev μ-loop : tie.MeasureT-loop
+μ-loop laid length base from latest x₀ steps₀ x steps = 16 - steps
+
+loop-holds : tie.Need-loop-holds Inv-loop μ-loop
+loop-holds c = tt
+
+returns : tie.Need-returns Inv-loop μ-loop
+returns c = (λ i less. absurd (omega arith), omega arith)
+
+add-laid-work : tie.Need-add-laid-work Inv-loop μ-loop
+add-laid-work c = omega (arith, c .before .before .before .before .pre .1, c .if1 .left)
+
+laid-work-requires : tie.Need-laid-work-requires Inv-loop μ-loop
+laid-work-requires c κs = (c .before .before .before .before .pre .0, omega (arith, c .before .before .before .before .pre .1, c .if1 .left))
+
+add-needed : tie.Need-add-needed Inv-loop μ-loop
+add-needed c = omega (arith, c .laid-work .ensures .1, c .before .before .before .before .before .pre .1)
+
+cast-if2 : tie.Need-cast-if2 Inv-loop μ-loop
+cast-if2 c = search needs
+
+count-served-requires : tie.Need-count-served-requires Inv-loop μ-loop
+count-served-requires c κs = (c .before .before .before .before .before .before .pre .1 .0, omega (arith, c .before .before .before .before .before .before .pre .1, c .before .before .if1 .left))
+
+returns-2 : tie.Need-returns-2 Inv-loop μ-loop
+returns-2 c =
+    let served = c .count-served .ensures in
+    (λ i less. (c .before .before .before .if1 .left, omega (arith, served .0 i less, c .before .before .laid-work .ensures .0)), served .1)
+
+returns-3 : tie.Need-returns-3 Inv-loop μ-loop
+returns-3 c = (λ i less. absurd (omega arith), omega arith)
+
+cast-x : tie.Need-cast-x Inv-loop μ-loop
+cast-x c = record { fits = omega (arith, c .if3 .left, c .before .before .before .before .before .before .before .pre .1) }
+
+add-steps : tie.Need-add-steps Inv-loop μ-loop
+add-steps c = search needs
+
+loop-less : tie.Need-loop-less Inv-loop μ-loop
+loop-less c = search needs
+
+loop-again : tie.Need-loop-again Inv-loop μ-loop
+loop-again c = tt
+
+returns-4 : tie.Need-returns-4 Inv-loop μ-loop
+returns-4 c = (λ i less. absurd (omega arith), omega arith)
+
+pub climb-above-spec : {M : Type 1} → statement M
+climb-above-spec =
+    tie.close
+    (tie.spec
+    Inv-loop
+    μ-loop
+    loop-holds
+    returns
+    add-laid-work
+    laid-work-requires
+    add-needed
+    cast-if2
+    count-served-requires
+    returns-2
+    returns-3
+    cast-x
+    add-steps
+    loop-less
+    loop-again
+    returns-4)
