@@ -26,7 +26,8 @@ fn cut_product(a: u32, b: u32) -> u32
     }
 }
 
-// The number of scenarios, cut at one more than the limit.
+// The number of scenarios, cut at one more than the limit. Where that is reached, the other nodes, each of which has one alignment at the
+// least, count no more.
 pub fn scenario_count(
     frames: &[u32],
     members: &[u8],
@@ -41,6 +42,9 @@ pub fn scenario_count(
     let mut product: u32 = 1;
     let mut j = 0;
     while j < NODES {
+        if SCENARIO_LIMIT < product {
+            return product;
+        }
         let from = GROUP * j;
         let to = from + counts[j];
         let end = common_multiple(frames, k, (j + 1) as u32, true);

@@ -2,10 +2,10 @@
 -- and the choices of a search that goes one level on.
 use Prim.Native.Nat.{ℕ, _+_, _-_, _≤_, _<_, max}
 use mathlib.Core.Path.{_≡_, refl, sym, ap, subst, _∙_}
-use mathlib.Core.List.{List, [], List·Memᴰ as Mem}
+use mathlib.Core.List.{List, [], _∷_, List·Memᴰ as Mem}
 use mathlib.Core.Bool.{Bool, false}
 use native.Mathlib.Omega.{arith}
-use native.Mathlib.Nat.{le-refl}
+use native.Mathlib.Nat.{le-refl, mul-pos}
 use native.Mathlib.Numerals.{add-one}
 use lib.Dec.{T, lit<}
 use lib.ListN.{length, set}
@@ -50,6 +50,18 @@ unfolding scenarioCount alignments
 counts-product {fs} {k} grouped =
     product-shift _ (λ j. length (orEmpty (alignments fs k j))) 0 16
     (λ i low high. ap (λ (instants : List ℕ). length (orEmpty instants)) (rw (lent-frames grouped i (omega arith), add-one i)))
+
+-- Each is at least 1.
+some-alignment : (xs : List ℕ) → 1 ≤ length (orEmpty xs)
+unfolding orEmpty
+some-alignment [] = omega arith
+some-alignment (x ∷ xs) = omega arith
+
+-- So is the product over some nodes.
+pub counts-some : (fs : List Frame) (members counts js : List ℕ) → 1 ≤ product (countAt fs members counts) js
+unfolding product
+counts-some fs members counts [] = omega arith
+counts-some fs members counts (j ∷ js) = mul-pos (some-alignment _) (counts-some fs members counts js)
 
 -- ---- the approximate bound, as a loop finds it
 

@@ -1,4 +1,4 @@
--- The invariant has the product over the nodes that are passed, cut after each.
+-- The invariant has the product over the nodes that are passed, cut after each; the others make it no less.
 use Prim.Native.Nat.{ℕ, _+_, _-_, _*_, _≤_, min}
 use mathlib.Core.Path.{_≡_, refl, ap, _∙_}
 use native.Mathlib.Omega.{arith}
@@ -9,7 +9,7 @@ use Rattle.arith.specs.laws.Walks.{CountUp, count-start, count-more, count-end,
 use Rattle.bus_model.specs.Pattern.{ofNode, hyperperiod}
 use Rattle.workload.specs.Stored.{stored}
 use Rattle.workload.specs.laws.Groups.{lent-inside, lent-fine, counted-whole}
-use Rattle.bounds.specs.laws.Levels.{countAt, counts-product}
+use Rattle.bounds.specs.laws.Levels.{countAt, counts-product, counts-some}
 use Rattle.bounds.proofs.count.scenario_count.Statement.{statement}
 use Rattle.bounds.proofs.count.scenario_count.Tie as tie
 
@@ -32,6 +32,15 @@ inside c = lent-inside (c .before .before .before .before .before .before .pre .
 loop-holds : tie.Need-loop-holds Inv-loop μ-loop
 loop-holds c = (omega arith, count-start _ cut _ _ refl)
 
+returns : tie.Need-returns Inv-loop μ-loop
+returns c =
+    let s = c .before .before .before .before .before .before .before in
+    let l = c .before .before .loop in
+    let rest = counts-some (stored (s .args .frames .now)) (s .args .members .now) (s .args .counts .now) (range (l .j) (16 - l .j)) in
+    let full : l .product ≡ 65537 = omega (arith, l .inv .0, c .if1 .taken) in
+    let is = rw full at (l .inv .1 .is) in
+    omega (arith, full, is, rest, counts-product (s .pre .1))
+
 mul-from : tie.Need-mul-from Inv-loop μ-loop
 mul-from c = search needs
 
@@ -42,7 +51,7 @@ shared-slice-read-to : tie.Need-shared-slice-read-to Inv-loop μ-loop
 shared-slice-read-to c = search needs
 
 add-to : tie.Need-add-to Inv-loop μ-loop
-add-to c = omega (arith, inside (c .before), c .before .before .before .before .before .before .before .pre .1 .members-size)
+add-to c = omega (arith, inside (c .before .before), c .before .before .before .before .before .before .before .before .pre .1 .members-size)
 
 add-common-multiple : tie.Need-add-common-multiple Inv-loop μ-loop
 add-common-multiple c = search needs
@@ -51,10 +60,10 @@ cast-common-multiple : tie.Need-cast-common-multiple Inv-loop μ-loop
 cast-common-multiple c = search needs
 
 common-multiple-requires : tie.Need-common-multiple-requires Inv-loop μ-loop
-common-multiple-requires c κs = (c .before .before .before .before .before .before .before .pre .0, (omega arith, omega (arith, c .before .loop-test .taken)))
+common-multiple-requires c κs = (c .before .before .before .before .before .before .before .before .pre .0, (omega arith, omega (arith, c .before .before .loop-test .taken)))
 
 -- the end is the node's hyperperiod
-whole : (c : tie.After-common-multiple Inv-loop μ-loop) → c .common-multiple .result ≡ hyperperiod (ofNode (stored (c .before .before .before .before .before .before .before .before .args .frames .now)) (c .before .before .before .loop .j + 1))
+whole : (c : tie.After-common-multiple Inv-loop μ-loop) → c .common-multiple .result ≡ hyperperiod (ofNode (stored (c .before .before .before .before .before .before .before .before .before .args .frames .now)) (c .before .before .before .before .loop .j + 1))
 whole c = c .common-multiple .ensures ∙ counted-whole _ _ _
 
 sub-count-alignments : tie.Need-sub-count-alignments Inv-loop μ-loop
@@ -64,12 +73,12 @@ part-count-alignments-start : tie.Need-part-count-alignments-start Inv-loop μ-l
 part-count-alignments-start c = search needs
 
 part-count-alignments-end : tie.Need-part-count-alignments-end Inv-loop μ-loop
-part-count-alignments-end c = inside (c .before .before)
+part-count-alignments-end c = inside (c .before .before .before)
 
 count-alignments-requires : tie.Need-count-alignments-requires Inv-loop μ-loop
 count-alignments-requires c κs =
-    let p = c .before .before .before .before .before .before .before .before .before .pre in
-    (lent-fine (p .1) (c .before .before .before .before .loop .j) (c .before .before .before .loop-test .taken) (p .0) .0, rw (whole (c .before)) (p .0 .hyper (c .before .before .before .before .loop .j + 1) (omega arith) (omega (arith, c .before .before .before .loop-test .taken))))
+    let p = c .before .before .before .before .before .before .before .before .before .before .pre in
+    (lent-fine (p .1) (c .before .before .before .before .before .loop .j) (c .before .before .before .before .loop-test .taken) (p .0) .0, rw (whole (c .before)) (p .0 .hyper (c .before .before .before .before .before .loop .j + 1) (omega arith) (omega (arith, c .before .before .before .before .loop-test .taken))))
 
 cut-product-requires : tie.Need-cut-product-requires Inv-loop μ-loop
 cut-product-requires c κs = search needs
@@ -82,16 +91,16 @@ loop-less c = search needs
 
 loop-again : tie.Need-loop-again Inv-loop μ-loop
 loop-again c =
-    let l = c .before .before .before .before .before .before .loop in
+    let l = c .before .before .before .before .before .before .before .loop in
     let count = rw (whole (c .before .before .before)) at (c .before .count-alignments .ensures .0) in
     let next = c .cut-product .ensures in (
       omega arith,
-      count-more _ cut _ _ (l .inv .1) (c .before .before .before .before .before .loop-test .taken) (product-more _ 65537 (l .product) (l .j) (next ∙ ap (cut (l .product)) count)),
+      count-more _ cut _ _ (l .inv .1) (c .before .before .before .before .before .before .loop-test .taken) (product-more _ 65537 (l .product) (l .j) (next ∙ ap (cut (l .product)) count)),
     )
 
-returns : tie.Need-returns Inv-loop μ-loop
+returns-2 : tie.Need-returns-2 Inv-loop μ-loop
 unfolding product
-returns c =
+returns-2 c =
     let s = c .before .before .before .before .before .before in
     let l = c .before .loop in
     omega (arith, l .inv .0, count-end _ cut _ _ (l .inv .1) (omega (arith, c .loop-test .left)), counts-product (s .pre .1))
@@ -103,6 +112,7 @@ scenario-count-spec =
     Inv-loop
     μ-loop
     loop-holds
+    returns
     mul-from
     mul-to
     shared-slice-read-to
@@ -118,4 +128,4 @@ scenario-count-spec =
     add-j
     loop-less
     loop-again
-    returns)
+    returns-2)

@@ -1,5 +1,3 @@
-use mathlib.Core.Path.{refl}
-use borrow.Author.Needs.{needs}
 use native.Mathlib.Omega.{arith}
 use Rattle.delay_search.specs.Load.{shiftOf}
 use Rattle.delay_search.proofs.search.shift_of.Statement.{statement}

@@ -1,6 +1,5 @@
 -- Where the work of the frames laid out is held, the measure is how many steps are left.
-use Prim.Native.Nat.{ℕ, _+_, _-_, _*_}
-use mathlib.Core.Path.{ap}
+use Prim.Native.Nat.{_-_}
 use native.Mathlib.Omega.{arith}
 use borrow.Author.Needs.{needs}
 use Rattle.delay_search.proofs.within.climb_above.Statement.{statement}

@@ -1,5 +1,4 @@
 -- What is found is looked at once more, to tell how many instances it serves.
-use mathlib.Core.Path.{_∙_, sym}
 use native.Mathlib.Omega.{arith}
 use borrow.Author.Needs.{needs}
 use Rattle.delay_search.proofs.within.served_late.Statement.{statement}
