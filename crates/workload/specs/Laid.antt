@@ -22,9 +22,12 @@ unfoldable pub firstRelease : Choice → Frame → ℕ
 firstRelease (Fixed a) g = distance g a
 firstRelease Any g = 0
 
--- the frame as it is laid out
+-- the frame as it is laid out by its node's choice
+abbrev pub laidBy : Choice → Frame → Frame
+laidBy choice g = record { node = g .node; priority = 0; length = g .length; period = g .period; offset = firstRelease choice g }
+
 unfoldable pub laidFrame : List Choice → Frame → Frame
-laidFrame cs g = record { node = g .node; priority = 0; length = g .length; period = g .period; offset = firstRelease (choiceOf cs (g .node)) g }
+laidFrame cs g = laidBy (choiceOf cs (g .node)) g
 
 -- all of them
 abbrev pub laidOut : List Frame → Frame → Bool → List Choice → List Frame

@@ -13,7 +13,7 @@ ghost use Prim.Native.Nat.{_*_, _≤_};
 ghost use lib.ListN.{length, take};
 ghost use Rattle.workload.specs.Stored.{stored};
 ghost use Rattle.workload.specs.Grouped.{Fine, FineTable};
-ghost use Rattle.workload.specs.Laid.{isLoad, firstRelease, laidFrame, laidOut, laidWork, FineFrames};
+ghost use Rattle.workload.specs.Laid.{isLoad, firstRelease, laidBy, laidOut, laidWork, FineFrames};
 
 // Whether a frame loads a start of k, where `delay` is set, or else its busy window.
 fn is_load(g: Frame, k: Frame, delay: bool) -> bool
@@ -37,13 +37,11 @@ fn first_release(g: Frame, choice: Choice, inverse: u32) -> u32
     }
 }
 
-// The frame as it is laid out; its priority matters no more.
-fn laid_frame(g: Frame, choices: [Choice; 16], inverse: u32) -> Frame
+// The frame as it is laid out by its node's choice; its priority matters no more.
+fn laid_frame(g: Frame, choice: Choice, inverse: u32) -> Frame
     requires { ⌜ Fine g ⌝ }
-    ensures { λ r. ⌜ r ≡ laidFrame choices g ⌝ }
+    ensures { λ r. ⌜ r ≡ laidBy choice g ⌝ }
 {
-    let at = (g.node - 1) as usize;
-    let choice = choices[at];
     Frame {
         node: g.node,
         priority: 0,
@@ -73,7 +71,9 @@ pub fn lay_out(
         let g = frame_at(frames, i);
         if is_load(g, k, delay) {
             let inverse = inverse_at(frames, i);
-            put_with(area, found, laid_frame(g, choices, inverse), inverse);
+            let at = (g.node - 1) as usize;
+            let choice = choices[at];
+            put_with(area, found, laid_frame(g, choice, inverse), inverse);
             found += 1;
         }
         i += 1;

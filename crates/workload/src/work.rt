@@ -3,7 +3,7 @@ use crate::stored::frame_at;
 use crate::stored::inverse_at;
 use bus_model::Frame;
 ghost use mathlib.Core.Path.{_≡_};
-ghost use Prim.Native.Nat.{_*_, _/_, _≤_, _<_};
+ghost use Prim.Native.Nat.{_-_, _*_, _/_, _≤_, _<_, min};
 ghost use Rattle.arith.specs.Releases.{releasesBefore};
 ghost use Rattle.bus_model.specs.Bounds.{distance, demand, workAt};
 ghost use Rattle.workload.specs.Stored.{stored};
@@ -32,17 +32,21 @@ pub fn quotient(x: u32, p: u32, inverse: u32) -> u32
     x / p
 }
 
-// How many of d, d + p, d + 2p, .. are below n.
+// 1 where d is below n, and 0 elsewhere.
+fn counts_below(d: u32, n: u32) -> u32
+    ensures { λ r. ⌜ r ≡ min 1 (n - d) ⌝ }
+{
+    if d < n { 1 } else { 0 }
+}
+
+// How many of d, d + p, d + 2p, .. are below n. Mostly it is one at the most, and whether it is one is left to no branch.
 pub fn releases_before(d: u32, p: u32, n: u32, inverse: u32) -> u32
     requires { ⌜ (1 ≤ p) × (p ≤ 1000000) × (n ≤ 1000001) ⌝ }
     ensures { λ r. ⌜ r ≡ releasesBefore d p n ⌝ }
     ensures small { λ r. ⌜ r ≤ n ⌝ }
 {
-    if n <= d {
-        return 0;
-    }
-    if n - d <= p {
-        return 1;
+    if n as u64 <= d as u64 + p as u64 {
+        return counts_below(d, n);
     }
     quotient(n - d + (p - 1), p, inverse)
 }

@@ -1,5 +1,5 @@
 -- Frames laid out: their work is that of the scenario, or a bound of it where a node is open; and the loop that lays them out.
-use Prim.Native.Nat.{ℕ, suc, _+_, _*_, _≤_, _<_}
+use Prim.Native.Nat.{ℕ, suc, _+_, _-_, _*_, _≤_, _<_}
 use mathlib.Core.Path.{_≡_, refl, sym, ap, _∙_}
 use mathlib.Core.List.{List, [], _∷_, map, List·Memᴰ as Mem, List·Memᴰ·head as here, List·Memᴰ·tail as there}
 use mathlib.Core.Bool.{Bool, true, false, cond}
@@ -14,7 +14,7 @@ use lib.Seq.{drop-cons}
 use Rattle.arith.specs.Lists.{sum, keep, range}
 use Rattle.arith.specs.Releases.{releasesBefore}
 use Rattle.arith.specs.laws.Tests.{cond-yes, cond-no, cond-cases}
-use Rattle.arith.specs.laws.Members.{of-keep, of-map, list-places}
+use Rattle.arith.specs.laws.Members.{getD-within, of-keep, of-map, list-places}
 use Rattle.arith.specs.laws.Sums.{sum-le, sum-same, sum-keep, sum-at, greatest-le}
 use Rattle.arith.specs.laws.Releases.{count-mono, count-later}
 use Rattle.bus_model.specs.declared.Frame.{Frame}
@@ -27,7 +27,7 @@ use Rattle.bus_model.specs.theory.Frames.{of-node}
 use Rattle.bus_model.specs.theory.Alignment.{distance-lt}
 use Rattle.workload.specs.Stored.{stored, putAt}
 use Rattle.workload.specs.Grouped.{Fine, FineTable}
-use Rattle.workload.specs.Laid.{isLoad, firstRelease, laidFrame, laidOut, laidDemand, laidWork, AllFixed, FineFrames}
+use Rattle.workload.specs.Laid.{isLoad, firstRelease, laidBy, laidFrame, laidOut, laidDemand, laidWork, AllFixed, FineFrames}
 use Rattle.workload.specs.laws.Fine.{member-fine, of-fine}
 use Rattle.workload.specs.laws.Stored.{StoredTo, put-more, stored-all}
 
@@ -178,6 +178,11 @@ module _ {A : Type 0} (d : A) (xs : List A) (m : ℕ) {y : A} {ys : List A} (lef
 
   others-left : drop (suc m) xs ≡ ys
   others-left = ap (drop 1) parts
+
+-- A frame is laid out by the choice that stands at its node's place.
+pub laid-choice : {g : Frame} → Fine g → (cs : List Choice) (beyond : Choice) → length cs ≡ nodes → laidBy (getD cs (g .node - 1) beyond) g ≡ laidFrame cs g
+unfolding laidFrame
+laid-choice {g} fine cs beyond long = ap (λ (choice : Choice). laidBy choice g) (getD-within cs (g .node - 1) beyond Any (omega (arith, fine .node-low, fine .node-high)))
 
 module _ {fs : List Frame} {k : Frame} {delay : Bool} {cs : List Choice} {area : List ℕ} where
   -- At first none is.

@@ -6,17 +6,19 @@ use native.Mathlib.Omega.{arith}
 use borrow.Author.Needs.{needs}
 use lib.Dec.{lit<}
 use lib.ListN.{length}
+use Rattle.bus_model.specs.Bounds.{nodes}
 use Rattle.workload.specs.Stored.{stored}
+use Rattle.workload.specs.Grouped.{Fine}
 use Rattle.workload.specs.Laid.{laidFrame}
-use Rattle.workload.specs.laws.Laid.{LaidTo, lay-none, lay-put, lay-skip, lay-all}
+use Rattle.workload.specs.laws.Laid.{laid-choice, LaidTo, lay-none, lay-put, lay-skip, lay-all}
 use Rattle.workload.proofs.laid.lay_out.Statement.{statement}
 use Rattle.workload.proofs.laid.lay_out.Tie as tie
 
 abbrev Inv-loop : tie.InvT-loop
-Inv-loop frames k delay choices area₀ all found₀ i₀ area found i = LaidTo (stored frames) k delay choices area found i × (all ≡ length (stored frames))
+Inv-loop frames k delay area₀ choices all found₀ i₀ area found i = LaidTo (stored frames) k delay choices area found i × (all ≡ length (stored frames))
 
 abbrev μ-loop : tie.MeasureT-loop
-μ-loop frames k delay choices area₀ all found₀ i₀ area found i = all - i
+μ-loop frames k delay area₀ choices all found₀ i₀ area found i = all - i
 
 count-requires : tie.Need-count-requires Inv-loop μ-loop
 count-requires c κs = search needs
@@ -37,8 +39,28 @@ inverse-at-requires c κs = search needs
 inside : (c : tie.After-frame-at Inv-loop μ-loop) → c .before .before .loop .i < length (stored (c .before .before .before .before .before .before .args .frames .now))
 inside c = omega (arith, c .before .before .loop .inv .1, c .before .loop-test .taken)
 
+-- its frame is within the limits
+fine : (c : tie.After-frame-at Inv-loop μ-loop) → Fine (c .frame-at .result)
+fine c = rw (c .frame-at .ensures) (c .before .before .before .before .before .before .pre .0 .fine (c .before .before .loop .i) (inside c))
+
+-- the choices are as many as the nodes
+size : (c : tie.After-frame-at Inv-loop μ-loop) → length (c .before .before .before .before .before .before .args .t4) ≡ nodes
+size c = search needs
+
+sub-at : tie.Need-sub-at Inv-loop μ-loop
+sub-at c = omega (arith, fine (c .before .before .before .before) .node-low)
+
+cast-at : tie.Need-cast-at Inv-loop μ-loop
+cast-at c = search needs
+
+mul-choice : tie.Need-mul-choice Inv-loop μ-loop
+mul-choice c = search needs
+
+array-copy-out-choice : tie.Need-array-copy-out-choice Inv-loop μ-loop
+array-copy-out-choice c = omega (arith, fine (c .before .before .before .before) .node-low, fine (c .before .before .before .before) .node-high)
+
 laid-frame-requires : tie.Need-laid-frame-requires Inv-loop μ-loop
-laid-frame-requires c κs = rw (c .before .before .before .before .frame-at .ensures) (c .before .before .before .before .before .before .before .before .before .before .pre .0 .fine (c .before .before .before .before .before .before .loop .i) (inside (c .before .before .before .before)))
+laid-frame-requires c κs = fine (c .before .before .before .before .before .before)
 
 -- and there is room for its frame
 room : (c : tie.After-frame-at Inv-loop μ-loop) → c .before .before .loop .found < 64
@@ -47,9 +69,9 @@ room c = omega (arith, c .before .before .loop .inv .0 .few, inside c, c .before
 put-with-requires : tie.Need-put-with-requires Inv-loop μ-loop
 unfolding laidFrame
 put-with-requires c κs =
-    let l = c .before .before .before .before .before .before .before .loop in
-    let s = c .before .before .before .before .before .before .before .before .before .before .before in
-    (omega (arith, l .inv .0 .put .size, room (c .before .before .before .before .before)), omega (arith, l .inv .0 .put .size), rw (c .laid-frame .ensures) (lit< tt))
+    let l = c .before .before .before .before .before .before .before .before .before .loop in
+    let s = c .before .before .before .before .before .before .before .before .before .before .before .before .before in
+    (omega (arith, l .inv .0 .put .size, room (c .before .before .before .before .before .before .before)), omega (arith, l .inv .0 .put .size), rw (c .laid-frame .ensures) (lit< tt))
 
 add-found : tie.Need-add-found Inv-loop μ-loop
 add-found c = search needs
@@ -65,7 +87,7 @@ loop-again c =
     let f = c .before .before in
     let l = c .before .before .before .before .loop in (
       ⊎-elim
-          (λ w. lay-put (l .inv .0) (inside f) (c .before .before .frame-at .ensures) (c .before .is-load .ensures) (room f) (w .0 .taken) (w .3 .ensures) (_, w .7 ∙ w .4 .ensures) (w .8))
+          (λ w. lay-put (l .inv .0) (inside f) (c .before .before .frame-at .ensures) (c .before .is-load .ensures) (room f) (w .0 .taken) (w .5 .ensures ∙ laid-choice (fine f) _ _ (size f)) (_, w .9 ∙ w .6 .ensures) (w .10))
           (λ w. lay-skip (l .inv .0) (inside f) (c .before .before .frame-at .ensures) (c .before .is-load .ensures) (w .0 .left) (w .1) (w .2))
           (c .if1 .came),
       l .inv .1,
@@ -88,6 +110,10 @@ lay-out-spec =
     frame-at-requires
     is-load-requires
     inverse-at-requires
+    sub-at
+    cast-at
+    mul-choice
+    array-copy-out-choice
     laid-frame-requires
     put-with-requires
     add-found

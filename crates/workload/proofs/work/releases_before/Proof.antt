@@ -2,26 +2,31 @@
 use mathlib.Core.Path.{_≡_}
 use native.Mathlib.Omega.{arith}
 use borrow.Author.Needs.{needs}
+use borrow.Author.Tests.{leb-true, leb-false}
+use lib.Dec.{leb}
 use Rattle.arith.specs.Releases.{releasesBefore}
 use Rattle.arith.specs.laws.Releases.{count-le, count-small, counted}
+use Rattle.arith.specs.laws.Tests.{by-test}
 use Rattle.workload.proofs.work.releases_before.Statement.{statement}
 use Rattle.workload.proofs.work.releases_before.Tie as tie
 
+add-if1 : tie.Need-add-if1
+add-if1 c = search needs
+
+counts-below-requires : tie.Need-counts-below-requires
+counts-below-requires c κs = search needs
+
 returns : tie.Need-returns
 returns c =
-    let s = c .before in
-    let none = count-le (s .args .d) (s .pre .0) (s .args .n) 0 (omega (arith, c .if1 .taken)) in
-    (omega arith, omega arith)
-
-sub-if2 : tie.Need-sub-if2
-sub-if2 c = search needs
-
-returns-2 : tie.Need-returns-2
-returns-2 c =
     let s = c .before .before in
-    let most = count-le (s .args .d) (s .pre .0) (s .args .n) 1 (omega (arith, c .if2 .taken)) in
-    let some = counted (s .args .d) (s .pre .0) (s .args .n) 0 .1 (omega (arith, c .before .if1 .left)) in
-    (omega arith, omega (arith, c .before .if1 .left))
+    let is = c .counts-below .ensures in
+    let d = s .args .d in
+    let n = s .args .n in
+    let most = count-le d (s .pre .0) n 1 (omega (arith, c .before .if1 .taken)) in
+    by-test
+    (leb n d)
+    (λ h. let le = leb-true n d h in let none = count-le d (s .pre .0) n 0 (omega arith) in (omega arith, omega arith))
+    (λ h. let gt = leb-false n d h in let some = counted d (s .pre .0) n 0 .1 (omega arith) in (omega arith, omega arith))
 
 sub-quotient : tie.Need-sub-quotient
 sub-quotient c = search needs
@@ -35,13 +40,22 @@ add-quotient c = search needs
 quotient-requires : tie.Need-quotient-requires
 quotient-requires c κs = search needs
 
-returns-3 : tie.Need-returns-3
+returns-2 : tie.Need-returns-2
 unfolding releasesBefore
-returns-3 c =
-    let s = c .before .before .before in
+returns-2 c =
+    let s = c .before .before in
     let is : c .quotient .result ≡ releasesBefore (s .args .d) (s .args .p) (s .args .n) = c .quotient .ensures in
     (is, rw is (count-small (s .args .d) (s .pre .0) (s .args .n)))
 
 pub releases-before-spec : {M : Type 1} → statement M
 releases-before-spec =
-    tie.close (tie.spec returns sub-if2 returns-2 sub-quotient sub-quotient-2 add-quotient quotient-requires returns-3)
+    tie.close
+    (tie.spec
+    add-if1
+    counts-below-requires
+    returns
+    sub-quotient
+    sub-quotient-2
+    add-quotient
+    quotient-requires
+    returns-2)
