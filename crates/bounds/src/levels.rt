@@ -9,10 +9,10 @@ use workload::NODES;
 use workload::frame_at;
 use workload::index;
 ghost use mathlib.Core.Path.{_≡_};
-ghost use Prim.Native.Nat.{_-_, _≤_, _<_};
+ghost use Prim.Native.Nat.{_+_, _-_, _≤_, _<_};
 ghost use lib.ListN.{set};
 ghost use Rattle.arith.specs.Lists.{sum};
-ghost use Rattle.arith.specs.Least.{least};
+ghost use Rattle.arith.specs.Least.{least, isNone};
 ghost use Rattle.bus_model.specs.declared.Choice.the-variants.{Fixed};
 ghost use Rattle.bus_model.specs.theory.Refine.{nodeAt};
 ghost use Rattle.bus_model.specs.theory.Visits.{isAlignment};
@@ -67,9 +67,8 @@ pub fn next_of(
     next_alignment(frames, &members[from..to], after, ends[at])
 }
 
-// Whether node j has an alignment after a. Where its first has none after it, nothing is left to choose at its level: that saves
-// looks, and nothing depends on it.
-pub fn has_later(
+// Whether node j has no alignment after a, in the first turn. Where that is its first, nothing is left to choose at its level.
+pub fn is_last(
     frames: &[u32],
     members: &[u8],
     counts: &[usize],
@@ -81,11 +80,12 @@ pub fn has_later(
     requires { ⌜ FineTable (stored (now frames)) ⌝ }
     requires { ⌜ Grouped (stored (now frames)) k (now members) (now counts) (now ends) ⌝ }
     requires { ⌜ (1 ≤ j) × (j ≤ 16) × (a < turn (stored (now frames)) k j) ⌝ }
+    ensures { λ r. ⌜ r ≡ isNone (least (isAlignment (stored (now (frames .entry))) k j) (turn (stored (now (frames .entry))) k j - (a + 1)) (a + 1)) ⌝ }
 {
     let found = next_of(frames, members, counts, ends, k, j, a + 1);
     match found {
-        Found::At(_) => true,
-        Found::Nothing => false,
+        Found::At(_) => false,
+        Found::Nothing => true,
     }
 }
 
@@ -110,7 +110,7 @@ fn weight(frames: &[u32], members: &[u8], counts: &[usize], ends: &[u32], k: Fra
     requires { ⌜ (1 ≤ j) × (j ≤ 16) ⌝ }
 {
     let first = or_zero(next_of(frames, members, counts, ends, k, j, 0));
-    if !has_later(frames, members, counts, ends, k, j, first) {
+    if is_last(frames, members, counts, ends, k, j, first) {
         return 0;
     }
     let at = j - 1;

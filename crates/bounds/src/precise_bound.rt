@@ -1,6 +1,6 @@
 // The precise bound: the greatest response over scenarios, and which of them need not be searched.
-use crate::levels::has_later;
 use crate::levels::heaviest;
+use crate::levels::is_last;
 use crate::levels::next_of;
 use crate::levels::node_at;
 use crate::levels::with_choice;
@@ -173,8 +173,8 @@ fn left_over(
 }
 
 // The greatest of `best` and the responses where the nodes of the levels from `level` on take each of their
-// alignments. What is ruled out by the greatest so far is not refined further; where that has risen, it is asked again. It is not
-// asked at a level with one alignment: the next one would be asked the same.
+// alignments. What is ruled out by the greatest so far is not refined further; where that has risen, it is asked again. A level with one
+// alignment hands on what it was given: the next one would be asked the same.
 fn improve(
     frames: &[u32],
     members: &[u8],
@@ -222,9 +222,30 @@ fn improve(
         ));
     }
     let j = node_at(k, level);
+    let first = or_zero(next_of(frames, members, counts, ends, k, j, 0));
+    let below = level + 1;
+    if is_last(frames, members, counts, ends, k, j, first) {
+        return improve(
+            frames,
+            members,
+            counts,
+            ends,
+            k,
+            with_choice(choices, j, first),
+            own,
+            blocked,
+            limit,
+            below,
+            best,
+            heavy,
+            known,
+            hints,
+            sums,
+        );
+    }
     let mut most = best;
-    let mut a = or_zero(next_of(frames, members, counts, ends, k, j, 0));
-    let mut asked = has_later(frames, members, counts, ends, k, j, a);
+    let mut a = first;
+    let mut asked = true;
     let mut left = known;
     loop {
         left = left_over(
@@ -259,7 +280,7 @@ fn improve(
             own,
             blocked,
             limit,
-            level + 1,
+            below,
             most,
             heavy,
             left,

@@ -60,6 +60,12 @@ pub none-at : {m : ℕ} → Nothing ≡ At m → ⊥
 unfolding isNone
 none-at is = subst (λ (r : Found). T (isNone r)) is tt
 
+-- It is nothing where the test for it passes.
+pub is-none : (r : Found) → isNone r ≡ true → r ≡ Nothing
+unfolding isNone
+is-none (At m) e = let z : _≡_ {A = ℕ} 0 1 = cc in absurd (omega arith)
+is-none Nothing e = refl
+
 -- A search finds a number, or its test for none passes.
 pub not-none : (r : Found) → ¬ T (isNone r) → (l : ℕ) × (r ≡ At l)
 unfolding isNone

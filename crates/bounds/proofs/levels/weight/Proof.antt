@@ -13,8 +13,8 @@ next-of-requires c κs = search needs
 or-zero-requires : tie.Need-or-zero-requires
 or-zero-requires c κs = search needs
 
-has-later-requires : tie.Need-has-later-requires
-has-later-requires c κs =
+is-last-requires : tie.Need-is-last-requires
+is-last-requires c κs =
     let p = c .before .before .before .before .before .before .pre in
     (p .0, (p .1 .0, (p .1 .1 .0, p .1 .1 .1, best-first _ _ _ (λ a. 0) (p .0 .valid) {from = 0} (c .before .next-of .result) (c .before .next-of .ensures) (c .or-zero .ensures) .walk .inside)))
 
@@ -57,7 +57,7 @@ weight-spec =
     (tie.spec
     next-of-requires
     or-zero-requires
-    has-later-requires
+    is-last-requires
     returns
     sub-at
     mul-from

@@ -1,17 +1,22 @@
 -- The loop has the greatest response over the alignments of the level's node that are visited, each the start of a search from the next level on;
 -- what is left out has no response above the greatest.
-use Prim.Native.Nat.{ℕ, _-_, _≤_, _<_, max}
+use Prim.Native.Nat.{ℕ, _+_, _-_, _≤_, _<_, max}
 use mathlib.Core.Path.{_≡_, refl, sym, ap, _∙_}
 use native.Mathlib.Omega.{arith}
 use borrow.Author.Needs.{needs}
 use borrow.Fn.Kinds.{In}
 use borrow.Fn.PlainCycle.{Measures, is, falls, and}
-use lib.ListN.{length}
+use mathlib.Core.List.{List, List·Memᴰ as Mem}
+use lib.ListN.{length, set}
+use Rattle.arith.specs.Lists.{greatest}
 use Rattle.arith.specs.Least.{orZero}
+use Rattle.arith.specs.laws.Least.{is-none}
 use Rattle.arith.specs.laws.Walks.{walk-less}
-use Rattle.bus_model.specs.Bounds.{nodes}
-use Rattle.bus_model.specs.theory.Turns.{turn, turn-le}
-use Rattle.bus_model.specs.theory.Refine.{refined-end}
+use Rattle.bus_model.specs.declared.Choice.{Choice}
+use Rattle.bus_model.specs.declared.Choice.the-variants.{Fixed}
+use Rattle.bus_model.specs.Bounds.{nodes, alignments, orEmpty}
+use Rattle.bus_model.specs.theory.Turns.{turn, firstTurn, turn-le}
+use Rattle.bus_model.specs.theory.Refine.{levels, refined, refined-end}
 use Rattle.workload.specs.Stored.{stored}
 use Rattle.greatest_work.specs.Kept.{Kept}
 use Rattle.delay_search.specs.Load.{Left}
@@ -21,7 +26,7 @@ use Rattle.bounds.proofs.precise_bound.improve.Reads as improve
 use Rattle.bounds.proofs.precise_bound.improve.Kinds as improve-kinds
 use Rattle.bounds.proofs.precise_bound.+improve.Lts-improve as improve-lts
 use Rattle.bounds.proofs.precise_bound.left_over.Reads as left-over-reads
-use Rattle.bounds.proofs.levels.has_later.Reads as has-later-reads
+use Rattle.bounds.proofs.levels.is_last.Reads as is-last-reads
 use Rattle.bounds.proofs.levels.next_of.Reads as next-of-reads
 use Rattle.bounds.proofs.levels.node_at.Reads as node-at-reads
 use Rattle.bounds.proofs.levels.with_choice.Reads as with-choice-reads
@@ -49,23 +54,23 @@ claims t = (
   node-at-reads.Learnt,
   next-of-reads.Asked,
   next-of-reads.Learnt,
-  has-later-reads.Asked,
-  has-later-reads.Learnt,
-  left-over-reads.Asked,
-  left-over-reads.Learnt,
+  is-last-reads.Asked,
+  is-last-reads.Learnt,
   with-choice-reads.Asked,
   with-choice-reads.Learnt,
   improve-below t,
   improve.Post,
+  left-over-reads.Asked,
+  left-over-reads.Learnt,
 )
 
 abbrev improve-Inv-loop : improve-lts.InvT-loop
-improve-Inv-loop frames members counts ends k choices own blocked limit level best heavy hints₀ sums₀ j most₀ a₀ asked₀ left₀ hints sums most a asked left =
+improve-Inv-loop frames members counts ends k choices own blocked limit level best heavy hints₀ sums₀ j first₀ below most₀ a₀ asked₀ left₀ hints sums most a asked left =
     Best (stored frames) k j (nextLevel (stored frames) k choices level j) best most a × (length hints ≡ length hints₀) × (best ≤ most)
     × Left (stored frames) k choices own most (left .list) (left .count) (left .end) × Kept (stored frames) k sums
 
 abbrev improve-μ-loop : improve-lts.MeasureT-loop
-improve-μ-loop frames members counts ends k choices own blocked limit level best heavy hints₀ sums₀ j most₀ a₀ asked₀ left₀ hints sums most a asked left =
+improve-μ-loop frames members counts ends k choices own blocked limit level best heavy hints₀ sums₀ j first₀ below most₀ a₀ asked₀ left₀ hints sums most a asked left =
     turn (stored frames) k j - a
 
 -- where the search stands when the function starts
@@ -122,59 +127,97 @@ first : (t : ℕ) (c : improve-lts.After-or-zero2 (claims t) (improve-at t) impr
     Best (stored (s .args .frames .now)) (s .args .k) j (nextLevel (stored (s .args .frames .now)) (s .args .k) (s .args .choices) (s .args .level) j) (s .args .best) (s .args .best) (c .or-zero2 .result)
 first t c = best-first _ _ _ _ (c .before .before .before .before .before .before .before .before .before .before .pre .1 .0 .valid) (c .before .next-of .result) (c .before .next-of .ensures) (c .or-zero2 .ensures)
 
-improve-has-later-requires : (t : ℕ) → improve-lts.Need-has-later-requires (claims t) (improve-at t) improve.Post improve-Inv-loop improve-μ-loop
-improve-has-later-requires t c κs =
+improve-is-last-requires : (t : ℕ) → improve-lts.Need-is-last-requires (claims t) (improve-at t) improve.Post improve-Inv-loop improve-μ-loop
+improve-is-last-requires t c κs =
     let p = c .before .before .before .before .before .before .before .before .before .before .pre .1 in
     let n = node t (c .before .before) in
     (p .0, (p .1 .0, (n .0, n .1, first t (c) .walk .inside)))
 
-improve-loop-holds : (t : ℕ) → improve-lts.Need-loop-holds (claims t) (improve-at t) improve.Post improve-Inv-loop improve-μ-loop
-improve-loop-holds t c = (first t (c .before), refl, omega arith, c .before .before .before .before .before .before .before .before .before .before .before .pre .1 .1 .1 .1 .1 .1 .1 .0, c .before .before .before .before .before .before .before .before .before .before .before .pre .1 .1 .1 .1 .1 .1 .1 .1)
+-- it goes on with one of its node's alignments
+deeper : (t : ℕ) (c : improve-lts.After-node-at (claims t) (improve-at t) improve.Post improve-Inv-loop improve-μ-loop) {a most count end : ℕ} {cs : List Choice} {list : List ℕ} → let x = c .before .before .before .before .before .before .before .before .args in let j = c .node-at .result in
+    Mem a (orEmpty (alignments (stored (x .frames .now)) (x .k) j)) → cs ≡ set (x .choices) (j - 1) (Fixed a)
+    → Left (stored (x .frames .now)) (x .k) (x .choices) (x .own) most list count end
+    → Reached (stored (x .frames .now)) (x .k) (x .level + 1) (x .own) (x .limit) cs × Left (stored (x .frames .now)) (x .k) cs (x .own) most list count end
+deeper t c listed finer left =
+    let s = c .before .before .before .before .before .before .before .before in
+    let p = s .pre .1 in
+    let less = lower t (c .before) in
+    let level = reached t s .1 in (
+      reached-next (p .0) (p .1 .1 .0) (reached t s) less (c .node-at .ensures) listed finer,
+      left-next (p .0) (p .1 .1 .0) less (level .long) (level .left _ (omega arith) less) (c .node-at .ensures) listed finer left,
+    )
 
-improve-left-over-requires : (t : ℕ) → improve-lts.Need-left-over-requires (claims t) (improve-at t) improve.Post improve-Inv-loop improve-μ-loop
-improve-left-over-requires t c κs =
-    let p = c .before .before .before .before .before .before .before .before .before .before .before .before .before .before .pre .1 in
-    (p .0, (p .1 .0, (p .1 .1 .0, (p .1 .1 .1 .0, (p .1 .1 .1 .1 .0, (p .1 .1 .1 .1 .1 .0, (c .before .before .loop .inv .3, c .before .before .loop .inv .4)))))))
+-- the greatest over its alignments is that from the level on
+whole : (t : ℕ) (c : improve-lts.After-node-at (claims t) (improve-at t) improve.Post improve-Inv-loop improve-μ-loop) → let x = c .before .before .before .before .before .before .before .before .args in let j = c .node-at .result in
+    greatest (nextLevel (stored (x .frames .now)) (x .k) (x .choices) (x .level) j) (orEmpty (firstTurn (stored (x .frames .now)) (x .k) j)) ≡ refined (stored (x .frames .now)) (x .k) (levels (x .k) (x .level) nodes) (x .choices)
+whole t c = let p = c .before .before .before .before .before .before .before .before .pre .1 in next-levels (p .0) (p .1 .1 .0) (c .before .before .before .before .before .before .before .before .args .choices) (p .1 .1 .1 .1 .0 .2 .long) (c .node-at .ensures) (lower t (c .before))
 
-improve-same-length-3 : (t : ℕ) → improve-lts.Need-same-length-3 (claims t) (improve-at t) improve.Post improve-Inv-loop improve-μ-loop
-improve-same-length-3 t c = c .before .before .before .before .before .before .loop .inv .1
-
-improve-same-length-4 : (t : ℕ) → improve-lts.Need-same-length-4 (claims t) (improve-at t) improve.Post improve-Inv-loop improve-μ-loop
-improve-same-length-4 t c =
-    c .before .before .before .left-over .ensures .1 .1 .size ∙ sym (c .before .before .before .before .before .before .before .before .before .before .before .before .before .before .before .before .before .before .pre .1 .1 .1 .1 .1 .1 .1 .1 .size)
-
-improve-returns-2 : (t : ℕ) → improve-lts.Need-returns-2 (claims t) (improve-at t) improve.Post improve-Inv-loop improve-μ-loop
-improve-returns-2 t c =
-    let a = c .before .before .before .before .before .before .before .before .before .before .before .before .before .before .before .before .before .before .args in
-    let l = c .before .before .before .before .before .before .loop in
-    let whole = next-levels (c .before .before .before .before .before .before .before .before .before .before .before .before .before .before .before .before .before .before .pre .1 .0) (c .before .before .before .before .before .before .before .before .before .before .before .before .before .before .before .before .before .before .pre .1 .1 .1 .0) (a .choices) (c .before .before .before .before .before .before .before .before .before .before .before .before .before .before .before .before .before .before .pre .1 .1 .1 .1 .1 .0 .2 .long) (c .before .before .before .before .before .before .before .before .before .before .node-at .ensures) (lower t (c .before .before .before .before .before .before .before .before .before .before .before)) in
-    (best-over _ _ _ _ (l .inv .0) (l .inv .2) whole (c .before .before .before .left-over .ensures .1 .0 (rw (c .if2 .taken) tt)), c .before .before .before .left-over .ensures .1 .1)
+improve-add-below : (t : ℕ) → improve-lts.Need-add-below (claims t) (improve-at t) improve.Post improve-Inv-loop improve-μ-loop
+improve-add-below t c = omega (arith, lower t (c .before .before .before))
 
 improve-with-choice-requires : (t : ℕ) → improve-lts.Need-with-choice-requires (claims t) (improve-at t) improve.Post improve-Inv-loop improve-μ-loop
-improve-with-choice-requires t c κs = node t (c .before .before .before .before .before .before .before .before .before .before)
-
-improve-add-improve : (t : ℕ) → improve-lts.Need-add-improve (claims t) (improve-at t) improve.Post improve-Inv-loop improve-μ-loop
-improve-add-improve t c = omega (arith, lower t (c .before .before .before .before .before .before .before .before .before .before .before .before))
+improve-with-choice-requires t c κs = node t (c .before .before .before .before)
 
 improve-improve-requires : (t : ℕ) → improve-lts.Need-improve-requires (claims t) (improve-at t) improve.Post improve-Inv-loop improve-μ-loop
 improve-improve-requires t c κs =
-    let s = c .before .before .before .before .before .before .before .before .before .before .before .before .before .before .before .before .before .before .before .before .before in
+    let s = c .before .before .before .before .before .before .before .before .before .before .before .before .before .before .before in
     let p = s .pre .1 in
-    let less = lower t (c .before .before .before .before .before .before .before .before .before .before .before .before .before .before) in
-    let r = reached-next (p .0) (p .1 .1 .0) (reached t s) less (c .before .before .before .before .before .before .before .before .before .before .before .before .before .node-at .ensures) (c .before .before .before .before .before .before .before .before .before .loop .inv .0 .listed) (c .before .before .with-choice .ensures) in
-    let level = reached t s .1 in
-    let left = left-next (p .0) (p .1 .1 .0) less (level .long) (level .left _ (omega arith) less) (c .before .before .before .before .before .before .before .before .before .before .before .before .before .node-at .ensures) (c .before .before .before .before .before .before .before .before .before .loop .inv .0 .listed) (c .before .before .with-choice .ensures) (c .before .before .before .before .before .before .left-over .ensures .0) in
-    (omega (arith, s .pre .0), (p .0, (p .1 .0, (p .1 .1 .0, ((r .0, p .1 .1 .1 .0 .1), ((omega arith, omega arith, r .1), ((p .1 .1 .1 .1 .1 .0 .0, r .2), (left, c .before .before .before .before .before .before .left-over .ensures .1 .1))))))))
+    let (r, left) = deeper t (c .before .before .before .before .before .before .before) (first t (c .before .before .before .before .before) .listed) (c .before .before .with-choice .ensures) (p .1 .1 .1 .1 .1 .1 .0) in
+    (omega (arith, s .pre .0, lower t (c .before .before .before .before .before .before .before .before)), (p .0, (p .1 .0, (p .1 .1 .0, ((r .0, p .1 .1 .1 .0 .1), ((omega arith, omega (arith, lower t (c .before .before .before .before .before .before .before .before)), r .1), ((p .1 .1 .1 .1 .1 .0 .0, r .2), (left, p .1 .1 .1 .1 .1 .1 .1))))))))
+
+improve-same-length-3 : (t : ℕ) → improve-lts.Need-same-length-3 (claims t) (improve-at t) improve.Post improve-Inv-loop improve-μ-loop
+improve-same-length-3 t c = c .before .before .before .before .improve .kept .1 .1 .1 .1 .1 .1 .1 .1 .1 .1 .1 .1 .1 .0
+
+improve-same-length-4 : (t : ℕ) → improve-lts.Need-same-length-4 (claims t) (improve-at t) improve.Post improve-Inv-loop improve-μ-loop
+improve-same-length-4 t c = c .before .before .before .before .improve .ensures .1 .size ∙ sym (c .before .before .before .before .before .before .before .before .before .before .before .before .before .before .before .before .before .before .before .before .pre .1 .1 .1 .1 .1 .1 .1 .1 .size)
+
+improve-returns-2 : (t : ℕ) → improve-lts.Need-returns-2 (claims t) (improve-at t) improve.Post improve-Inv-loop improve-μ-loop
+improve-returns-2 t c = (
+  best-end _ _ _ _ (first t (c .before .before .before .before .before .before .before .before .before .before)) (rw (c .before .before .before .before .before .before .before .with-choice .ensures) at (c .before .before .before .before .improve .ensures .0)) (is-none _ (sym (c .before .before .before .before .before .before .before .before .before .is-last .ensures) ∙ c .before .before .before .before .before .before .before .before .if2 .taken))
+      ∙ ap (max (c .before .before .before .before .before .before .before .before .before .before .before .before .before .before .before .before .before .before .before .before .args .best)) (whole t (c .before .before .before .before .before .before .before .before .before .before .before .before)),
+  c .before .before .before .before .improve .ensures .1,
+)
+
+improve-loop-holds : (t : ℕ) → improve-lts.Need-loop-holds (claims t) (improve-at t) improve.Post improve-Inv-loop improve-μ-loop
+improve-loop-holds t c = (first t (c .before .before), refl, omega arith, c .before .before .before .before .before .before .before .before .before .before .before .before .pre .1 .1 .1 .1 .1 .1 .1 .0, c .before .before .before .before .before .before .before .before .before .before .before .before .pre .1 .1 .1 .1 .1 .1 .1 .1)
+
+improve-left-over-requires : (t : ℕ) → improve-lts.Need-left-over-requires (claims t) (improve-at t) improve.Post improve-Inv-loop improve-μ-loop
+improve-left-over-requires t c κs =
+    let p = c .before .before .before .before .before .before .before .before .before .before .before .before .before .before .before .pre .1 in
+    (p .0, (p .1 .0, (p .1 .1 .0, (p .1 .1 .1 .0, (p .1 .1 .1 .1 .0, (p .1 .1 .1 .1 .1 .0, (c .before .before .loop .inv .3, c .before .before .loop .inv .4)))))))
+
+improve-same-length-5 : (t : ℕ) → improve-lts.Need-same-length-5 (claims t) (improve-at t) improve.Post improve-Inv-loop improve-μ-loop
+improve-same-length-5 t c = c .before .before .before .before .before .before .loop .inv .1
+
+improve-same-length-6 : (t : ℕ) → improve-lts.Need-same-length-6 (claims t) (improve-at t) improve.Post improve-Inv-loop improve-μ-loop
+improve-same-length-6 t c =
+    c .before .before .before .left-over .ensures .1 .1 .size ∙ sym (c .before .before .before .before .before .before .before .before .before .before .before .before .before .before .before .before .before .before .before .pre .1 .1 .1 .1 .1 .1 .1 .1 .size)
+
+improve-returns-3 : (t : ℕ) → improve-lts.Need-returns-3 (claims t) (improve-at t) improve.Post improve-Inv-loop improve-μ-loop
+improve-returns-3 t c =
+    let a = c .before .before .before .before .before .before .before .before .before .before .before .before .before .before .before .before .before .before .before .args in
+    let l = c .before .before .before .before .before .before .loop in
+    (best-over _ _ _ _ (l .inv .0) (l .inv .2) (whole t (c .before .before .before .before .before .before .before .before .before .before .before)) (c .before .before .before .left-over .ensures .1 .0 (rw (c .if3 .taken) tt)), c .before .before .before .left-over .ensures .1 .1)
+
+improve-with-choice-requires-2 : (t : ℕ) → improve-lts.Need-with-choice-requires-2 (claims t) (improve-at t) improve.Post improve-Inv-loop improve-μ-loop
+improve-with-choice-requires-2 t c κs = node t (c .before .before .before .before .before .before .before .before .before .before .before)
+
+improve-improve-requires-2 : (t : ℕ) → improve-lts.Need-improve-requires-2 (claims t) (improve-at t) improve.Post improve-Inv-loop improve-μ-loop
+improve-improve-requires-2 t c κs =
+    let s = c .before .before .before .before .before .before .before .before .before .before .before .before .before .before .before .before .before .before .before .before .before .before in
+    let p = s .pre .1 in
+    let (r, left) = deeper t (c .before .before .before .before .before .before .before .before .before .before .before .before .before .before) (c .before .before .before .before .before .before .before .before .before .loop .inv .0 .listed) (c .before .before .with-choice2 .ensures) (c .before .before .before .before .before .before .left-over .ensures .0) in
+    (omega (arith, s .pre .0, lower t (c .before .before .before .before .before .before .before .before .before .before .before .before .before .before .before)), (p .0, (p .1 .0, (p .1 .1 .0, ((r .0, p .1 .1 .1 .0 .1), ((omega arith, omega (arith, lower t (c .before .before .before .before .before .before .before .before .before .before .before .before .before .before .before)), r .1), ((p .1 .1 .1 .1 .1 .0 .0, r .2), (left, c .before .before .before .before .before .before .left-over .ensures .1 .1))))))))
 
 improve-add-next-of : (t : ℕ) → improve-lts.Need-add-next-of (claims t) (improve-at t) improve.Post improve-Inv-loop improve-μ-loop
 improve-add-next-of t c =
-    let n = node t (c .before .before .before .before .before .before .before .before .before .before .before .before .before .before .before .before .before .before) in
-    omega (arith, c .before .before .before .before .before .before .before .before .before .before .before .before .before .before .loop .inv .0 .walk .inside, c .before .before .before .before .before .before .before .before .before .before .before .before .before .before .before .before .before .before .before .before .before .before .before .before .before .before .pre .1 .0 .hyper _ (n .0) (n .1), turn-le (c .before .before .before .before .before .before .before .before .before .before .before .before .before .before .before .before .before .before .before .before .before .before .before .before .before .before .pre .1 .0 .valid) (c .before .before .before .before .before .before .before .before .before .before .before .before .before .before .before .before .before .before .before .before .before .before .before .before .before .before .args .k) (c .before .before .before .before .before .before .before .before .before .before .before .before .before .before .before .before .before .before .node-at .result))
+    let n = node t (c .before .before .before .before .before .before .before .before .before .before .before .before .before .before .before .before .before .before .before) in
+    omega (arith, c .before .before .before .before .before .before .before .before .before .before .before .before .before .before .loop .inv .0 .walk .inside, c .before .before .before .before .before .before .before .before .before .before .before .before .before .before .before .before .before .before .before .before .before .before .before .before .before .before .before .pre .1 .0 .hyper _ (n .0) (n .1), turn-le (c .before .before .before .before .before .before .before .before .before .before .before .before .before .before .before .before .before .before .before .before .before .before .before .before .before .before .before .pre .1 .0 .valid) (c .before .before .before .before .before .before .before .before .before .before .before .before .before .before .before .before .before .before .before .before .before .before .before .before .before .before .before .args .k) (c .before .before .before .before .before .before .before .before .before .before .before .before .before .before .before .before .before .before .before .node-at .result))
 
 improve-next-of-requires-2 : (t : ℕ) → improve-lts.Need-next-of-requires-2 (claims t) (improve-at t) improve.Post improve-Inv-loop improve-μ-loop
 improve-next-of-requires-2 t c κs =
-    let p = c .before .before .before .before .before .before .before .before .before .before .before .before .before .before .before .before .before .before .before .before .before .before .before .before .before .before .pre .1 in
-    let n = node t (c .before .before .before .before .before .before .before .before .before .before .before .before .before .before .before .before .before .before) in
+    let p = c .before .before .before .before .before .before .before .before .before .before .before .before .before .before .before .before .before .before .before .before .before .before .before .before .before .before .before .pre .1 in
+    let n = node t (c .before .before .before .before .before .before .before .before .before .before .before .before .before .before .before .before .before .before .before) in
     (p .0, (p .1 .0, (n .0, n .1, omega (arith, c .before .before .before .before .before .before .before .before .before .before .before .before .before .before .loop .inv .0 .walk .inside))))
 
 improve-enum-known-found : (t : ℕ) → improve-lts.Need-enum-known-found (claims t) (improve-at t) improve.Post improve-Inv-loop improve-μ-loop
@@ -183,20 +226,20 @@ improve-enum-known-found t c = search needs
 improve-enum-told : (t : ℕ) → improve-lts.Need-enum-told (claims t) (improve-at t) improve.Post improve-Inv-loop improve-μ-loop
 improve-enum-told t c = search needs
 
-improve-same-length-5 : (t : ℕ) → improve-lts.Need-same-length-5 (claims t) (improve-at t) improve.Post improve-Inv-loop improve-μ-loop
-improve-same-length-5 t c =
-    c .before .before .before .before .before .before .before .improve .kept .1 .1 .1 .1 .1 .1 .1 .1 .1 .1 .1 .1 .1 .0 ∙ c .before .before .before .before .before .before .before .before .before .before .before .before .before .before .before .before .before .loop .inv .1
+improve-same-length-7 : (t : ℕ) → improve-lts.Need-same-length-7 (claims t) (improve-at t) improve.Post improve-Inv-loop improve-μ-loop
+improve-same-length-7 t c =
+    c .before .before .before .before .before .before .before .improve2 .kept .1 .1 .1 .1 .1 .1 .1 .1 .1 .1 .1 .1 .1 .0 ∙ c .before .before .before .before .before .before .before .before .before .before .before .before .before .before .before .before .before .loop .inv .1
 
-improve-same-length-6 : (t : ℕ) → improve-lts.Need-same-length-6 (claims t) (improve-at t) improve.Post improve-Inv-loop improve-μ-loop
-improve-same-length-6 t c =
-    c .before .before .before .before .before .before .before .improve .ensures .1 .size ∙ sym (c .before .before .before .before .before .before .before .before .before .before .before .before .before .before .before .before .before .before .before .before .before .before .before .before .before .before .before .before .before .pre .1 .1 .1 .1 .1 .1 .1 .1 .size)
+improve-same-length-8 : (t : ℕ) → improve-lts.Need-same-length-8 (claims t) (improve-at t) improve.Post improve-Inv-loop improve-μ-loop
+improve-same-length-8 t c =
+    c .before .before .before .before .before .before .before .improve2 .ensures .1 .size ∙ sym (c .before .before .before .before .before .before .before .before .before .before .before .before .before .before .before .before .before .before .before .before .before .before .before .before .before .before .before .before .before .before .pre .1 .1 .1 .1 .1 .1 .1 .1 .size)
 
-improve-returns-3 : (t : ℕ) → improve-lts.Need-returns-3 (claims t) (improve-at t) improve.Post improve-Inv-loop improve-μ-loop
-improve-returns-3 t c =
-    let a = c .before .before .before .before .before .before .before .before .before .before .before .before .before .before .before .before .before .before .before .before .before .before .before .before .before .before .before .before .before .args in (
-      best-end _ _ _ _ (c .before .before .before .before .before .before .before .before .before .before .before .before .before .before .before .before .before .loop .inv .0) (rw (c .before .before .before .before .before .before .before .before .before .before .with-choice .ensures) at (c .before .before .before .before .before .before .before .improve .ensures .0)) (sym (c .before .before .next-of2 .ensures) ∙ c .enum-told .given .1)
-          ∙ ap (max (a .best)) (next-levels (c .before .before .before .before .before .before .before .before .before .before .before .before .before .before .before .before .before .before .before .before .before .before .before .before .before .before .before .before .before .pre .1 .0) (c .before .before .before .before .before .before .before .before .before .before .before .before .before .before .before .before .before .before .before .before .before .before .before .before .before .before .before .before .before .pre .1 .1 .1 .0) (a .choices) (c .before .before .before .before .before .before .before .before .before .before .before .before .before .before .before .before .before .before .before .before .before .before .before .before .before .before .before .before .before .pre .1 .1 .1 .1 .1 .0 .2 .long) (c .before .before .before .before .before .before .before .before .before .before .before .before .before .before .before .before .before .before .before .before .before .node-at .ensures) (lower t (c .before .before .before .before .before .before .before .before .before .before .before .before .before .before .before .before .before .before .before .before .before .before))),
-      c .before .before .before .before .before .before .before .improve .ensures .1,
+improve-returns-4 : (t : ℕ) → improve-lts.Need-returns-4 (claims t) (improve-at t) improve.Post improve-Inv-loop improve-μ-loop
+improve-returns-4 t c =
+    let a = c .before .before .before .before .before .before .before .before .before .before .before .before .before .before .before .before .before .before .before .before .before .before .before .before .before .before .before .before .before .before .args in (
+      best-end _ _ _ _ (c .before .before .before .before .before .before .before .before .before .before .before .before .before .before .before .before .before .loop .inv .0) (rw (c .before .before .before .before .before .before .before .before .before .before .with-choice2 .ensures) at (c .before .before .before .before .before .before .before .improve2 .ensures .0)) (sym (c .before .before .next-of2 .ensures) ∙ c .enum-told .given .1)
+          ∙ ap (max (a .best)) (whole t (c .before .before .before .before .before .before .before .before .before .before .before .before .before .before .before .before .before .before .before .before .before .before)),
+      c .before .before .before .before .before .before .before .improve2 .ensures .1,
     )
 
 improve-loop-less : (t : ℕ) → improve-lts.Need-loop-less (claims t) (improve-at t) improve.Post improve-Inv-loop improve-μ-loop
@@ -206,11 +249,11 @@ improve-loop-less t c =
 improve-loop-again : (t : ℕ) → improve-lts.Need-loop-again (claims t) (improve-at t) improve.Post improve-Inv-loop improve-μ-loop
 improve-loop-again t c =
     let l = c .before .before .before .before .before .before .before .before .before .before .before .before .before .before .before .before .before .before .loop in (
-      best-more _ _ _ _ (l .inv .0) (rw (c .before .before .before .before .before .before .before .before .before .before .before .with-choice .ensures) at (c .before .before .before .before .before .before .before .before .improve .ensures .0)) (c .before .before .before .before .before .before .before .before .before .before .before .before .before .before .before .before .before .before .before .before .before .before .before .before .before .before .before .before .before .before .pre .1 .0 .valid) (sym (c .before .before .before .next-of2 .ensures) ∙ c .before .found .given .1),
-      c .before .before .before .before .before .before .before .before .improve .kept .1 .1 .1 .1 .1 .1 .1 .1 .1 .1 .1 .1 .1 .0 ∙ l .inv .1,
-      omega (arith, l .inv .2, c .before .before .before .before .before .before .before .before .improve .ensures .0),
-      left-more (omega (arith, c .before .before .before .before .before .before .before .before .improve .ensures .0)) (c .before .before .before .before .before .before .before .before .before .before .before .before .before .before .before .left-over .ensures .0),
-      c .before .before .before .before .before .before .before .before .improve .ensures .1,
+      best-more _ _ _ _ (l .inv .0) (rw (c .before .before .before .before .before .before .before .before .before .before .before .with-choice2 .ensures) at (c .before .before .before .before .before .before .before .before .improve2 .ensures .0)) (c .before .before .before .before .before .before .before .before .before .before .before .before .before .before .before .before .before .before .before .before .before .before .before .before .before .before .before .before .before .before .before .pre .1 .0 .valid) (sym (c .before .before .before .next-of2 .ensures) ∙ c .before .found .given .1),
+      c .before .before .before .before .before .before .before .before .improve2 .kept .1 .1 .1 .1 .1 .1 .1 .1 .1 .1 .1 .1 .1 .0 ∙ l .inv .1,
+      omega (arith, l .inv .2, c .before .before .before .before .before .before .before .before .improve2 .ensures .0),
+      left-more (omega (arith, c .before .before .before .before .before .before .before .before .improve2 .ensures .0)) (c .before .before .before .before .before .before .before .before .before .before .before .before .before .before .before .left-over .ensures .0),
+      c .before .before .before .before .before .before .before .before .improve2 .ensures .1,
     )
 
 pub +improve-spec : {M : Type 1} → statement M
@@ -227,21 +270,26 @@ pub +improve-spec : {M : Type 1} → statement M
     (improve-node-at-requires t)
     (improve-next-of-requires t)
     (improve-or-zero-requires-2 t)
-    (improve-has-later-requires t)
-    (improve-loop-holds t)
-    (improve-left-over-requires t)
+    (improve-add-below t)
+    (improve-is-last-requires t)
+    (improve-with-choice-requires t)
+    (improve-improve-requires t)
     (improve-same-length-3 t)
     (improve-same-length-4 t)
     (improve-returns-2 t)
-    (improve-with-choice-requires t)
-    (improve-add-improve t)
-    (improve-improve-requires t)
+    (improve-loop-holds t)
+    (improve-left-over-requires t)
+    (improve-same-length-5 t)
+    (improve-same-length-6 t)
+    (improve-returns-3 t)
+    (improve-with-choice-requires-2 t)
+    (improve-improve-requires-2 t)
     (improve-add-next-of t)
     (improve-next-of-requires-2 t)
     (improve-enum-known-found t)
     (improve-enum-told t)
-    (improve-same-length-5 t)
-    (improve-same-length-6 t)
-    (improve-returns-3 t)
+    (improve-same-length-7 t)
+    (improve-same-length-8 t)
+    (improve-returns-4 t)
     (improve-loop-less t)
     (improve-loop-again t)

@@ -1,9 +1,11 @@
 -- The tick after a is at most the turn.
+use mathlib.Core.Path.{sym, ap, _∙_}
 use native.Mathlib.Omega.{arith}
 use borrow.Author.Needs.{needs}
+use Rattle.arith.specs.Least.{isNone}
 use Rattle.bus_model.specs.theory.Turns.{turn-le}
-use Rattle.bounds.proofs.levels.has_later.Statement.{statement}
-use Rattle.bounds.proofs.levels.has_later.Tie as tie
+use Rattle.bounds.proofs.levels.is_last.Statement.{statement}
+use Rattle.bounds.proofs.levels.is_last.Tie as tie
 
 add-next-of : tie.Need-add-next-of
 add-next-of c = let p = c .before .before .before .before .pre in omega (arith, p .1 .1 .2, p .0 .hyper _ (p .1 .1 .0) (p .1 .1 .1), turn-le (p .0 .valid) (c .before .before .before .before .args .k) (c .before .before .before .before .args .j))
@@ -18,13 +20,15 @@ enum-told-2 : tie.Need-enum-told-2
 enum-told-2 c = search needs
 
 returns : tie.Need-returns
-returns c = search needs
+unfolding isNone
+returns c = ap isNone (sym (c .enum-told .given .1) ∙ c .before .before .next-of .ensures)
 
 returns-2 : tie.Need-returns-2
-returns-2 c = search needs
+unfolding isNone
+returns-2 c = ap isNone (sym (c .enum-told2 .given .1) ∙ c .before .before .next-of .ensures)
 
-pub has-later-spec : {M : Type 1} → statement M
-has-later-spec =
+pub is-last-spec : {M : Type 1} → statement M
+is-last-spec =
     tie.close
     (tie.spec
     add-next-of
