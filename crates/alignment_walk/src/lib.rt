@@ -1,5 +1,6 @@
 // A node's alignments, one after the other: no array holds them.
 use arith::Found;
+use arith::lesser;
 use bus_model::Frame;
 use workload::GROUP;
 use workload::frame_at;
@@ -10,7 +11,7 @@ use workload::releases_before;
 ghost use mathlib.Core.Path.{_≡_};
 ghost use mathlib.Core.Bool.{cond};
 ghost use mathlib.Core.List.{List·Memᴰ as Mem};
-ghost use Prim.Native.Nat.{_+_, _-_, _*_, _≤_, _<_, min, max};
+ghost use Prim.Native.Nat.{_+_, _-_, _*_, _≤_, _<_, max};
 ghost use lib.Dec.{eqb, ltb};
 ghost use lib.ListN.{length};
 ghost use Rattle.arith.specs.Lists.{sum, greatest};
@@ -20,12 +21,6 @@ ghost use Rattle.bus_model.specs.Bounds.{workAt, orEmpty};
 ghost use Rattle.workload.specs.Stored.{stored};
 ghost use Rattle.alignment_walk.specs.Steps.{nextRelease, waitFrom, restOf, wholeDemand, Noted};
 ghost use Rattle.workload.specs.Grouped.{Fine, FinePart, framesIn, isInstant, instantsIn, orEnd};
-
-fn lesser(a: u32, b: u32) -> u32
-    ensures { λ r. ⌜ r ≡ min a b ⌝ }
-{
-    if a < b { a } else { b }
-}
 
 // The first release of the frame at or after a tick, as its alignments have it.
 fn next_release(g: Frame, after: u32, inverse: u32) -> u32

@@ -1,13 +1,36 @@
-// Arithmetic that the other crates share: the answer of a search, the greatest common divisor and the
-// least common multiple. The definitions and their laws are in specs/.
+// Arithmetic that the other crates share: the answer of a search, the lesser and the greater of two numbers, the greatest common
+// divisor and the least common multiple. The definitions and their laws are in specs/.
 ghost use mathlib.Core.Path.{_≡_};
-ghost use Prim.Native.Nat.{_<_, _^_};
+ghost use Prim.Native.Nat.{_<_, _^_, min, max};
+ghost use Rattle.arith.specs.Least.{orZero};
 ghost use Rattle.arith.specs.Multiples.{gcd, lcm};
 
 // The answer of a search.
 pub enum Found {
     At(u32),
     Nothing,
+}
+
+// What was found, and 0 where nothing was.
+pub fn or_zero(found: Found) -> u32
+    ensures { λ r. ⌜ r ≡ orZero found ⌝ }
+{
+    match found {
+        Found::At(x) => x,
+        Found::Nothing => 0,
+    }
+}
+
+pub fn lesser(a: u32, b: u32) -> u32
+    ensures { λ r. ⌜ r ≡ min a b ⌝ }
+{
+    if a < b { a } else { b }
+}
+
+pub fn greater(a: u32, b: u32) -> u32
+    ensures { λ r. ⌜ r ≡ max a b ⌝ }
+{
+    if a < b { b } else { a }
 }
 
 // The greatest common divisor, by Euclid's algorithm.

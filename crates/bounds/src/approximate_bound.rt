@@ -2,11 +2,11 @@
 use crate::levels::next_of;
 use crate::levels::with_choice;
 use arith::Found;
+use arith::or_zero;
 use bus_model::Choice;
 use bus_model::Frame;
 use response_time::all_left;
 use response_time::busy_window;
-use response_time::or_zero;
 use response_time::raised;
 ghost use mathlib.Core.Path.{_≡_};
 ghost use Prim.Native.Nat.{ℕ, _≤_};

@@ -1,9 +1,9 @@
 // The levels of a search: which node takes its alignments at each, and these one after the other.
 use alignment_walk::next_alignment;
 use arith::Found;
+use arith::or_zero;
 use bus_model::Choice;
 use bus_model::Frame;
-use response_time::or_zero;
 use workload::GROUP;
 use workload::NODES;
 use workload::frame_at;

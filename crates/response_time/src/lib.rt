@@ -3,7 +3,6 @@ mod response;
 mod unserved;
 
 pub use response::busy_window;
-pub use response::or_zero;
 pub use response::raised;
 pub use unserved::ROOM;
 pub use unserved::Unserved;

@@ -2,6 +2,9 @@
 use crate::unserved::Unserved;
 use crate::unserved::is_within;
 use arith::Found;
+use arith::greater;
+use arith::lesser;
+use arith::or_zero;
 use bus_model::Choice;
 use bus_model::Frame;
 use delay_search::WINDOW_LIMIT;
@@ -16,9 +19,8 @@ use workload::lay_out;
 use workload::releases_before;
 ghost use mathlib.Core.Path.{_≡_};
 ghost use mathlib.Core.Bool.{true};
-ghost use Prim.Native.Nat.{ℕ, _+_, _-_, _*_, _≤_, _<_, min, max};
+ghost use Prim.Native.Nat.{ℕ, _+_, _-_, _*_, _≤_, _<_, max};
 ghost use lib.Dec.{T};
-ghost use Rattle.arith.specs.Least.{orZero};
 ghost use Rattle.arith.specs.declared.Found.the-variants.{At};
 ghost use Rattle.bus_model.specs.declared.Choice.the-variants.{Fixed};
 ghost use Rattle.bus_model.specs.Bounds.{choiceOf, blocking, busyWindow, responseTime};
@@ -27,27 +29,6 @@ ghost use Rattle.workload.specs.Stored.{stored};
 ghost use Rattle.workload.specs.Grouped.{Grouped, InTable, FineTable};
 ghost use Rattle.greatest_work.specs.Kept.{Kept};
 ghost use Rattle.delay_search.specs.Load.{WindowWithin, Left};
-
-pub fn bigger(a: u32, b: u32) -> u32
-    ensures { λ r. ⌜ r ≡ max a b ⌝ }
-{
-    if a < b { b } else { a }
-}
-
-fn smaller(a: u32, b: u32) -> u32
-    ensures { λ r. ⌜ r ≡ min a b ⌝ }
-{
-    if a < b { a } else { b }
-}
-
-pub fn or_zero(found: Found) -> u32
-    ensures { λ r. ⌜ r ≡ orZero found ⌝ }
-{
-    match found {
-        Found::At(x) => x,
-        Found::Nothing => 0,
-    }
-}
 
 // The response of an instance that starts at a delay and was released at a tick.
 fn response(delay: u32, length: u32, released: u32) -> u32
@@ -115,7 +96,7 @@ fn greatest_response(
         );
         if 0 < passed.count {
             near = passed.from;
-            q = smaller(q + passed.count, instances);
+            q = lesser(q + passed.count, instances);
             continue;
         }
         let base = blocked as u64 + q as u64 * k.length as u64;
@@ -135,7 +116,7 @@ fn greatest_response(
         );
         let delay = or_zero(found);
         remember(hints, place_of(q), delay);
-        best = bigger(best, response(delay, k.length, d + q * k.period));
+        best = greater(best, response(delay, k.length, d + q * k.period));
         near = delay;
         from = delay + k.length;
         q += 1;

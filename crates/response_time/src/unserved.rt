@@ -1,6 +1,6 @@
 // Which instances of a scenario no start is found for that leaves them a response of `most` at the most. Where more nodes are fixed, a start
 // that serves still does: only those that are left need be looked at there.
-use arith::Found;
+use arith::greater;
 use bus_model::Choice;
 use bus_model::Frame;
 use delay_search::is_held;
@@ -59,12 +59,6 @@ pub fn with_none(known: Unserved, none: bool) -> Unserved
         end: known.end,
         none,
     }
-}
-
-fn greater(a: u32, b: u32) -> u32
-    ensures { λ r. ⌜ r ≡ max a b ⌝ }
-{
-    if a < b { b } else { a }
 }
 
 // v, where it is from q on and before `next`, or else that.

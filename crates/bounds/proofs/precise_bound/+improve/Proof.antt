@@ -30,7 +30,7 @@ use Rattle.bounds.proofs.levels.is_last.Reads as is-last-reads
 use Rattle.bounds.proofs.levels.next_of.Reads as next-of-reads
 use Rattle.bounds.proofs.levels.node_at.Reads as node-at-reads
 use Rattle.bounds.proofs.levels.with_choice.Reads as with-choice-reads
-use Rattle.response_time.proofs.or_zero.Reads as or-zero-reads
+use Rattle.arith.proofs.or_zero.Reads as or-zero-reads
 use Rattle.response_time.proofs.raised.Reads as raised-reads
 use Rattle.bounds.proofs.precise_bound.+improve.{statement}
 use Rattle.bounds.proofs.precise_bound.+improve.Tie.{close}

@@ -83,23 +83,23 @@ served-instance-requires c κs =
     let f = fits (c .before .before .before .before) in
     (s .pre .0, (s .pre .1 .0, (s .pre .1 .1 .0, ((p .0 .0, p .0 .1, c .before .before .before .before .before .before .before .before .before .before .distance-from .ensures .0), ((omega (arith, f .0), f .1), (rw sub-zero (c .before .before .before .before .before .before .before .lay-out .ensures .0), c .before .before .before .before .before .loop .inv .1))))))
 
-add-smaller : tie.Need-add-smaller Inv-loop μ-loop
-add-smaller c =
+add-lesser : tie.Need-add-lesser Inv-loop μ-loop
+add-lesser c =
     let i = counted (c .before .before .before .before .before .before .before .before .before .before) in
     record { fits = omega (arith, i, c .before .before .before .before .before .served-instance .ensures .1 .0) }
 
-smaller-requires : tie.Need-smaller-requires Inv-loop μ-loop
-smaller-requires c κs = search needs
+lesser-requires : tie.Need-lesser-requires Inv-loop μ-loop
+lesser-requires c κs = search needs
 
 loop-less : tie.Need-loop-less Inv-loop μ-loop
-loop-less c = omega (arith, c .before .before .before .before .before .before .before .before .before .before .before .loop-test .taken, c .before .before .if1 .taken, c .smaller .ensures)
+loop-less c = omega (arith, c .before .before .before .before .before .before .before .before .before .before .before .loop-test .taken, c .before .before .if1 .taken, c .lesser .ensures)
 
 loop-again : tie.Need-loop-again Inv-loop μ-loop
 loop-again c =
     let s = c .before .before .before .before .before .before .before .before .before .before .before .before .before .before .before .before .before .before .before .before .before .before .before .before in
     let l = c .before .before .before .before .before .before .before .before .before .before .before .before .loop in
     let r = c .before .before .before .before .before .before .served-instance .ensures in
-    (l .inv .0, r .1 .1, rw (c .smaller .ensures) (turn-skip (c .before .before .before .before .before .before .served-instance .result .count) (l .inv .2) (λ i less. in-time-within _ _ _ (s .pre .1 .1 .1 .0 .0) (c .before .before .before .before .before .before .before .before .before .before .before .before .before .before .before .before .before .distance-from .ensures .0) (l .q + i) (l .best) (r .0 i less))))
+    (l .inv .0, r .1 .1, rw (c .lesser .ensures) (turn-skip (c .before .before .before .before .before .before .served-instance .result .count) (l .inv .2) (λ i less. in-time-within _ _ _ (s .pre .1 .1 .1 .0 .0) (c .before .before .before .before .before .before .before .before .before .before .before .before .before .before .before .before .before .distance-from .ensures .0) (l .q + i) (l .best) (r .0 i less))))
 
 cast-base : tie.Need-cast-base Inv-loop μ-loop
 cast-base c = search needs
@@ -142,8 +142,8 @@ response-requires c κs =
     let s = c .before .before .before .before .before .before .before .before .before .before .before .before .before .before .before .before .before .before .before .before .before .before .before .before .before .before .before .before .before .before .before .before .before .before in
     (omega (arith, ends (c .before .before .before .before .before .before)), in-table-fine _ (s .pre .0) (s .pre .1 .1 .0) .length-high)
 
-bigger-requires : tie.Need-bigger-requires Inv-loop μ-loop
-bigger-requires c κs = search needs
+greater-requires : tie.Need-greater-requires Inv-loop μ-loop
+greater-requires c κs = search needs
 
 add-from : tie.Need-add-from Inv-loop μ-loop
 add-from c = omega (arith, ends (c .before .before .before .before .before .before .before .before .before))
@@ -157,7 +157,7 @@ loop-less-2 c = omega (arith, c .before .before .before .before .before .before 
 loop-again-2 : tie.Need-loop-again-2 Inv-loop μ-loop
 loop-again-2 c =
     let l = c .before .before .before .before .before .before .before .before .before .before .before .before .before .before .before .before .before .before .before .before .before .before .before .before .before .loop in
-    let turn = turn-more (window (c .before .before .before .before .before .before .before .before .before .before .before .before .before .before .before .before .before .before .before .before .before .before .before .before .before .before .before .before .before)) (l .inv .2) (c .before .before .before .before .before .before .before .before .before .before .before .before .before .before .before .before .before .before .before .before .before .before .before .before .loop-test .taken) (c .before .before .before .before .before .before .before .before .before .before .before .before .before .before .before .before .before .before .before .before .before .before .before .before .before .before .before .before .before .before .before .before .before .before .before .before .before .pre .1 .1 .1 .0 .1) (c .before .before .before .before .before .before .before .before .before .before .before .before .settle .ensures .0) (c .before .before .before .before .before .before .before .before .before .or-zero .ensures) (c .before .before .response .ensures) (c .before .bigger .ensures) in
+    let turn = turn-more (window (c .before .before .before .before .before .before .before .before .before .before .before .before .before .before .before .before .before .before .before .before .before .before .before .before .before .before .before .before .before)) (l .inv .2) (c .before .before .before .before .before .before .before .before .before .before .before .before .before .before .before .before .before .before .before .before .before .before .before .before .loop-test .taken) (c .before .before .before .before .before .before .before .before .before .before .before .before .before .before .before .before .before .before .before .before .before .before .before .before .before .before .before .before .before .before .before .before .before .before .before .before .before .pre .1 .1 .1 .0 .1) (c .before .before .before .before .before .before .before .before .before .before .before .before .settle .ensures .0) (c .before .before .before .before .before .before .before .before .before .or-zero .ensures) (c .before .before .response .ensures) (c .before .greater .ensures) in
     (omega (arith, c .before .before .before .before .before .before .remember .kept .0, l .inv .0), c .before .before .before .before .before .before .before .before .before .before .before .before .settle .ensures .1, turn)
 
 same-length : tie.Need-same-length Inv-loop μ-loop
@@ -185,8 +185,8 @@ greatest-response-spec =
     part-served-instance-start
     part-served-instance-end
     served-instance-requires
-    add-smaller
-    smaller-requires
+    add-lesser
+    lesser-requires
     loop-less
     loop-again
     cast-base
@@ -200,7 +200,7 @@ greatest-response-spec =
     mul-response
     add-response
     response-requires
-    bigger-requires
+    greater-requires
     add-from
     add-q
     loop-less-2

@@ -1,9 +1,9 @@
 -- By the two answers of a search.
 use mathlib.Core.Path.{sym, ap}
 use borrow.Author.Needs.{needs}
 use Rattle.arith.specs.Least.{orZero}
-use Rattle.response_time.proofs.response.or_zero.Statement.{statement}
-use Rattle.response_time.proofs.response.or_zero.Tie as tie
+use Rattle.arith.proofs.or_zero.Statement.{statement}
+use Rattle.arith.proofs.or_zero.Tie as tie
 
 enum-known-found : tie.Need-enum-known-found
 enum-known-found c = search needs
