@@ -12,6 +12,7 @@ ghost use mathlib.Core.Path.{_≡_};
 ghost use Prim.Native.Nat.{ℕ, _+_, _*_, _≤_};
 ghost use lib.IntN.{pos, _+ℤ_};
 ghost use Rattle.row_judgement.specs.declared.Judged.the-variants.{Verdict};
+ghost use Rattle.row_judgement.specs.Judge.{judgeRow};
 ghost use Rattle.certifier.specs.Encode.{judgeFile, boundFile, encodeRefusal, encodeJudged, encodeBounded};
 ghost use Rattle.certifier.specs.Steps.{Encodable};
 
@@ -24,7 +25,7 @@ pub extern "C" fn certifier_judge(table: &[u8], row: u64) -> i64
     let answer = frame_table::read(table, &mut rows);
     match answer {
         Answer::Refused(refusal) => encode_refusal(of_table(refusal)),
-        Answer::Done(n) => encode_judged(judge(&rows[..n], row)),
+        Answer::Done(n) => encode_judgement_of(&rows[..n], row),
     }
 }
 
@@ -41,6 +42,13 @@ pub extern "C" fn certifier_precise_bound(table: &[u8], row: u64) -> i64
     }
 }
 
+// Judges the claim of a row of rows in memory.
+pub fn encode_judgement_of(rows: &[u32], row: u64) -> i64
+    ensures { λ r. ⌜ r ≡ encodeJudged (judgeRow (now (rows .entry)) row) ⌝ }
+{
+    encode_judged(judge(rows, row))
+}
+
 // Minus (number × 10000 + place).
 pub fn encode_refusal(refusal: Refusal) -> i64
     ensures { λ r. ⌜ r ≡ encodeRefusal refusal ⌝ }
@@ -51,7 +59,7 @@ pub fn encode_refusal(refusal: Refusal) -> i64
 }
 
 // The judgement in one number, or the refusal.
-pub fn encode_judged(judged: Judged) -> i64
+fn encode_judged(judged: Judged) -> i64
     requires { ⌜ Encodable judged ⌝ }
     ensures { λ r. ⌜ r ≡ encodeJudged judged ⌝ }
 {

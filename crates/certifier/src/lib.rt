@@ -7,7 +7,7 @@ mod listing;
 pub use encode::certifier_judge;
 pub use encode::certifier_precise_bound;
 pub use encode::encode_bounded;
-pub use encode::encode_judged;
+pub use encode::encode_judgement_of;
 pub use encode::encode_refusal;
 pub use listing::LINE;
 pub use listing::list;

@@ -56,7 +56,7 @@ pub extern "C" fn test_list(file: &[u8], out: &mut [u8]) -> i64
 pub extern "C" fn test_judge(rows: &[u32], row: u64) -> i64
     ensures { λ r. ⌜ r ≡ encodeJudged (judgeRow (now (rows .entry)) row) ⌝ }
 {
-    certifier::encode_judged(certifier::judge(rows, row))
+    certifier::encode_judgement_of(rows, row)
 }
 
 // The precise bound of a row of rows in memory.

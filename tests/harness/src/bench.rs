@@ -254,7 +254,7 @@ fn accepted(file: &[u8]) -> Vec<Row> {
     table::parse(file).expect("an accepted table")
 }
 
-fn library_listing(file: &[u8]) -> String {
+pub fn library_listing(file: &[u8]) -> String {
     let random = &mut Random::new(0);
     let mut out = Lent::new(random, &[0; ROOM]);
     let written = library::list(&mut Lent::new(random, file), &mut out);

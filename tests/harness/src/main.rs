@@ -14,6 +14,7 @@ mod limits;
 mod repeats;
 mod runs;
 mod simulate;
+mod slow;
 mod starts;
 mod tables;
 mod tally;
@@ -29,6 +30,7 @@ const USAGE: &str = "usage:
   harness simulate SEED COUNT
   harness bench
   harness repeats
+  harness slow SEED MINUTES [--save FILE]
   harness time library|yardstick|analyser|plain.. < table";
 
 fn main() -> ExitCode {
@@ -56,6 +58,9 @@ fn run(words: &[&str]) -> io::Result<bool> {
         ["simulate", seed, count] => Ok(simulate::simulate(number(seed)?, number(count)?)),
         ["bench"] => bench::bench(),
         ["repeats"] => Ok(repeats::repeats()),
+        ["slow", seed, minutes, rest @ ..] => {
+            slow::search(number(seed)?, number(minutes)?, save(rest)?)
+        }
         ["time", listers @ ..] if !listers.is_empty() => bench::time(listers),
         _ => Err(io::Error::other(USAGE)),
     }

@@ -1,13 +1,11 @@
 -- The file is read into rows of its own; a refusal of the file is encoded, and a table that was read is judged and its judgement encoded.
 use Prim.Native.Nat.{ℕ}
-use mathlib.Core.Path.{refl, sym, ap, subst, _∙_}
+use mathlib.Core.Path.{refl, ap, _∙_}
 use mathlib.Core.List.{List}
 use borrow.Author.Needs.{needs}
 use Rattle.arith.specs.laws.Signed.{kept}
 use Rattle.row_judgement.specs.Judge.{judgeRow}
 use Rattle.certifier.specs.Encode.{judgeFile, judgeRead, encodeJudged, encodeRefusal}
-use Rattle.certifier.specs.Steps.{Encodable}
-use Rattle.certifier.specs.laws.Small.{judged-encodable}
 use Rattle.certifier.specs.laws.Reading.{ReadRows, read-refused, read-rows}
 use Rattle.certifier.proofs.encode.certifier_judge.Statement.{statement}
 use Rattle.certifier.proofs.encode.certifier_judge.Tie as tie
@@ -37,14 +35,11 @@ table c = let r = c .before .before .before .before .read in read-rows _ _ _ ref
 array-share-prefix-rows : tie.Need-array-share-prefix-rows
 array-share-prefix-rows c = table c .room
 
-slice-aggregate-judge : tie.Need-slice-aggregate-judge
-slice-aggregate-judge c = table (c .before) .size
+slice-aggregate-encode-judgement-of : tie.Need-slice-aggregate-encode-judgement-of
+slice-aggregate-encode-judgement-of c = table (c .before) .size
 
-judge-requires : tie.Need-judge-requires
-judge-requires c κs = search needs
-
-encode-judged-requires : tie.Need-encode-judged-requires
-encode-judged-requires c κs = subst Encodable (sym (c .judge .ensures .0)) (judged-encodable _ _)
+encode-judgement-of-requires : tie.Need-encode-judgement-of-requires
+encode-judgement-of-requires c κs = search needs
 
 returns : tie.Need-returns
 unfolding encodeJudged judgeFile judgeRead
@@ -56,10 +51,10 @@ returns c =
 returns-2 : tie.Need-returns-2
 unfolding judgeFile judgeRead
 returns-2 c =
-    let t = table (c .before .before .before) in
-    let a = c .before .before .before .before .before .before .before .before .before .before .args in
-    kept _ (c .encode-judged .ok) ∙ c .encode-judged .ensures
-    ∙ ap encodeJudged (c .before .judge .ensures .0 ∙ rw (t .passed) (ap (λ (rows : List ℕ). judgeRow rows (a .row)) (t .rows)))
+    let t = table (c .before .before) in
+    let a = c .before .before .before .before .before .before .before .before .before .args in
+    kept _ (c .encode-judgement-of .ok) ∙ c .encode-judgement-of .ensures
+    ∙ ap encodeJudged (rw (t .passed) (ap (λ (rows : List ℕ). judgeRow rows (a .row)) (t .rows)))
 
 pub certifier-judge-spec : {M : Type 1} → statement M
 certifier-judge-spec =
@@ -72,8 +67,7 @@ certifier-judge-spec =
     encode-refusal-requires
     enum-known-answer-2
     array-share-prefix-rows
-    slice-aggregate-judge
-    judge-requires
-    encode-judged-requires
+    slice-aggregate-encode-judgement-of
+    encode-judgement-of-requires
     returns
     returns-2)
