@@ -4,20 +4,17 @@
 --     length-write, length-signed    a written column has its width
 use Prim.Native.Nat.{ℕ, zero, suc, _+_, _-_, _*_, _/_, _%_, _^_, _≤_, _<_}
 use mathlib.Core.Path.{_≡_, refl, sym, ap, ap₂, _∙_}
-use mathlib.Core.Bool.{Bool, true, false}
 use mathlib.Core.List.{List, [], _∷_, _++_, append-nil}
 use native.Mathlib.Nat.{pow-suc, zero-add, add-zero, add-suc, suc-add, not-suc-le-zero}
-use native.Mathlib.Numerals.{add-one}
 use native.Mathlib.Omega.{arith}
-use borrow.Author.Tests.{lt-ltb, le-ltb, lt-leb, ltb-true, ltb-false, leb-false, eqb-true, eqb-false, eq-eqb, ne-eqb}
+use borrow.Author.Tests.{lt-ltb, le-ltb, lt-leb, ltb-true, ltb-false, eqb-true, eqb-false, ne-eqb}
 use lib.IntN.{ℤ, pos, negsuc}
 use lib.ListN.{length}
 use lib.Dec.{ltb, leb, eqb}
 use Rattle.arith.specs.laws.Tests.{by-test}
 use Rattle.decimal.specs.declared.Prefix.{Prefix}
 use Rattle.decimal.specs.declared.Prefix.the-variants.{Blank, Number, Minus, Negative, Broken}
-use Rattle.decimal.specs.declared.Column.{Column}
-use Rattle.decimal.specs.declared.Column.the-variants.{Value, Broken as Unreadable}
+use Rattle.decimal.specs.declared.Column.the-variants.{Value}
 use Rattle.decimal.specs.Decimal.{withDigit, extended, extendedBy, valueOf, readColumn, lastOf, shortened, written, writeColumn, writeSigned}
 
 -- ---- one character

@@ -1,6 +1,5 @@
 -- The loop goes through the levels, each of which has one of the nodes.
 use Prim.Native.Nat.{_-_, _≤_}
-use native.Mathlib.Omega.{arith}
 use borrow.Author.Needs.{needs}
 use Rattle.bounds.specs.laws.Levels.{reached-node}
 use Rattle.bounds.proofs.levels.heaviest.Statement.{statement}

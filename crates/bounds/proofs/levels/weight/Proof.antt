@@ -1,5 +1,5 @@
 -- The rows of a node are inside the members and within their limits.
-use Prim.Native.Nat.{_-_, _<_}
+use Prim.Native.Nat.{_-_}
 use native.Mathlib.Omega.{arith}
 use borrow.Author.Needs.{needs}
 use Rattle.workload.specs.laws.Groups.{lent-inside, lent-fine}

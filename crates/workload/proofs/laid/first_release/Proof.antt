@@ -1,4 +1,3 @@
-use mathlib.Core.Path.{ap, _∙_}
 use borrow.Author.Needs.{needs}
 use Rattle.workload.specs.Laid.{firstRelease}
 use Rattle.workload.proofs.laid.first_release.Statement.{statement}

@@ -1,4 +1,3 @@
-use borrow.Author.Needs.{needs}
 use Rattle.workload.specs.Laid.{isLoad}
 use Rattle.workload.proofs.laid.is_load.Statement.{statement}
 use Rattle.workload.proofs.laid.is_load.Tie as tie

@@ -8,7 +8,6 @@ use lib.ListN.{length}
 use Rattle.arith.specs.Lists.{sum}
 use Rattle.arith.specs.laws.Members.{mem-getD}
 use Rattle.arith.specs.laws.Walks.{Through, through-start, through-more, through-end, sum-more}
-use Rattle.bus_model.specs.declared.Frame.{Frame}
 use Rattle.bus_model.specs.Frame.{noFrame}
 use Rattle.workload.specs.Stored.{stored}
 use Rattle.workload.specs.Grouped.{Fine}
