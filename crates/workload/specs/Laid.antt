@@ -26,6 +26,7 @@ firstRelease Any g = 0
 abbrev pub laidBy : Choice → Frame → Frame
 laidBy choice g = record { node = g .node; priority = 0; length = g .length; period = g .period; offset = firstRelease choice g }
 
+-- the same, by the choice of its node among those of all
 unfoldable pub laidFrame : List Choice → Frame → Frame
 laidFrame cs g = laidBy (choiceOf cs (g .node)) g
 
