@@ -5,7 +5,7 @@
  * Each call takes the whole file's bytes, checks it, and answers one number.
  *
  * Memory: a call reads `table_len` bytes from `table` and keeps nothing; `table` may be null only if the length
- * is 0. It allocates nothing and needs less than 80 KiB of stack.
+ * is 0. It allocates nothing and needs less than 64 KiB of stack.
  * Threads: there is no state between calls, so any number of threads may call at once.
  */
 #ifndef CERTIFIER_H

@@ -53,7 +53,6 @@ pub fn approximate(
     ends: &[u32],
     k: Frame,
     blocked: u32,
-    hints: &mut [u32],
     sums: &mut [u64],
 ) -> Found
     requires { ⌜ FineTable (stored (now frames)) ⌝ }
@@ -103,7 +102,6 @@ pub fn approximate(
             most,
             true,
             all_left(),
-            hints,
             sums,
         );
         let Found::At(r) = more else {

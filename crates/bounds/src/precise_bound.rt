@@ -1,5 +1,4 @@
 // The precise bound: the greatest response over scenarios, and which of them need not be searched.
-use crate::levels::heaviest;
 use crate::levels::is_last;
 use crate::levels::next_of;
 use crate::levels::node_at;
@@ -12,88 +11,25 @@ use response_time::ROOM;
 use response_time::Unserved;
 use response_time::all_left;
 use response_time::busy_window;
-use response_time::is_within;
 use response_time::raised;
 use response_time::sweep;
 use response_time::with_none;
 use workload::NODES;
 ghost use mathlib.Core.Path.{_≡_};
 ghost use mathlib.Core.Bool.{false};
-ghost use mathlib.Core.List.{List·Memᴰ as Mem};
-ghost use Prim.Native.Nat.{ℕ, _-_, _≤_, _<_, max};
+ghost use Prim.Native.Nat.{_≤_, max};
 ghost use lib.Dec.{T};
-ghost use lib.ListN.{length, set};
-ghost use Rattle.bus_model.specs.declared.Choice.the-variants.{Fixed, Any};
-ghost use Rattle.bus_model.specs.Bounds.{nodes, blocking, alignments, orEmpty, choiceOf, scenarioResponse, preciseBound};
+ghost use Rattle.bus_model.specs.declared.Choice.the-variants.{Fixed};
+ghost use Rattle.bus_model.specs.Bounds.{nodes, blocking, choiceOf, preciseBound};
 ghost use Rattle.bus_model.specs.Judgement.{lacksWindow};
-ghost use Rattle.bus_model.specs.theory.Refine.{nodeAt, levels, refined, Level};
+ghost use Rattle.bus_model.specs.theory.Refine.{levels, refined, Level};
 ghost use Rattle.workload.specs.Stored.{stored};
 ghost use Rattle.workload.specs.Grouped.{Grouped, InTable, FineTable};
 ghost use Rattle.greatest_work.specs.Kept.{Kept};
 ghost use Rattle.delay_search.specs.Load.{WindowWithin, Left};
 
-// Whether no response exceeds `most` in any scenario with one of the alignments of a level's node.
-fn is_split_within(
-    frames: &[u32],
-    members: &[u8],
-    counts: &[usize],
-    ends: &[u32],
-    k: Frame,
-    choices: [Choice; 16],
-    own: u32,
-    blocked: u32,
-    limit: u32,
-    level: usize,
-    most: u32,
-    known: Unserved,
-    hints: &[u32],
-    sums: &mut [u64],
-) -> bool
-    requires { ⌜ FineTable (stored (now frames)) ⌝ }
-    requires { ⌜ Grouped (stored (now frames)) k (now members) (now counts) (now ends) ⌝ }
-    requires { ⌜ InTable (stored (now frames)) k ⌝ }
-    requires { ⌜ (choiceOf choices (k .node) ≡ Fixed own) × (blocked ≡ blocking (stored (now frames)) k) ⌝ }
-    requires { ⌜ (1 ≤ level) × (level < 16) × (length choices ≡ 16) × (choiceOf choices (nodeAt k level) ≡ Any) ⌝ }
-    requires { ⌜ (limit ≤ 1000000) × WindowWithin (stored (now frames)) k choices limit ⌝ }
-    requires { ⌜ Left (stored (now frames)) k choices own most (known .list) (known .count) (known .end) ⌝ }
-    requires { ⌜ Kept (stored (now frames)) k (now sums) ⌝ }
-    ensures { λ r. ⌜ (T r → (a : ℕ) → Mem a (orEmpty (alignments (stored (now (frames .entry))) k (nodeAt k level))) → scenarioResponse (stored (now (frames .entry))) k (set choices (nodeAt k level - 1) (Fixed a)) ≤ most) ⌝ }
-    ensures kept { λ _. ⌜ Kept (stored (now (frames .entry))) k (now (sums .exit)) ⌝ }
-{
-    let j = node_at(k, level);
-    let mut a = or_zero(next_of(frames, members, counts, ends, k, j, 0));
-    loop {
-        let finer = with_choice(choices, j, a);
-        let within = is_within(
-            frames,
-            members,
-            counts,
-            ends,
-            k,
-            finer,
-            own,
-            blocked,
-            limit,
-            most,
-            true,
-            known,
-            hints,
-            sums,
-        );
-        if !within {
-            return false;
-        }
-        let found = next_of(frames, members, counts, ends, k, j, a + 1);
-        let Found::At(b) = found else {
-            return true;
-        };
-        a = b;
-    }
-}
-
-// Which instances are left in the scenario with the open nodes at `Any`. None are where no scenario from a level on has a response above
-// `most`: that one has none, or none of those in which the node of the level `heavy` has one of its alignments besides. Where it is not
-// asked, it does not look.
+// Which instances are left in the scenario with the open nodes at `Any`. Where none are, no scenario from a level on has a response above
+// `most`. Where it is not asked, it does not look.
 fn left_over(
     frames: &[u32],
     members: &[u8],
@@ -106,10 +42,8 @@ fn left_over(
     limit: u32,
     level: usize,
     most: u32,
-    heavy: usize,
     asked: bool,
     known: Unserved,
-    hints: &[u32],
     sums: &mut [u64],
 ) -> Unserved
     requires { ⌜ FineTable (stored (now frames)) ⌝ }
@@ -127,7 +61,7 @@ fn left_over(
     if !asked {
         return with_none(known, false);
     }
-    let left = sweep(
+    sweep(
         frames,
         members,
         counts,
@@ -141,35 +75,8 @@ fn left_over(
         true,
         known,
         ROOM,
-        hints,
         sums,
-    );
-    if left.none {
-        return left;
-    }
-    if heavy <= level {
-        return left;
-    }
-    if NODES <= heavy {
-        return left;
-    }
-    let split = is_split_within(
-        frames,
-        members,
-        counts,
-        ends,
-        k,
-        choices,
-        own,
-        blocked,
-        limit,
-        heavy,
-        most,
-        left,
-        hints,
-        sums,
-    );
-    with_none(left, split)
+    )
 }
 
 // The greatest of `best` and the responses where the nodes of the levels from `level` on take each of their
@@ -187,9 +94,7 @@ fn improve(
     limit: u32,
     level: usize,
     best: u32,
-    heavy: usize,
     known: Unserved,
-    hints: &mut [u32],
     sums: &mut [u64],
 ) -> u32
     requires { ⌜ FineTable (stored (now frames)) ⌝ }
@@ -217,7 +122,6 @@ fn improve(
             best,
             false,
             known,
-            hints,
             sums,
         ));
     }
@@ -237,9 +141,7 @@ fn improve(
             limit,
             below,
             best,
-            heavy,
             known,
-            hints,
             sums,
         );
     }
@@ -260,10 +162,8 @@ fn improve(
             limit,
             level,
             most,
-            heavy,
             asked,
             left,
-            hints,
             sums,
         );
         if left.none {
@@ -282,9 +182,7 @@ fn improve(
             limit,
             below,
             most,
-            heavy,
             left,
-            hints,
             sums,
         );
         asked = most < more;
@@ -305,7 +203,6 @@ pub fn precise(
     ends: &[u32],
     k: Frame,
     blocked: u32,
-    hints: &mut [u32],
     sums: &mut [u64],
 ) -> u32
     requires { ⌜ FineTable (stored (now frames)) ⌝ }
@@ -317,7 +214,6 @@ pub fn precise(
     ensures kept { λ _. ⌜ Kept (stored (now (frames .entry))) k (now (sums .exit)) ⌝ }
 {
     let j = k.node as usize;
-    let heavy = heaviest(frames, members, counts, ends, k);
     let mut most: u32 = 0;
     let mut a = or_zero(next_of(frames, members, counts, ends, k, j, 0));
     loop {
@@ -335,9 +231,7 @@ pub fn precise(
             limit,
             1,
             most,
-            heavy,
             all_left(),
-            hints,
             sums,
         );
         let found = next_of(frames, members, counts, ends, k, j, a + 1);

@@ -112,44 +112,6 @@ fn climb_guessed(
     climb(&area[0..to], shift_of(delay), base, from, end)
 }
 
-// Whether x holds its load.
-pub fn is_held(
-    frames: &[u32],
-    members: &[u8],
-    counts: &[usize],
-    ends: &[u32],
-    k: Frame,
-    choices: [Choice; 16],
-    own: u32,
-    delay: bool,
-    base: u64,
-    x: u32,
-    sums: &mut [u64],
-) -> bool
-    requires { ⌜ FineTable (stored (now frames)) ⌝ }
-    requires { ⌜ Grouped (stored (now frames)) k (now members) (now counts) (now ends) ⌝ }
-    requires { ⌜ InTable (stored (now frames)) k ⌝ }
-    requires { ⌜ (T delay → choiceOf choices (k .node) ≡ Fixed own) × (base ≤ 1000000000) × (x ≤ 1000000) ⌝ }
-    requires { ⌜ Kept (stored (now frames)) k (now sums) ⌝ }
-    ensures { λ r. ⌜ r ≡ holds (stored (now (frames .entry))) k choices delay base x ⌝ }
-    ensures kept { λ _. ⌜ Kept (stored (now (frames .entry))) k (now (sums .exit)) ⌝ }
-{
-    load(
-        frames,
-        members,
-        counts,
-        ends,
-        k,
-        choices,
-        own,
-        delay,
-        base,
-        x,
-        sums,
-    )
-        <= x as u64
-}
-
 // The least x from `from` on, below `end`, that holds its load. In the scenario with guesses the load is nowhere greater, so nothing
 // holds its load before it does there, where a step costs little; what is found there is then looked at.
 pub fn settle(

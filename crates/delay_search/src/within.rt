@@ -1,7 +1,4 @@
 // Starts that serve an instance: some are looked at once and, where none of these serves, one is searched for.
-use crate::hints::KEPT;
-use crate::hints::place_of;
-use crate::hints::recall;
 use crate::search::WINDOW_LIMIT;
 use crate::search::load;
 use crate::search::settle;
@@ -132,57 +129,6 @@ fn climb_above(laid: &[u32], length: u32, base: u64, from: u32, latest: u32) -> 
     Served { start: 0, count: 0 }
 }
 
-// Looks at the starts kept for a place.
-fn served_like(
-    frames: &[u32],
-    members: &[u8],
-    counts: &[usize],
-    ends: &[u32],
-    k: Frame,
-    choices: [Choice; 16],
-    own: u32,
-    base: u64,
-    latest: u32,
-    hints: &[u32],
-    at: usize,
-    sums: &mut [u64],
-) -> Served
-    requires { ⌜ FineTable (stored (now frames)) ⌝ }
-    requires { ⌜ Grouped (stored (now frames)) k (now members) (now counts) (now ends) ⌝ }
-    requires { ⌜ InTable (stored (now frames)) k ⌝ }
-    requires { ⌜ (choiceOf choices (k .node) ≡ Fixed own) × (base ≤ 1000000000) × (latest ≤ 1000000) ⌝ }
-    requires { ⌜ Kept (stored (now frames)) k (now sums) ⌝ }
-    ensures { λ r. ⌜ Serves (stored (now (frames .entry))) k choices base latest (r .start) (r .count) ⌝ }
-    ensures small { λ r. ⌜ r .count ≤ 1000001 ⌝ }
-    ensures kept { λ _. ⌜ Kept (stored (now (frames .entry))) k (now (sums .exit)) ⌝ }
-{
-    let mut i = 0;
-    while i < KEPT {
-        let x = recall(hints, at, i);
-        if x == 0 {
-            return Served { start: 0, count: 0 };
-        }
-        let served = served_at(
-            frames,
-            members,
-            counts,
-            ends,
-            k,
-            choices,
-            own,
-            base,
-            x,
-            latest,
-            sums,
-        );
-        if 0 < served.count {
-            return served;
-        }
-        i += 1;
-    }
-    Served { start: 0, count: 0 }
-}
-
 // A start by `latest`, as far as some that are tried tell. Where a node is open, the work of the frames laid out is tried before
 // the loads themselves, for which all alignments are visited.
 fn served_tried(
@@ -198,8 +144,6 @@ fn served_tried(
     latest: u32,
     open: bool,
     laid: &[u32],
-    hints: &[u32],
-    at: usize,
     sums: &mut [u64],
 ) -> Served
     requires { ⌜ FineTable (stored (now frames)) ⌝ }
@@ -217,26 +161,13 @@ fn served_tried(
         return last;
     }
     if !open {
-        return served_like(
-            frames,
-            members,
-            counts,
-            ends,
-            k,
-            choices,
-            own,
-            base,
-            latest,
-            hints,
-            at,
-            sums,
-        );
+        return Served { start: 0, count: 0 };
     }
     let climbed = climb_above(laid, k.length, base, from, latest);
     if 0 < climbed.count {
         return climbed;
     }
-    let looked = served_at(
+    served_at(
         frames,
         members,
         counts,
@@ -247,23 +178,6 @@ fn served_tried(
         base,
         latest,
         latest,
-        sums,
-    );
-    if 0 < looked.count {
-        return looked;
-    }
-    served_like(
-        frames,
-        members,
-        counts,
-        ends,
-        k,
-        choices,
-        own,
-        base,
-        latest,
-        hints,
-        at,
         sums,
     )
 }
@@ -337,8 +251,6 @@ fn served_by(
     latest: u32,
     open: bool,
     laid: &[u32],
-    hints: &[u32],
-    at: usize,
     sums: &mut [u64],
 ) -> Served
     requires { ⌜ FineTable (stored (now frames)) ⌝ }
@@ -364,8 +276,6 @@ fn served_by(
         latest,
         open,
         laid,
-        hints,
-        at,
         sums,
     );
     if 0 < tried.count {
@@ -417,7 +327,6 @@ pub fn served_instance(
     from: u32,
     open: bool,
     laid: &[u32],
-    hints: &[u32],
     sums: &mut [u64],
 ) -> Passed
     requires { ⌜ FineTable (stored (now frames)) ⌝ }
@@ -449,8 +358,6 @@ pub fn served_instance(
         latest,
         open,
         laid,
-        hints,
-        place_of(q),
         sums,
     );
     Passed {

@@ -7,6 +7,5 @@ pub use response::raised;
 pub use unserved::ROOM;
 pub use unserved::Unserved;
 pub use unserved::all_left;
-pub use unserved::is_within;
 pub use unserved::sweep;
 pub use unserved::with_none;

@@ -8,8 +8,6 @@ use arith::or_zero;
 use bus_model::Choice;
 use bus_model::Frame;
 use delay_search::WINDOW_LIMIT;
-use delay_search::place_of;
-use delay_search::remember;
 use delay_search::served_instance;
 use delay_search::settle;
 use workload::FRAME;
@@ -56,7 +54,6 @@ fn greatest_response(
     l: u32,
     most: u32,
     open: bool,
-    hints: &mut [u32],
     sums: &mut [u64],
 ) -> u32
     requires { ⌜ FineTable (stored (now frames)) ⌝ }
@@ -91,7 +88,6 @@ fn greatest_response(
             near,
             open,
             &area[0..to],
-            hints,
             sums,
         );
         if 0 < passed.count {
@@ -115,7 +111,6 @@ fn greatest_response(
             sums,
         );
         let delay = or_zero(found);
-        remember(hints, place_of(q), delay);
         best = greater(best, response(delay, k.length, d + q * k.period));
         near = delay;
         from = delay + k.length;
@@ -171,7 +166,6 @@ fn scenario_response(
     blocked: u32,
     most: u32,
     open: bool,
-    hints: &mut [u32],
     sums: &mut [u64],
 ) -> Found
     requires { ⌜ FineTable (stored (now frames)) ⌝ }
@@ -186,7 +180,6 @@ fn scenario_response(
     let Found::At(l) = found else {
         return Found::Nothing;
     };
-    remember(hints, 0, l);
     Found::At(greatest_response(
         frames,
         members,
@@ -199,7 +192,6 @@ fn scenario_response(
         l,
         most,
         open,
-        hints,
         sums,
     ))
 }
@@ -218,7 +210,6 @@ fn is_limited(
     most: u32,
     open: bool,
     known: Unserved,
-    hints: &[u32],
     sums: &mut [u64],
 ) -> bool
     requires { ⌜ FineTable (stored (now frames)) ⌝ }
@@ -245,7 +236,6 @@ fn is_limited(
             most,
             open,
             known,
-            hints,
             sums,
         ),
         Found::Nothing => false,
@@ -267,7 +257,6 @@ pub fn raised(
     most: u32,
     open: bool,
     known: Unserved,
-    hints: &mut [u32],
     sums: &mut [u64],
 ) -> Found
     requires { ⌜ FineTable (stored (now frames)) ⌝ }
@@ -293,7 +282,6 @@ pub fn raised(
         most,
         open,
         known,
-        hints,
         sums,
     ) {
         return Found::At(most);
@@ -309,7 +297,6 @@ pub fn raised(
         blocked,
         most,
         open,
-        hints,
         sums,
     )
 }

@@ -3,8 +3,6 @@
 use arith::greater;
 use bus_model::Choice;
 use bus_model::Frame;
-use delay_search::is_held;
-use delay_search::recall;
 use delay_search::served_instance;
 use workload::FRAME;
 use workload::FRAMES;
@@ -17,9 +15,8 @@ ghost use mathlib.Core.List.{List·Memᴰ as Mem};
 ghost use Prim.Native.Nat.{ℕ, _≤_, _<_, max};
 ghost use lib.Dec.{T};
 ghost use lib.ListN.{length, take};
-ghost use Rattle.arith.specs.declared.Found.the-variants.{At};
 ghost use Rattle.bus_model.specs.declared.Choice.the-variants.{Fixed};
-ghost use Rattle.bus_model.specs.Bounds.{choiceOf, blocking, busyWindow, scenarioResponse};
+ghost use Rattle.bus_model.specs.Bounds.{choiceOf, blocking, scenarioResponse};
 ghost use Rattle.workload.specs.Stored.{stored};
 ghost use Rattle.workload.specs.Grouped.{FineTable, Grouped, InTable};
 ghost use Rattle.greatest_work.specs.Kept.{Kept};
@@ -113,56 +110,6 @@ fn passed(served: u32) -> u32
     greater(1, served)
 }
 
-// A length that the scenario's window does not exceed, where `limit` is one: the last window, if it would do here and has fewer
-// releases.
-fn window_limit(
-    frames: &[u32],
-    members: &[u8],
-    counts: &[usize],
-    ends: &[u32],
-    k: Frame,
-    choices: [Choice; 16],
-    blocked: u32,
-    d: u32,
-    limit: u32,
-    hints: &[u32],
-    sums: &mut [u64],
-) -> u32
-    requires { ⌜ FineTable (stored (now frames)) ⌝ }
-    requires { ⌜ Grouped (stored (now frames)) k (now members) (now counts) (now ends) ⌝ }
-    requires { ⌜ InTable (stored (now frames)) k ⌝ }
-    requires { ⌜ (blocked ≡ blocking (stored (now frames)) k) × (limit ≤ 1000000) ⌝ }
-    requires { ⌜ Kept (stored (now frames)) k (now sums) ⌝ }
-    ensures { λ r. ⌜ ((l : ℕ) → busyWindow (stored (now (frames .entry))) k choices ≡ At l → l ≤ limit → l ≤ r) ⌝ }
-    ensures small { λ r. ⌜ r ≤ limit ⌝ }
-    ensures kept { λ _. ⌜ Kept (stored (now (frames .entry))) k (now (sums .exit)) ⌝ }
-{
-    let last = recall(hints, 0, 0);
-    if last == 0 || limit <= last {
-        return limit;
-    }
-    if releases_before(d, k.period, limit, 0) <= releases_before(d, k.period, last, 0) {
-        return limit;
-    }
-    if is_held(
-        frames,
-        members,
-        counts,
-        ends,
-        k,
-        choices,
-        0,
-        false,
-        blocked as u64,
-        last,
-        sums,
-    ) {
-        last
-    } else {
-        limit
-    }
-}
-
 // The instances that are left of those that `known` has left, the first `room` of them listed.
 pub fn sweep(
     frames: &[u32],
@@ -178,7 +125,6 @@ pub fn sweep(
     open: bool,
     known: Unserved,
     room: usize,
-    hints: &[u32],
     sums: &mut [u64],
 ) -> Unserved
     requires { ⌜ FineTable (stored (now frames)) ⌝ }
@@ -193,20 +139,7 @@ pub fn sweep(
     ensures kept { λ _. ⌜ Kept (stored (now (frames .entry))) k (now (sums .exit)) ⌝ }
 {
     let d = distance_from(k, own, 0);
-    let l = window_limit(
-        frames,
-        members,
-        counts,
-        ends,
-        k,
-        choices,
-        blocked,
-        d,
-        limit,
-        hints,
-        sums,
-    );
-    let releases = releases_before(d, k.period, l, 0);
+    let releases = releases_before(d, k.period, limit, 0);
     let mut area = [0u32; FRAMES];
     let to = FRAME * lay_out(frames, k, true, choices, &mut area);
     let listed = known.list;
@@ -231,7 +164,6 @@ pub fn sweep(
             from,
             open,
             &area[0..to],
-            hints,
             sums,
         );
         if is_full(served.count, room, count) {
@@ -268,7 +200,6 @@ pub fn is_within(
     most: u32,
     open: bool,
     known: Unserved,
-    hints: &[u32],
     sums: &mut [u64],
 ) -> bool
     requires { ⌜ FineTable (stored (now frames)) ⌝ }
@@ -295,7 +226,6 @@ pub fn is_within(
         open,
         known,
         0,
-        hints,
         sums,
     );
     left.none

@@ -68,19 +68,9 @@ fn bound_among(frames: &[u32], k: Frame, i: usize) -> Bounded
     let mut members = [0u8; workload::MEMBERS];
     let mut counts = [0usize; workload::NODES];
     let mut ends = [0u32; workload::NODES];
-    let mut hints = [0u32; delay_search::HINTS];
     let mut sums = [0u64; greatest_work::SUMS];
     workload::group(frames, k, &mut members, &mut counts, &mut ends);
-    bound_frame(
-        frames,
-        &members,
-        &counts,
-        &ends,
-        k,
-        i,
-        &mut hints,
-        &mut sums,
-    )
+    bound_frame(frames, &members, &counts, &ends, k, i, &mut sums)
 }
 
 // The precise bound of frame k in row i, whose frames ahead are grouped.
@@ -91,7 +81,6 @@ fn bound_frame(
     ends: &[u32],
     k: Frame,
     i: usize,
-    hints: &mut [u32],
     sums: &mut [u64],
 ) -> Bounded
     requires { ⌜ FineTable (stored (now frames)) ⌝ }
@@ -101,7 +90,7 @@ fn bound_frame(
     ensures { λ r. ⌜ r ≡ boundFrame (stored (now (frames .entry))) i ⌝ }
 {
     let blocked = workload::frame_blocking(frames, k);
-    let found = bounds::approximate(frames, members, counts, ends, k, blocked, hints, sums);
+    let found = bounds::approximate(frames, members, counts, ends, k, blocked, sums);
     let Found::At(_) = found else {
         return Bounded::NotBounded(Refusal {
             cause: Cause::NoWindow,
@@ -115,5 +104,5 @@ fn bound_frame(
             place: i as u32,
         });
     }
-    Bounded::Bound(bounds::precise(frames, members, counts, ends, k, blocked, hints, sums))
+    Bounded::Bound(bounds::precise(frames, members, counts, ends, k, blocked, sums))
 }

@@ -76,19 +76,9 @@ fn judge_among(frames: &[u32], k: Frame, claim: u32) -> Judgement
     let mut members = [0u8; workload::MEMBERS];
     let mut counts = [0usize; workload::NODES];
     let mut ends = [0u32; workload::NODES];
-    let mut hints = [0u32; delay_search::HINTS];
     let mut sums = [0u64; greatest_work::SUMS];
     workload::group(frames, k, &mut members, &mut counts, &mut ends);
-    judge_frame(
-        frames,
-        &members,
-        &counts,
-        &ends,
-        k,
-        claim,
-        &mut hints,
-        &mut sums,
-    )
+    judge_frame(frames, &members, &counts, &ends, k, claim, &mut sums)
 }
 
 // The judgement of frame k, whose frames ahead are grouped.
@@ -99,7 +89,6 @@ fn judge_frame(
     ends: &[u32],
     k: Frame,
     claim: u32,
-    hints: &mut [u32],
     sums: &mut [u64],
 ) -> Judgement
     requires { ⌜ FineTable (stored (now frames)) ⌝ }
@@ -109,7 +98,7 @@ fn judge_frame(
     ensures { λ r. ⌜ r ≡ judge (stored (now (frames .entry))) k claim ⌝ }
 {
     let blocked = workload::frame_blocking(frames, k);
-    let found = bounds::approximate(frames, members, counts, ends, k, blocked, hints, sums);
+    let found = bounds::approximate(frames, members, counts, ends, k, blocked, sums);
     let Found::At(rough) = found else {
         return Judgement {
             outcome: Outcome::NoWindow,
@@ -124,7 +113,7 @@ fn judge_frame(
     if bounds::SCENARIO_LIMIT < scenarios {
         return judged(Outcome::Undecided(rough), rough, claim);
     }
-    let exact = bounds::precise(frames, members, counts, ends, k, blocked, hints, sums);
+    let exact = bounds::precise(frames, members, counts, ends, k, blocked, sums);
     if exact <= claim {
         judged(Outcome::CertifiedPrecise(exact), exact, claim)
     } else {

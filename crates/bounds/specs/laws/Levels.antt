@@ -14,7 +14,7 @@ use Rattle.arith.specs.declared.Found.the-variants.{At, Nothing}
 use Rattle.arith.specs.Lists.{product, greatest, range}
 use Rattle.arith.specs.Least.{least, orZero}
 use Rattle.arith.specs.laws.Members.{of-range}
-use Rattle.arith.specs.laws.Sums.{product-shift, le-greatest}
+use Rattle.arith.specs.laws.Sums.{product-shift}
 use Rattle.arith.specs.laws.Walks.{Walk, greatest-more, walk-more, walk-end}
 use Rattle.bus_model.specs.declared.Frame.{Frame}
 use Rattle.bus_model.specs.declared.Choice.{Choice}
@@ -29,9 +29,9 @@ use Rattle.bus_model.specs.theory.Work.{RefinedBy}
 use Rattle.bus_model.specs.theory.Response.{window-refine}
 use Rattle.bus_model.specs.theory.Judged.{has-windows}
 use Rattle.bus_model.specs.theory.Visits.{isAlignment}
-use Rattle.bus_model.specs.theory.Refine.{refined, free, set-same, nodeAt, levels, node-first, level-node, of-levels, own-scenarios, precise-refined, refined-step, Level, level-start, level-more, own-kept, refines-node, pruned, split-pruned}
+use Rattle.bus_model.specs.theory.Refine.{refined, free, set-same, nodeAt, levels, node-first, level-node, of-levels, own-scenarios, precise-refined, refined-step, Level, level-start, level-more, own-kept, refines-node, pruned}
 use Rattle.bus_model.specs.theory.Approximate.{both, greatestFound, scenarioFound, approximateFound, found-at, found-counts}
-use Rattle.bus_model.specs.theory.Turns.{turn, firstTurn, refined-turn, split-turn, approximate-turn, visit-first, found-listed, first-listed}
+use Rattle.bus_model.specs.theory.Turns.{turn, firstTurn, refined-turn, approximate-turn, visit-first, found-listed, first-listed}
 use Rattle.workload.specs.Grouped.{FineTable, framesIn, instantsIn, Grouped, InTable}
 use Rattle.delay_search.specs.Load.{WindowWithin, Left}
 use Rattle.delay_search.specs.laws.Within.{left-finer}
@@ -109,10 +109,6 @@ module _ (fs : List Frame) (k : Frame) (j : ℕ) (f : ℕ → ℕ) where
   pub best-over : {from most a all : ℕ} → Best fs k j f from most a → from ≤ most → greatest f (orEmpty (firstTurn fs k j)) ≡ all → all ≤ most → most ≡ max from all
   best-over best low whole le = omega (arith, best .walk .is)
 
-  -- If it ends with what it started from, no value is greater.
-  pub best-stays : {most a : ℕ} → Best fs k j f most most a → f a ≤ most → least passes (end - (a + 1)) (a + 1) ≡ Nothing → (b : ℕ) → Mem b (orEmpty (firstTurn fs k j)) → f b ≤ most
-  best-stays {most} best le none b m = omega (arith, best-end {next = most} best (omega arith) none, le-greatest f m)
-
 -- ---- one scenario
 
 module _ {fs : List Frame} {k : Frame} {cs : List Choice} {limit : ℕ} where
@@ -131,10 +127,6 @@ module _ {fs : List Frame} {k : Frame} {cs : List Choice} {limit : ℕ} where
 -- the greatest response from level i on, where its node j takes alignment a
 abbrev pub nextLevel : List Frame → Frame → List Choice → ℕ → ℕ → ℕ → ℕ
 nextLevel fs k cs i j a = refined fs k (levels k (i + 1) nodes) (set cs (j - 1) (Fixed a))
-
--- the response where node j takes alignment a
-abbrev pub splitResponse : List Frame → Frame → List Choice → ℕ → ℕ → ℕ
-splitResponse fs k cs j a = scenarioResponse fs k (set cs (j - 1) (Fixed a))
 
 -- A search has come to level i with the choices cs: k's own node has alignment own, and there is a window within the limit.
 abbrev pub Reached : List Frame → Frame → ℕ → ℕ → ℕ → List Choice → Type 0
@@ -182,10 +174,6 @@ module _ {fs : List Frame} (valid : Valid fs) {n : ℕ} (inside : n < length fs)
       rw at (refined-turn valid inside cs long (nodeAt f i) (level-node f self i less) (levels f (i + 1) nodes) (λ j m. let (n, low, high, e) = of-levels f (i + 1) nodes m in rw e (level-node f self n high))
       ∙ sym (refined-step fs f cs i nodes less))
 
-  row-every : (cs : List Choice) → length cs ≡ nodes → {i j : ℕ} → j ≡ nodeAt f i → i < nodes → {most : ℕ}
-      → ((a : ℕ) → Mem a (orEmpty (firstTurn fs f j)) → splitResponse fs f cs j a ≤ most) → (a : ℕ) → Mem a (orEmpty (alignments fs f j)) → splitResponse fs f cs j a ≤ most
-  row-every cs long {i} at less = rw at (split-turn valid inside cs long (nodeAt f i) (level-node f self i less))
-
   row-next : {i own limit : ℕ} {cs : List Choice} → Reached fs f i own limit cs → i < nodes → {j : ℕ} → j ≡ nodeAt f i → {a : ℕ} → Mem a (orEmpty (alignments fs f j))
       → {cs′ : List Choice} → cs′ ≡ set cs (j - 1) (Fixed a) → Reached fs f (i + 1) own limit cs′
   row-next {i} (fixed, level, within) less {j} at {a} m e =
@@ -208,11 +196,6 @@ module _ {fs : List Frame} (accepted : FineTable fs) {k : Frame} (table : InTabl
       → greatest (nextLevel fs k cs i j) (orEmpty (firstTurn fs k j)) ≡ refined fs k (levels k i nodes) cs
   next-levels = rw (table .is) (row-levels (accepted .valid) (table .inside))
 
-  -- What holds of each alignment of the first turn holds of all.
-  pub every-split : (cs : List Choice) → length cs ≡ nodes → {i j : ℕ} → j ≡ nodeAt k i → i < nodes → {most : ℕ}
-      → ((a : ℕ) → Mem a (orEmpty (firstTurn fs k j)) → splitResponse fs k cs j a ≤ most) → (a : ℕ) → Mem a (orEmpty (alignments fs k j)) → splitResponse fs k cs j a ≤ most
-  every-split = rw (table .is) (row-every (accepted .valid) (table .inside))
-
   -- The approximate bound is found in the first turn.
   pub own-found : greatestFound (ownFound fs k) (orEmpty (firstTurn fs k (k .node))) ≡ approximateFound fs k
   own-found = rw (table .is) (approximate-turn (accepted .valid) (table .inside))
@@ -227,12 +210,6 @@ module _ {fs : List Frame} (accepted : FineTable fs) {k : Frame} (table : InTabl
       → {cs : List Choice} → cs ≡ set free (k .node - 1) (Fixed a) → {limit : ℕ} → limit ≡ orZero (busyWindow fs k cs) → Reached fs k 1 a limit cs
   reached-first = rw (table .is) (row-first (accepted .valid) (table .inside))
 
-  -- An alignment of a node that is open leaves k's own as it is, and the window within the limit.
-  pub split-next : {i own limit : ℕ} {cs : List Choice} → i < nodes → length cs ≡ nodes → choiceOf cs (nodeAt k i) ≡ Any → choiceOf cs (k .node) ≡ Fixed own → WindowWithin fs k cs limit
-      → {j : ℕ} → j ≡ nodeAt k i → {a : ℕ} → Mem a (orEmpty (alignments fs k j)) → {cs′ : List Choice} → cs′ ≡ set cs (j - 1) (Fixed a)
-      → (choiceOf cs′ (k .node) ≡ Fixed own) × WindowWithin fs k cs′ limit
-  split-next = rw (table .is) (row-split (accepted .valid) (table .inside))
-
   -- Nor are more instances left there.
   pub left-next : {i : ℕ} {cs : List Choice} → i < nodes → length cs ≡ nodes → choiceOf cs (nodeAt k i) ≡ Any → {j : ℕ} → j ≡ nodeAt k i → {a : ℕ} → Mem a (orEmpty (alignments fs k j))
       → {cs′ : List Choice} → cs′ ≡ set cs (j - 1) (Fixed a) → {own most count end : ℕ} {list : List ℕ} → Left fs k cs own most list count end → Left fs k cs′ own most list count end
@@ -246,11 +223,6 @@ module _ {fs : List Frame} (accepted : FineTable fs) {k : Frame} (table : InTabl
   -- No scenario further on has a greater response.
   pub reached-most : {i own limit : ℕ} {cs : List Choice} → Reached fs k i own limit cs → 1 ≤ i → refined fs k (levels k i nodes) cs ≤ scenarioResponse fs k cs
   reached-most = rw (table .is) (λ (fixed, level, w) some. pruned (accepted .valid) (table .inside) level some nodes (le-refl nodes) (w .window) (w .is))
-
-  -- Nor has one a response above `most`, where none has with an alignment of the node of a level that is left.
-  pub reached-split : {i own limit : ℕ} {cs : List Choice} → Reached fs k i own limit cs → 1 ≤ i → {m : ℕ} → i ≤ m → m < nodes → {most : ℕ}
-      → ((a : ℕ) → Mem a (orEmpty (alignments fs k (nodeAt k m))) → splitResponse fs k cs (nodeAt k m) a ≤ most) → refined fs k (levels k i nodes) cs ≤ most
-  reached-split = rw (table .is) (λ (fixed, level, w) some m. split-pruned (accepted .valid) (table .inside) level some nodes (le-refl nodes) (w .window) (w .is) {m = m})
 
   -- From the first level on it finds the precise bound.
   pub precise-levels : {most : ℕ} → most ≡ max 0 (greatest (nextLevel fs k free 0 (k .node)) (orEmpty (firstTurn fs k (k .node)))) → most ≡ preciseBound fs k

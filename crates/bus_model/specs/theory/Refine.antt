@@ -22,7 +22,7 @@ use Rattle.bus_model.specs.Valid.{ValidFrame, Valid}
 use Rattle.bus_model.specs.Bounds.{nodes, alignments, orEmpty, choiceOf, choices, scenarios, ownNode, everyNode, busyWindow, scenarioResponse, boundOf, preciseBound, approximateBound}
 use Rattle.bus_model.specs.theory.Frames.{node-listed}
 use Rattle.bus_model.specs.theory.Work.{Allows, RefinedBy}
-use Rattle.bus_model.specs.theory.Response.{window-refine, response-refine}
+use Rattle.bus_model.specs.theory.Response.{response-refine}
 use Rattle.bus_model.specs.theory.Scenarios.{scenario-is, mem-scenarios, of-scenarios, scenarios-length, fixed-choice, allows-self}
 use Rattle.arith.specs.declared.Found.the-variants.{At}
 use Rattle.bus_model.specs.declared.Frame.{Frame}
@@ -360,14 +360,6 @@ module _ (fs : List Frame) (k : Frame) (cs cs′ : List Choice) (refines : Refin
           | no other ↦ rw (set-other cs′ listed a l other) (refines i l)
         ]
 
-    -- Where it has that alignment, it refines cs with that alignment too.
-    refines-taken : length cs ≡ nodes → choiceOf cs′ j ≡ Fixed a → RefinedBy fs k (set cs (j - 1) (Fixed a)) cs′
-    refines-taken long taken i l =
-        elim (ℕ-discrete i j) [
-          | yes e ↦ rw (e, set-same cs listed a long, taken) (allows-self (alignments fs k j) (Fixed a))
-          | no other ↦ rw (set-other cs listed a l other) (refines i l)
-        ]
-
 -- A scenario refines itself,
 refines-self : (fs : List Frame) (k : Frame) (cs : List Choice) → RefinedBy fs k cs cs
 refines-self fs k cs j l = allows-self (alignments fs k j) (choiceOf cs j)
@@ -403,23 +395,6 @@ module _ {fs : List Frame} (valid : Valid fs) {k : ℕ} (inside : k < length fs)
         refines = refines-more fs f cs cs′ (p .refines) (p .node j (here refl)) (p .long) (p .left j (here refl)) m;
       }
 
-  -- besides, the node i is one of js or has taken one of its alignments
-  abbrev Split : ℕ → List Choice → List ℕ → List Choice → Type 0
-  Split i cs js cs′ = Finer cs js cs′ × (Mem i js ⊎ ((a : ℕ) × Mem a (orEmpty (alignments fs f i)) × (choiceOf cs′ i ≡ Fixed a)))
-
-  split-more : {i : ℕ} → Mem i (range 1 nodes) → (cs : List Choice) (j : ℕ) (js : List ℕ) (cs′ : List Choice) (a : ℕ) → Mem a (orEmpty (alignments fs f j))
-      → Split i cs (j ∷ js) cs′ → Split i cs js (set cs′ (j - 1) (Fixed a))
-  split-more {i} listed cs j js cs′ a m (p, takes) = (
-    finer-more cs j js cs′ a m p,
-    elim (ℕ-discrete i j) [
-      | yes e ↦ inr (rw e (a, m, set-same cs′ (p .node j (here refl)) a (p .long)))
-      | no other ↦ elim takes [
-        | inl later ↦ elim (List·Memᴰ·cases-cons later) [ inl now ↦ absurd (other now) | inr n ↦ inl n ]
-        | inr (b, n, taken) ↦ inr (b, n, set-other cs′ (p .node j (here refl)) a listed other ∙ taken)
-      ]
-    ],
-  )
-
   -- A search has come to a level after the first, and its scenario has a window.
   module _ {i : ℕ} {cs : List Choice} (level : Level f i cs) (some : 0 < i) (stop : ℕ) (within : stop ≤ nodes) (l : ℕ) (window : busyWindow fs f cs ≡ At l) where
     self : ValidFrame f
@@ -435,25 +410,8 @@ module _ {fs : List Frame} (valid : Valid fs) {k : ℕ} (inside : k < length fs)
           refines = refines-self fs f cs;
         }
 
-    -- The branch may be left out where that has no greater response than what is found,
+    -- The branch may be left out where that has no greater response than what is found.
     pub pruned : refined fs f (levels f i stop) cs ≤ scenarioResponse fs f cs
     pruned =
         refined-le fs f (levels f i stop) cs (λ cs′ leaf.
         response-below cs cs′ (leaf-keeps fs f (Finer cs) (finer-more cs) (levels f i stop) unrefined leaf .refines) (level .own some .1) window)
-
-    -- or where none has with an alignment of the node of a level that is left.
-    pub split-pruned : {m : ℕ} → i ≤ m → m < stop → {most : ℕ}
-        → ((a : ℕ) → Mem a (orEmpty (alignments fs f (nodeAt f m))) → scenarioResponse fs f (set cs (nodeAt f m - 1) (Fixed a)) ≤ most) → refined fs f (levels f i stop) cs ≤ most
-    unfolding levels
-    split-pruned {m} low high each =
-        let listed = level-node f self m (omega arith) in
-        refined-le fs f (levels f i stop) cs (λ cs′ leaf.
-        let (finer, takes) = leaf-keeps fs f (Split (nodeAt f m) cs) (split-more listed cs) (levels f i stop) (unrefined, inl (Memᴰ·map (nodeAt f) (mem-range i (stop - i) m low (omega arith)))) leaf in
-        elim takes [
-          | inl none ↦ absurd (List·Memᴰ·not-nil none)
-          | inr (a, n, taken) ↦
-              let split = refines-node fs f cs listed (level .long) (level .left m low (omega arith)) n in
-              let cs″ = set cs (nodeAt f m - 1) (Fixed a) in
-              let (l′, window′, shorter) = window-refine valid inside cs cs″ split l window in
-              le-trans (response-below cs″ cs′ (refines-taken fs f cs cs′ (finer .refines) listed (level .long) taken) (own-kept fs f cs cs″ split self (level .own some .1)) window′) (each a n)
-        ])

@@ -294,11 +294,6 @@ module _ {fs : List Frame} (valid : Valid fs) {k : ℕ} (inside : k < length fs)
         greatest-turn valid f j (λ a. refined fs f js (fixed a)) (λ a.
         refined-alike js node (fixed (a % turn fs f j)) (fixed a) (alike-turn a) (length-set cs (j - 1) (Fixed (a % turn fs f j)) ∙ long) (length-set cs (j - 1) (Fixed a) ∙ long))
 
-    -- A bound of the responses in the first turn is one of all.
-    pub split-turn : {most : ℕ} → ((a : ℕ) → Mem a (orEmpty (firstTurn fs f j)) → scenarioResponse fs f (set cs (j - 1) (Fixed a)) ≤ most)
-        → (a : ℕ) → Mem a (orEmpty (alignments fs f j)) → scenarioResponse fs f (set cs (j - 1) (Fixed a)) ≤ most
-    split-turn each a m = rw (response-alike (fixed (a % turn fs f j)) (fixed a) (alike-turn a)) at (each (a % turn fs f j) (turned valid f j m))
-
   -- The approximate bound is found in the first turn of the frame's own node.
   pub approximate-turn : greatestFound (λ a. scenarioFound fs f (set free (f .node - 1) (Fixed a))) (orEmpty (firstTurn fs f (f .node))) ≡ approximateFound fs f
   unfolding approximateFound

@@ -26,7 +26,7 @@ use Rattle.bus_model.specs.Valid.{Valid}
 use Rattle.bus_model.specs.Bounds.{windowLimit, ahead, better, blocking, distance, choiceOf, demand, work, windowLoad, busyWindow, delayLoad, queueingDelay, ownDistance, instanceResponse, responseTime}
 use Rattle.bus_model.specs.theory.Frames.{better-ahead}
 use Rattle.bus_model.specs.theory.Work.{RefinedBy, work-mono, work-refine, work-own}
-use Rattle.bus_model.specs.theory.Response.{window-at, window-least, own-distance, delay-at, delay-within}
+use Rattle.bus_model.specs.theory.Response.{window-at, own-distance, delay-at, delay-within}
 use Rattle.bus_model.specs.theory.Iteration.{delay-next}
 use Rattle.workload.specs.Grouped.{FineTable, InTable}
 use Rattle.workload.specs.Laid.{laidOut, laidWork, AllFixed, FineFrames}
@@ -149,11 +149,6 @@ module _ (fs : List Frame) (k : Frame) (cs : List Choice) where
       go : (r : Found) → busyWindow fs k cs ≡ r → l ≤ 1000000
       go (At m) is = let same : l ≡ m = rw is at e in omega (arith, window-small is)
       go Nothing is = let none : l ≡ 0 = rw is at e in omega arith
-
-  -- It is not longer than a length that holds its load.
-  pub window-held : {blocked l x : ℕ} → blocked ≡ blocking fs k → busyWindow fs k cs ≡ At l → 1 ≤ x → T (holds fs k cs false blocked x) → l ≤ x
-  unfolding holds loadOf windowLoad
-  window-held {l = l} {x} blocks e low t = window-least fs k cs l x e low (leb→le _ x (rw blocks at t))
 
   -- ---- the queueing delay of instance q
 

@@ -1,13 +1,13 @@
 -- The loop has the greatest response over the alignments of the level's node that are visited, each the start of a search from the next level on;
 -- what is left out has no response above the greatest.
 use Prim.Native.Nat.{ℕ, _+_, _-_, _≤_, _<_, max}
-use mathlib.Core.Path.{_≡_, refl, sym, ap, _∙_}
+use mathlib.Core.Path.{_≡_, sym, ap, _∙_}
 use native.Mathlib.Omega.{arith}
 use borrow.Author.Needs.{needs}
 use borrow.Fn.Kinds.{In}
 use borrow.Fn.PlainCycle.{Measures, is, falls, and}
 use mathlib.Core.List.{List, List·Memᴰ as Mem}
-use lib.ListN.{length, set}
+use lib.ListN.{set}
 use Rattle.arith.specs.Lists.{greatest}
 use Rattle.arith.specs.Least.{orZero}
 use Rattle.arith.specs.laws.Least.{is-none}
@@ -35,14 +35,14 @@ use Rattle.response_time.proofs.raised.Reads as raised-reads
 use Rattle.bounds.proofs.precise_bound.+improve.{statement}
 use Rattle.bounds.proofs.precise_bound.+improve.Tie.{close}
 
-abbrev μ-improve : Measures 6 improve-kinds.ps ℕ
+abbrev μ-improve : Measures 5 improve-kinds.ps ℕ
 μ-improve κs a = 16 - a .1 .1 .1 .1 .1 .1 .1 .1 .1 .0
 
-abbrev improve-at : ℕ → In 6 improve-kinds.ps
-improve-at t = and 6 improve-kinds.ps (is 6 improve-kinds.ps μ-improve t) improve.Pre
+abbrev improve-at : ℕ → In 5 improve-kinds.ps
+improve-at t = and 5 improve-kinds.ps (is 5 improve-kinds.ps μ-improve t) improve.Pre
 
-abbrev improve-below : ℕ → In 6 improve-kinds.ps
-improve-below t = and 6 improve-kinds.ps (falls 6 improve-kinds.ps _<_ μ-improve t) improve.Pre
+abbrev improve-below : ℕ → In 5 improve-kinds.ps
+improve-below t = and 5 improve-kinds.ps (falls 5 improve-kinds.ps _<_ μ-improve t) improve.Pre
 
 abbrev claims : ℕ → improve-lts.Claims
 claims t = (
@@ -65,12 +65,12 @@ claims t = (
 )
 
 abbrev improve-Inv-loop : improve-lts.InvT-loop
-improve-Inv-loop frames members counts ends k choices own blocked limit level best heavy hints₀ sums₀ j first₀ below most₀ a₀ asked₀ left₀ hints sums most a asked left =
-    Best (stored frames) k j (nextLevel (stored frames) k choices level j) best most a × (length hints ≡ length hints₀) × (best ≤ most)
+improve-Inv-loop frames members counts ends k choices own blocked limit level best sums₀ j first₀ below most₀ a₀ asked₀ left₀ sums most a asked left =
+    Best (stored frames) k j (nextLevel (stored frames) k choices level j) best most a × (best ≤ most)
     × Left (stored frames) k choices own most (left .list) (left .count) (left .end) × Kept (stored frames) k sums
 
 abbrev improve-μ-loop : improve-lts.MeasureT-loop
-improve-μ-loop frames members counts ends k choices own blocked limit level best heavy hints₀ sums₀ j first₀ below most₀ a₀ asked₀ left₀ hints sums most a asked left =
+improve-μ-loop frames members counts ends k choices own blocked limit level best sums₀ j first₀ below most₀ a₀ asked₀ left₀ sums most a asked left =
     turn (stored frames) k j - a
 
 -- where the search stands when the function starts
@@ -78,36 +78,33 @@ reached : (t : ℕ) (s : improve-lts.Start (claims t) (improve-at t) improve.Pos
 reached t s = let p = s .pre .1 .1 .1 .1 in (p .0 .0, p .1 .0 .2, p .1 .1 .0 .1)
 
 -- a level is left
-lower : (t : ℕ) (c : improve-lts.Else1 (claims t) (improve-at t) improve.Post improve-Inv-loop improve-μ-loop) → c .before .before .before .before .before .before .before .args .level < nodes
-lower t c = omega (arith, c .before .before .before .before .before .before .before .pre .1 .1 .1 .1 .1 .0, c .if1 .left)
+lower : (t : ℕ) (c : improve-lts.Else1 (claims t) (improve-at t) improve.Post improve-Inv-loop improve-μ-loop) → c .before .before .before .before .before .before .args .level < nodes
+lower t c = omega (arith, c .before .before .before .before .before .before .pre .1 .1 .1 .1 .1 .0, c .if1 .left)
 
 -- its node is one of the nodes
 node : (t : ℕ) (c : improve-lts.After-node-at (claims t) (improve-at t) improve.Post improve-Inv-loop improve-μ-loop) → (1 ≤ c .node-at .result) × (c .node-at .result ≤ 16)
-node t c = let s = c .before .before .before .before .before .before .before .before in reached-node (s .pre .1 .0) (s .pre .1 .1 .1 .0) (c .node-at .ensures) (lower t (c .before))
+node t c = let s = c .before .before .before .before .before .before .before in reached-node (s .pre .1 .0) (s .pre .1 .1 .1 .0) (c .node-at .ensures) (lower t (c .before))
 
 improve-raised-requires : (t : ℕ) → improve-lts.Need-raised-requires (claims t) (improve-at t) improve.Post improve-Inv-loop improve-μ-loop
 improve-raised-requires t c κs =
-    let p = c .before .before .before .before .before .before .before .before .before .pre .1 in
+    let p = c .before .before .before .before .before .before .before .pre .1 in
     (p .0, (p .1 .0, (p .1 .1 .0, (p .1 .1 .1 .0, (at-within (p .1 .1 .1 .1 .1 .0), p .1 .1 .1 .1 .1 .1)))))
 
 improve-or-zero-requires : (t : ℕ) → improve-lts.Need-or-zero-requires (claims t) (improve-at t) improve.Post improve-Inv-loop improve-μ-loop
 improve-or-zero-requires t c κs = search needs
 
 improve-same-length : (t : ℕ) → improve-lts.Need-same-length (claims t) (improve-at t) improve.Post improve-Inv-loop improve-μ-loop
-improve-same-length t c = search needs
-
-improve-same-length-2 : (t : ℕ) → improve-lts.Need-same-length-2 (claims t) (improve-at t) improve.Post improve-Inv-loop improve-μ-loop
-improve-same-length-2 t c =
-    c .before .before .before .before .before .raised .ensures .1 .size ∙ sym (c .before .before .before .before .before .before .before .before .before .before .before .before .before .before .before .pre .1 .1 .1 .1 .1 .1 .1 .1 .size)
+improve-same-length t c =
+    c .before .before .before .raised .ensures .1 .size ∙ sym (c .before .before .before .before .before .before .before .before .before .before .before .pre .1 .1 .1 .1 .1 .1 .1 .1 .size)
 
 improve-returns : (t : ℕ) → improve-lts.Need-returns (claims t) (improve-at t) improve.Post improve-Inv-loop improve-μ-loop
 improve-returns t c =
-    let s = c .before .before .before .before .before .before .before .before .before .before .before .before .before .before .before in (
+    let s = c .before .before .before .before .before .before .before .before .before .before .before in (
       c .or-zero .ensures
-          ∙ ap orZero (c .before .before .before .before .before .raised .ensures .0)
+          ∙ ap orZero (c .before .before .before .raised .ensures .0)
           ∙ raised-counts (reached t s .2) (s .args .best)
-          ∙ ap (max (s .args .best)) (sym (refined-end (stored (s .args .frames .now)) (s .args .k) (s .args .choices) (s .args .level) nodes (omega (arith, c .before .before .before .before .before .before .before .before .if1 .taken)))),
-      c .before .before .before .before .before .raised .ensures .1,
+          ∙ ap (max (s .args .best)) (sym (refined-end (stored (s .args .frames .now)) (s .args .k) (s .args .choices) (s .args .level) nodes (omega (arith, c .before .before .before .before .before .if1 .taken)))),
+      c .before .before .before .raised .ensures .1,
     )
 
 improve-node-at-requires : (t : ℕ) → improve-lts.Need-node-at-requires (claims t) (improve-at t) improve.Post improve-Inv-loop improve-μ-loop
@@ -115,7 +112,7 @@ improve-node-at-requires t c κs = lower t (c)
 
 improve-next-of-requires : (t : ℕ) → improve-lts.Need-next-of-requires (claims t) (improve-at t) improve.Post improve-Inv-loop improve-μ-loop
 improve-next-of-requires t c κs =
-    let p = c .before .before .before .before .before .before .before .before .pre .1 in
+    let p = c .before .before .before .before .before .before .before .pre .1 in
     let n = node t (c) in
     (p .0, (p .1 .0, (n .0, n .1, omega arith)))
 
@@ -123,23 +120,23 @@ improve-or-zero-requires-2 : (t : ℕ) → improve-lts.Need-or-zero-requires-2 (
 improve-or-zero-requires-2 t c κs = search needs
 
 -- the walk stands at its first alignment
-first : (t : ℕ) (c : improve-lts.After-or-zero2 (claims t) (improve-at t) improve.Post improve-Inv-loop improve-μ-loop) → let s = c .before .before .before .before .before .before .before .before .before .before in let j = c .before .before .node-at .result in
+first : (t : ℕ) (c : improve-lts.After-or-zero2 (claims t) (improve-at t) improve.Post improve-Inv-loop improve-μ-loop) → let s = c .before .before .before .before .before .before .before .before .before in let j = c .before .before .node-at .result in
     Best (stored (s .args .frames .now)) (s .args .k) j (nextLevel (stored (s .args .frames .now)) (s .args .k) (s .args .choices) (s .args .level) j) (s .args .best) (s .args .best) (c .or-zero2 .result)
-first t c = best-first _ _ _ _ (c .before .before .before .before .before .before .before .before .before .before .pre .1 .0 .valid) (c .before .next-of .result) (c .before .next-of .ensures) (c .or-zero2 .ensures)
+first t c = best-first _ _ _ _ (c .before .before .before .before .before .before .before .before .before .pre .1 .0 .valid) (c .before .next-of .result) (c .before .next-of .ensures) (c .or-zero2 .ensures)
 
 improve-is-last-requires : (t : ℕ) → improve-lts.Need-is-last-requires (claims t) (improve-at t) improve.Post improve-Inv-loop improve-μ-loop
 improve-is-last-requires t c κs =
-    let p = c .before .before .before .before .before .before .before .before .before .before .pre .1 in
+    let p = c .before .before .before .before .before .before .before .before .before .pre .1 in
     let n = node t (c .before .before) in
     (p .0, (p .1 .0, (n .0, n .1, first t (c) .walk .inside)))
 
 -- it goes on with one of its node's alignments
-deeper : (t : ℕ) (c : improve-lts.After-node-at (claims t) (improve-at t) improve.Post improve-Inv-loop improve-μ-loop) {a most count end : ℕ} {cs : List Choice} {list : List ℕ} → let x = c .before .before .before .before .before .before .before .before .args in let j = c .node-at .result in
+deeper : (t : ℕ) (c : improve-lts.After-node-at (claims t) (improve-at t) improve.Post improve-Inv-loop improve-μ-loop) {a most count end : ℕ} {cs : List Choice} {list : List ℕ} → let x = c .before .before .before .before .before .before .before .args in let j = c .node-at .result in
     Mem a (orEmpty (alignments (stored (x .frames .now)) (x .k) j)) → cs ≡ set (x .choices) (j - 1) (Fixed a)
     → Left (stored (x .frames .now)) (x .k) (x .choices) (x .own) most list count end
     → Reached (stored (x .frames .now)) (x .k) (x .level + 1) (x .own) (x .limit) cs × Left (stored (x .frames .now)) (x .k) cs (x .own) most list count end
 deeper t c listed finer left =
-    let s = c .before .before .before .before .before .before .before .before in
+    let s = c .before .before .before .before .before .before .before in
     let p = s .pre .1 in
     let less = lower t (c .before) in
     let level = reached t s .1 in (
@@ -148,9 +145,9 @@ deeper t c listed finer left =
     )
 
 -- the greatest over its alignments is that from the level on
-whole : (t : ℕ) (c : improve-lts.After-node-at (claims t) (improve-at t) improve.Post improve-Inv-loop improve-μ-loop) → let x = c .before .before .before .before .before .before .before .before .args in let j = c .node-at .result in
+whole : (t : ℕ) (c : improve-lts.After-node-at (claims t) (improve-at t) improve.Post improve-Inv-loop improve-μ-loop) → let x = c .before .before .before .before .before .before .before .args in let j = c .node-at .result in
     greatest (nextLevel (stored (x .frames .now)) (x .k) (x .choices) (x .level) j) (orEmpty (firstTurn (stored (x .frames .now)) (x .k) j)) ≡ refined (stored (x .frames .now)) (x .k) (levels (x .k) (x .level) nodes) (x .choices)
-whole t c = let p = c .before .before .before .before .before .before .before .before .pre .1 in next-levels (p .0) (p .1 .1 .0) (c .before .before .before .before .before .before .before .before .args .choices) (p .1 .1 .1 .1 .0 .2 .long) (c .node-at .ensures) (lower t (c .before))
+whole t c = let p = c .before .before .before .before .before .before .before .pre .1 in next-levels (p .0) (p .1 .1 .0) (c .before .before .before .before .before .before .before .args .choices) (p .1 .1 .1 .1 .0 .2 .long) (c .node-at .ensures) (lower t (c .before))
 
 improve-add-below : (t : ℕ) → improve-lts.Need-add-below (claims t) (improve-at t) improve.Post improve-Inv-loop improve-μ-loop
 improve-add-below t c = omega (arith, lower t (c .before .before .before))
@@ -160,65 +157,59 @@ improve-with-choice-requires t c κs = node t (c .before .before .before .before
 
 improve-improve-requires : (t : ℕ) → improve-lts.Need-improve-requires (claims t) (improve-at t) improve.Post improve-Inv-loop improve-μ-loop
 improve-improve-requires t c κs =
-    let s = c .before .before .before .before .before .before .before .before .before .before .before .before .before .before .before in
+    let s = c .before .before .before .before .before .before .before .before .before .before .before .before .before in
     let p = s .pre .1 in
-    let (r, left) = deeper t (c .before .before .before .before .before .before .before) (first t (c .before .before .before .before .before) .listed) (c .before .before .with-choice .ensures) (p .1 .1 .1 .1 .1 .1 .0) in
-    (omega (arith, s .pre .0, lower t (c .before .before .before .before .before .before .before .before)), (p .0, (p .1 .0, (p .1 .1 .0, ((r .0, p .1 .1 .1 .0 .1), ((omega arith, omega (arith, lower t (c .before .before .before .before .before .before .before .before)), r .1), ((p .1 .1 .1 .1 .1 .0 .0, r .2), (left, p .1 .1 .1 .1 .1 .1 .1))))))))
+    let (r, left) = deeper t (c .before .before .before .before .before .before) (first t (c .before .before .before .before) .listed) (c .before .with-choice .ensures) (p .1 .1 .1 .1 .1 .1 .0) in
+    (omega (arith, s .pre .0, lower t (c .before .before .before .before .before .before .before)), (p .0, (p .1 .0, (p .1 .1 .0, ((r .0, p .1 .1 .1 .0 .1), ((omega arith, omega (arith, lower t (c .before .before .before .before .before .before .before)), r .1), ((p .1 .1 .1 .1 .1 .0 .0, r .2), (left, p .1 .1 .1 .1 .1 .1 .1))))))))
 
-improve-same-length-3 : (t : ℕ) → improve-lts.Need-same-length-3 (claims t) (improve-at t) improve.Post improve-Inv-loop improve-μ-loop
-improve-same-length-3 t c = c .before .before .before .before .improve .kept .1 .1 .1 .1 .1 .1 .1 .1 .1 .1 .1 .1 .1 .0
-
-improve-same-length-4 : (t : ℕ) → improve-lts.Need-same-length-4 (claims t) (improve-at t) improve.Post improve-Inv-loop improve-μ-loop
-improve-same-length-4 t c = c .before .before .before .before .improve .ensures .1 .size ∙ sym (c .before .before .before .before .before .before .before .before .before .before .before .before .before .before .before .before .before .before .before .before .pre .1 .1 .1 .1 .1 .1 .1 .1 .size)
+improve-same-length-2 : (t : ℕ) → improve-lts.Need-same-length-2 (claims t) (improve-at t) improve.Post improve-Inv-loop improve-μ-loop
+improve-same-length-2 t c = c .before .before .improve .ensures .1 .size ∙ sym (c .before .before .before .before .before .before .before .before .before .before .before .before .before .before .before .before .pre .1 .1 .1 .1 .1 .1 .1 .1 .size)
 
 improve-returns-2 : (t : ℕ) → improve-lts.Need-returns-2 (claims t) (improve-at t) improve.Post improve-Inv-loop improve-μ-loop
 improve-returns-2 t c = (
-  best-end _ _ _ _ (first t (c .before .before .before .before .before .before .before .before .before .before)) (rw (c .before .before .before .before .before .before .before .with-choice .ensures) at (c .before .before .before .before .improve .ensures .0)) (is-none _ (sym (c .before .before .before .before .before .before .before .before .before .is-last .ensures) ∙ c .before .before .before .before .before .before .before .before .if2 .taken))
-      ∙ ap (max (c .before .before .before .before .before .before .before .before .before .before .before .before .before .before .before .before .before .before .before .before .args .best)) (whole t (c .before .before .before .before .before .before .before .before .before .before .before .before)),
-  c .before .before .before .before .improve .ensures .1,
+  best-end _ _ _ _ (first t (c .before .before .before .before .before .before .before)) (rw (c .before .before .before .before .with-choice .ensures) at (c .before .before .improve .ensures .0)) (is-none _ (sym (c .before .before .before .before .before .before .is-last .ensures) ∙ c .before .before .before .before .before .if2 .taken))
+      ∙ ap (max (c .before .before .before .before .before .before .before .before .before .before .before .before .before .before .before .before .args .best)) (whole t (c .before .before .before .before .before .before .before .before .before)),
+  c .before .before .improve .ensures .1,
 )
 
 improve-loop-holds : (t : ℕ) → improve-lts.Need-loop-holds (claims t) (improve-at t) improve.Post improve-Inv-loop improve-μ-loop
-improve-loop-holds t c = (first t (c .before .before), refl, omega arith, c .before .before .before .before .before .before .before .before .before .before .before .before .pre .1 .1 .1 .1 .1 .1 .1 .0, c .before .before .before .before .before .before .before .before .before .before .before .before .pre .1 .1 .1 .1 .1 .1 .1 .1)
+improve-loop-holds t c = (first t (c .before .before), omega arith, c .before .before .before .before .before .before .before .before .before .before .before .pre .1 .1 .1 .1 .1 .1 .1 .0, c .before .before .before .before .before .before .before .before .before .before .before .pre .1 .1 .1 .1 .1 .1 .1 .1)
 
 improve-left-over-requires : (t : ℕ) → improve-lts.Need-left-over-requires (claims t) (improve-at t) improve.Post improve-Inv-loop improve-μ-loop
 improve-left-over-requires t c κs =
-    let p = c .before .before .before .before .before .before .before .before .before .before .before .before .before .before .before .pre .1 in
-    (p .0, (p .1 .0, (p .1 .1 .0, (p .1 .1 .1 .0, (p .1 .1 .1 .1 .0, (p .1 .1 .1 .1 .1 .0, (c .before .before .loop .inv .3, c .before .before .loop .inv .4)))))))
+    let p = c .before .before .before .before .before .before .before .before .before .before .before .before .before .pre .1 in
+    (p .0, (p .1 .0, (p .1 .1 .0, (p .1 .1 .1 .0, (p .1 .1 .1 .1 .0, (p .1 .1 .1 .1 .1 .0, (c .before .loop .inv .2, c .before .loop .inv .3)))))))
 
-improve-same-length-5 : (t : ℕ) → improve-lts.Need-same-length-5 (claims t) (improve-at t) improve.Post improve-Inv-loop improve-μ-loop
-improve-same-length-5 t c = c .before .before .before .before .before .before .loop .inv .1
-
-improve-same-length-6 : (t : ℕ) → improve-lts.Need-same-length-6 (claims t) (improve-at t) improve.Post improve-Inv-loop improve-μ-loop
-improve-same-length-6 t c =
-    c .before .before .before .left-over .ensures .1 .1 .size ∙ sym (c .before .before .before .before .before .before .before .before .before .before .before .before .before .before .before .before .before .before .before .pre .1 .1 .1 .1 .1 .1 .1 .1 .size)
+improve-same-length-3 : (t : ℕ) → improve-lts.Need-same-length-3 (claims t) (improve-at t) improve.Post improve-Inv-loop improve-μ-loop
+improve-same-length-3 t c =
+    c .before .before .before .left-over .ensures .1 .1 .size ∙ sym (c .before .before .before .before .before .before .before .before .before .before .before .before .before .before .before .before .before .pre .1 .1 .1 .1 .1 .1 .1 .1 .size)
 
 improve-returns-3 : (t : ℕ) → improve-lts.Need-returns-3 (claims t) (improve-at t) improve.Post improve-Inv-loop improve-μ-loop
 improve-returns-3 t c =
-    let a = c .before .before .before .before .before .before .before .before .before .before .before .before .before .before .before .before .before .before .before .args in
-    let l = c .before .before .before .before .before .before .loop in
-    (best-over _ _ _ _ (l .inv .0) (l .inv .2) (whole t (c .before .before .before .before .before .before .before .before .before .before .before)) (c .before .before .before .left-over .ensures .1 .0 (rw (c .if3 .taken) tt)), c .before .before .before .left-over .ensures .1 .1)
+    let a = c .before .before .before .before .before .before .before .before .before .before .before .before .before .before .before .before .before .args in
+    let l = c .before .before .before .before .before .loop in
+    (best-over _ _ _ _ (l .inv .0) (l .inv .1) (whole t (c .before .before .before .before .before .before .before .before .before .before)) (c .before .before .before .left-over .ensures .1 .0 (rw (c .if3 .taken) tt)), c .before .before .before .left-over .ensures .1 .1)
 
 improve-with-choice-requires-2 : (t : ℕ) → improve-lts.Need-with-choice-requires-2 (claims t) (improve-at t) improve.Post improve-Inv-loop improve-μ-loop
-improve-with-choice-requires-2 t c κs = node t (c .before .before .before .before .before .before .before .before .before .before .before)
+improve-with-choice-requires-2 t c κs = node t (c .before .before .before .before .before .before .before .before .before .before)
 
 improve-improve-requires-2 : (t : ℕ) → improve-lts.Need-improve-requires-2 (claims t) (improve-at t) improve.Post improve-Inv-loop improve-μ-loop
 improve-improve-requires-2 t c κs =
-    let s = c .before .before .before .before .before .before .before .before .before .before .before .before .before .before .before .before .before .before .before .before .before .before in
+    let s = c .before .before .before .before .before .before .before .before .before .before .before .before .before .before .before .before .before .before .before in
     let p = s .pre .1 in
-    let (r, left) = deeper t (c .before .before .before .before .before .before .before .before .before .before .before .before .before .before) (c .before .before .before .before .before .before .before .before .before .loop .inv .0 .listed) (c .before .before .with-choice2 .ensures) (c .before .before .before .before .before .before .left-over .ensures .0) in
-    (omega (arith, s .pre .0, lower t (c .before .before .before .before .before .before .before .before .before .before .before .before .before .before .before)), (p .0, (p .1 .0, (p .1 .1 .0, ((r .0, p .1 .1 .1 .0 .1), ((omega arith, omega (arith, lower t (c .before .before .before .before .before .before .before .before .before .before .before .before .before .before .before)), r .1), ((p .1 .1 .1 .1 .1 .0 .0, r .2), (left, c .before .before .before .before .before .before .left-over .ensures .1 .1))))))))
+    let (r, left) = deeper t (c .before .before .before .before .before .before .before .before .before .before .before .before) (c .before .before .before .before .before .before .before .loop .inv .0 .listed) (c .before .with-choice2 .ensures) (c .before .before .before .before .before .left-over .ensures .0) in
+    (omega (arith, s .pre .0, lower t (c .before .before .before .before .before .before .before .before .before .before .before .before .before)), (p .0, (p .1 .0, (p .1 .1 .0, ((r .0, p .1 .1 .1 .0 .1), ((omega arith, omega (arith, lower t (c .before .before .before .before .before .before .before .before .before .before .before .before .before)), r .1), ((p .1 .1 .1 .1 .1 .0 .0, r .2), (left, c .before .before .before .before .before .left-over .ensures .1 .1))))))))
 
 improve-add-next-of : (t : ℕ) → improve-lts.Need-add-next-of (claims t) (improve-at t) improve.Post improve-Inv-loop improve-μ-loop
 improve-add-next-of t c =
-    let n = node t (c .before .before .before .before .before .before .before .before .before .before .before .before .before .before .before .before .before .before .before) in
-    omega (arith, c .before .before .before .before .before .before .before .before .before .before .before .before .before .before .loop .inv .0 .walk .inside, c .before .before .before .before .before .before .before .before .before .before .before .before .before .before .before .before .before .before .before .before .before .before .before .before .before .before .before .pre .1 .0 .hyper _ (n .0) (n .1), turn-le (c .before .before .before .before .before .before .before .before .before .before .before .before .before .before .before .before .before .before .before .before .before .before .before .before .before .before .before .pre .1 .0 .valid) (c .before .before .before .before .before .before .before .before .before .before .before .before .before .before .before .before .before .before .before .before .before .before .before .before .before .before .before .args .k) (c .before .before .before .before .before .before .before .before .before .before .before .before .before .before .before .before .before .before .before .node-at .result))
+    let n = node t (c .before .before .before .before .before .before .before .before .before .before .before .before .before .before .before) in
+    omega (arith, c .before .before .before .before .before .before .before .before .before .before .loop .inv .0 .walk .inside, c .before .before .before .before .before .before .before .before .before .before .before .before .before .before .before .before .before .before .before .before .before .before .pre .1 .0 .hyper _ (n .0) (n .1), turn-le (c .before .before .before .before .before .before .before .before .before .before .before .before .before .before .before .before .before .before .before .before .before .before .pre .1 .0 .valid) (c .before .before .before .before .before .before .before .before .before .before .before .before .before .before .before .before .before .before .before .before .before .before .args .k) (c .before .before .before .before .before .before .before .before .before .before .before .before .before .before .before .node-at .result))
 
 improve-next-of-requires-2 : (t : ℕ) → improve-lts.Need-next-of-requires-2 (claims t) (improve-at t) improve.Post improve-Inv-loop improve-μ-loop
 improve-next-of-requires-2 t c κs =
-    let p = c .before .before .before .before .before .before .before .before .before .before .before .before .before .before .before .before .before .before .before .before .before .before .before .before .before .before .before .pre .1 in
-    let n = node t (c .before .before .before .before .before .before .before .before .before .before .before .before .before .before .before .before .before .before .before) in
-    (p .0, (p .1 .0, (n .0, n .1, omega (arith, c .before .before .before .before .before .before .before .before .before .before .before .before .before .before .loop .inv .0 .walk .inside))))
+    let p = c .before .before .before .before .before .before .before .before .before .before .before .before .before .before .before .before .before .before .before .before .before .before .pre .1 in
+    let n = node t (c .before .before .before .before .before .before .before .before .before .before .before .before .before .before .before) in
+    (p .0, (p .1 .0, (n .0, n .1, omega (arith, c .before .before .before .before .before .before .before .before .before .before .loop .inv .0 .walk .inside))))
 
 improve-enum-known-found : (t : ℕ) → improve-lts.Need-enum-known-found (claims t) (improve-at t) improve.Post improve-Inv-loop improve-μ-loop
 improve-enum-known-found t c = search needs
@@ -226,34 +217,29 @@ improve-enum-known-found t c = search needs
 improve-enum-told : (t : ℕ) → improve-lts.Need-enum-told (claims t) (improve-at t) improve.Post improve-Inv-loop improve-μ-loop
 improve-enum-told t c = search needs
 
-improve-same-length-7 : (t : ℕ) → improve-lts.Need-same-length-7 (claims t) (improve-at t) improve.Post improve-Inv-loop improve-μ-loop
-improve-same-length-7 t c =
-    c .before .before .before .before .before .before .before .improve2 .kept .1 .1 .1 .1 .1 .1 .1 .1 .1 .1 .1 .1 .1 .0 ∙ c .before .before .before .before .before .before .before .before .before .before .before .before .before .before .before .before .before .loop .inv .1
-
-improve-same-length-8 : (t : ℕ) → improve-lts.Need-same-length-8 (claims t) (improve-at t) improve.Post improve-Inv-loop improve-μ-loop
-improve-same-length-8 t c =
-    c .before .before .before .before .before .before .before .improve2 .ensures .1 .size ∙ sym (c .before .before .before .before .before .before .before .before .before .before .before .before .before .before .before .before .before .before .before .before .before .before .before .before .before .before .before .before .before .before .pre .1 .1 .1 .1 .1 .1 .1 .1 .size)
+improve-same-length-4 : (t : ℕ) → improve-lts.Need-same-length-4 (claims t) (improve-at t) improve.Post improve-Inv-loop improve-μ-loop
+improve-same-length-4 t c =
+    c .before .before .before .before .before .improve2 .ensures .1 .size ∙ sym (c .before .before .before .before .before .before .before .before .before .before .before .before .before .before .before .before .before .before .before .before .before .before .before .before .before .pre .1 .1 .1 .1 .1 .1 .1 .1 .size)
 
 improve-returns-4 : (t : ℕ) → improve-lts.Need-returns-4 (claims t) (improve-at t) improve.Post improve-Inv-loop improve-μ-loop
 improve-returns-4 t c =
-    let a = c .before .before .before .before .before .before .before .before .before .before .before .before .before .before .before .before .before .before .before .before .before .before .before .before .before .before .before .before .before .before .args in (
-      best-end _ _ _ _ (c .before .before .before .before .before .before .before .before .before .before .before .before .before .before .before .before .before .loop .inv .0) (rw (c .before .before .before .before .before .before .before .before .before .before .with-choice2 .ensures) at (c .before .before .before .before .before .before .before .improve2 .ensures .0)) (sym (c .before .before .next-of2 .ensures) ∙ c .enum-told .given .1)
-          ∙ ap (max (a .best)) (whole t (c .before .before .before .before .before .before .before .before .before .before .before .before .before .before .before .before .before .before .before .before .before .before)),
-      c .before .before .before .before .before .before .before .improve2 .ensures .1,
+    let a = c .before .before .before .before .before .before .before .before .before .before .before .before .before .before .before .before .before .before .before .before .before .before .before .before .before .args in (
+      best-end _ _ _ _ (c .before .before .before .before .before .before .before .before .before .before .before .before .before .loop .inv .0) (rw (c .before .before .before .before .before .before .before .with-choice2 .ensures) at (c .before .before .before .before .before .improve2 .ensures .0)) (sym (c .before .before .next-of2 .ensures) ∙ c .enum-told .given .1)
+          ∙ ap (max (a .best)) (whole t (c .before .before .before .before .before .before .before .before .before .before .before .before .before .before .before .before .before .before)),
+      c .before .before .before .before .before .improve2 .ensures .1,
     )
 
 improve-loop-less : (t : ℕ) → improve-lts.Need-loop-less (claims t) (improve-at t) improve.Post improve-Inv-loop improve-μ-loop
 improve-loop-less t c =
-    walk-less _ _ _ _ _ (c .before .before .before .before .before .before .before .before .before .before .before .before .before .before .before .before .before .before .loop .inv .0 .walk) (sym (c .before .before .before .next-of2 .ensures) ∙ c .before .found .given .1)
+    walk-less _ _ _ _ _ (c .before .before .before .before .before .before .before .before .before .before .before .before .before .before .loop .inv .0 .walk) (sym (c .before .before .before .next-of2 .ensures) ∙ c .before .found .given .1)
 
 improve-loop-again : (t : ℕ) → improve-lts.Need-loop-again (claims t) (improve-at t) improve.Post improve-Inv-loop improve-μ-loop
 improve-loop-again t c =
-    let l = c .before .before .before .before .before .before .before .before .before .before .before .before .before .before .before .before .before .before .loop in (
-      best-more _ _ _ _ (l .inv .0) (rw (c .before .before .before .before .before .before .before .before .before .before .before .with-choice2 .ensures) at (c .before .before .before .before .before .before .before .before .improve2 .ensures .0)) (c .before .before .before .before .before .before .before .before .before .before .before .before .before .before .before .before .before .before .before .before .before .before .before .before .before .before .before .before .before .before .before .pre .1 .0 .valid) (sym (c .before .before .before .next-of2 .ensures) ∙ c .before .found .given .1),
-      c .before .before .before .before .before .before .before .before .improve2 .kept .1 .1 .1 .1 .1 .1 .1 .1 .1 .1 .1 .1 .1 .0 ∙ l .inv .1,
-      omega (arith, l .inv .2, c .before .before .before .before .before .before .before .before .improve2 .ensures .0),
-      left-more (omega (arith, c .before .before .before .before .before .before .before .before .improve2 .ensures .0)) (c .before .before .before .before .before .before .before .before .before .before .before .before .before .before .before .left-over .ensures .0),
-      c .before .before .before .before .before .before .before .before .improve2 .ensures .1,
+    let l = c .before .before .before .before .before .before .before .before .before .before .before .before .before .before .loop in (
+      best-more _ _ _ _ (l .inv .0) (rw (c .before .before .before .before .before .before .before .before .with-choice2 .ensures) at (c .before .before .before .before .before .before .improve2 .ensures .0)) (c .before .before .before .before .before .before .before .before .before .before .before .before .before .before .before .before .before .before .before .before .before .before .before .before .before .before .pre .1 .0 .valid) (sym (c .before .before .before .next-of2 .ensures) ∙ c .before .found .given .1),
+      omega (arith, l .inv .1, c .before .before .before .before .before .before .improve2 .ensures .0),
+      left-more (omega (arith, c .before .before .before .before .before .before .improve2 .ensures .0)) (c .before .before .before .before .before .before .before .before .before .before .before .before .left-over .ensures .0),
+      c .before .before .before .before .before .before .improve2 .ensures .1,
     )
 
 pub +improve-spec : {M : Type 1} → statement M
@@ -265,7 +251,6 @@ pub +improve-spec : {M : Type 1} → statement M
     (improve-raised-requires t)
     (improve-or-zero-requires t)
     (improve-same-length t)
-    (improve-same-length-2 t)
     (improve-returns t)
     (improve-node-at-requires t)
     (improve-next-of-requires t)
@@ -274,13 +259,11 @@ pub +improve-spec : {M : Type 1} → statement M
     (improve-is-last-requires t)
     (improve-with-choice-requires t)
     (improve-improve-requires t)
-    (improve-same-length-3 t)
-    (improve-same-length-4 t)
+    (improve-same-length-2 t)
     (improve-returns-2 t)
     (improve-loop-holds t)
     (improve-left-over-requires t)
-    (improve-same-length-5 t)
-    (improve-same-length-6 t)
+    (improve-same-length-3 t)
     (improve-returns-3 t)
     (improve-with-choice-requires-2 t)
     (improve-improve-requires-2 t)
@@ -288,8 +271,7 @@ pub +improve-spec : {M : Type 1} → statement M
     (improve-next-of-requires-2 t)
     (improve-enum-known-found t)
     (improve-enum-told t)
-    (improve-same-length-7 t)
-    (improve-same-length-8 t)
+    (improve-same-length-4 t)
     (improve-returns-4 t)
     (improve-loop-less t)
     (improve-loop-again t)

@@ -1,9 +1,8 @@
 -- The loop has the greatest response over the alignments of k's node that are visited, each the start of a search from the next level on.
 use Prim.Native.Nat.{_-_, _≤_}
-use mathlib.Core.Path.{_≡_, refl, sym, ap, _∙_}
+use mathlib.Core.Path.{sym, ap, _∙_}
 use native.Mathlib.Omega.{arith}
 use borrow.Author.Needs.{needs}
-use lib.ListN.{length}
 use Rattle.arith.specs.Least.{orZero}
 use Rattle.arith.specs.laws.Walks.{walk-less}
 use Rattle.bus_model.specs.theory.Turns.{turn, turn-le}
@@ -17,11 +16,11 @@ use Rattle.bounds.proofs.precise_bound.precise.Statement.{statement}
 use Rattle.bounds.proofs.precise_bound.precise.Tie as tie
 
 abbrev Inv-loop : tie.InvT-loop
-Inv-loop frames members counts ends k blocked hints₀ sums₀ j heavy most₀ a₀ hints sums most a =
-    Best (stored frames) k (k .node) (nextLevel (stored frames) k free 0 (k .node)) 0 most a × (length hints ≡ length hints₀) × Kept (stored frames) k sums
+Inv-loop frames members counts ends k blocked sums₀ j most₀ a₀ sums most a =
+    Best (stored frames) k (k .node) (nextLevel (stored frames) k free 0 (k .node)) 0 most a × Kept (stored frames) k sums
 
 abbrev μ-loop : tie.MeasureT-loop
-μ-loop frames members counts ends k blocked hints₀ sums₀ j heavy most₀ a₀ hints sums most a = turn (stored frames) k (k .node) - a
+μ-loop frames members counts ends k blocked sums₀ j most₀ a₀ sums most a = turn (stored frames) k (k .node) - a
 
 -- k's node is one of the nodes
 node : (s : tie.Start Inv-loop μ-loop) → (1 ≤ s .args .k .node) × (s .args .k .node ≤ 16)
@@ -30,12 +29,9 @@ node s = own-node (s .pre .0) (s .pre .1 .1 .0)
 cast-j : tie.Need-cast-j Inv-loop μ-loop
 cast-j c = search needs
 
-heaviest-requires : tie.Need-heaviest-requires Inv-loop μ-loop
-heaviest-requires c κs = search needs
-
 next-of-requires : tie.Need-next-of-requires Inv-loop μ-loop
 next-of-requires c κs =
-    let s = c .before .before .before .before .before .before .before .before in
+    let s = c .before .before .before .before .before .before in
     let n = node s in
     (s .pre .0, (s .pre .1 .0, (n .0, n .1, omega arith)))
 
@@ -44,14 +40,14 @@ or-zero-requires c κs = search needs
 
 loop-holds : tie.Need-loop-holds Inv-loop μ-loop
 loop-holds c =
-    (best-first _ _ _ _ (c .before .before .before .before .before .before .before .before .before .before .pre .0 .valid) (c .before .next-of .result) (c .before .next-of .ensures) (c .or-zero .ensures), refl, c .before .before .before .before .before .before .before .before .before .before .pre .1 .1 .1 .1)
+    (best-first _ _ _ _ (c .before .before .before .before .before .before .before .before .pre .0 .valid) (c .before .next-of .result) (c .before .next-of .ensures) (c .or-zero .ensures), c .before .before .before .before .before .before .before .before .pre .1 .1 .1 .1)
 
 with-choice-requires : tie.Need-with-choice-requires Inv-loop μ-loop
-with-choice-requires c κs = node (c .before .before .before .before .before .before .before .before .before .before .before)
+with-choice-requires c κs = node (c .before .before .before .before .before .before .before .before .before)
 
 busy-window-requires : tie.Need-busy-window-requires Inv-loop μ-loop
 busy-window-requires c κs =
-    let p = c .before .before .before .before .before .before .before .before .before .before .before .before .before .pre in (p .0, (p .1 .0, (p .1 .1 .0, (p .1 .1 .1 .0 .0, c .before .before .loop .inv .2))))
+    let p = c .before .before .before .before .before .before .before .before .before .before .before .pre in (p .0, (p .1 .0, (p .1 .1 .0, (p .1 .1 .1 .0 .0, c .before .before .loop .inv .1))))
 
 or-zero-requires-2 : tie.Need-or-zero-requires-2 Inv-loop μ-loop
 or-zero-requires-2 c κs = search needs
@@ -61,22 +57,22 @@ all-left-requires c κs = search needs
 
 improve-requires : tie.Need-improve-requires Inv-loop μ-loop
 improve-requires c κs =
-    let p = c .before .before .before .before .before .before .before .before .before .before .before .before .before .before .before .before .before .before .before .before .pre in
-    let limit = c .before .before .before .or-zero2 .ensures ∙ ap orZero (c .before .before .before .before .before .before .busy-window .ensures .0) in
-    let r = reached-first (p .0) (p .1 .1 .0) (p .1 .1 .1 .0 .1) (c .before .before .before .before .before .before .before .before .before .loop .inv .0 .listed) (c .before .before .before .before .before .before .before .before .with-choice .ensures) limit in
-    (p .0, (p .1 .0, (p .1 .1 .0, ((r .0, p .1 .1 .1 .0 .0), ((omega arith, omega arith, r .1), ((window-zero _ _ _ limit, r .2), (left-all (c .before .before .all-left .ensures), c .before .before .before .before .before .before .busy-window .ensures .1)))))))
+    let p = c .before .before .before .before .before .before .before .before .before .before .before .before .before .before .before .before .before .pre in
+    let limit = c .before .before .or-zero2 .ensures ∙ ap orZero (c .before .before .before .before .before .busy-window .ensures .0) in
+    let r = reached-first (p .0) (p .1 .1 .0) (p .1 .1 .1 .0 .1) (c .before .before .before .before .before .before .before .before .loop .inv .0 .listed) (c .before .before .before .before .before .before .before .with-choice .ensures) limit in
+    (p .0, (p .1 .0, (p .1 .1 .0, ((r .0, p .1 .1 .1 .0 .0), ((omega arith, omega arith, r .1), ((window-zero _ _ _ limit, r .2), (left-all (c .before .all-left .ensures), c .before .before .before .before .before .busy-window .ensures .1)))))))
 
 add-next-of : tie.Need-add-next-of Inv-loop μ-loop
 add-next-of c =
-    let s = c .before .before .before .before .before .before .before .before .before .before .before .before .before .before .before .before .before .before .before .before .before .before .before .before .before in
+    let s = c .before .before .before .before .before .before .before .before .before .before .before .before .before .before .before .before .before .before .before .before in
     let n = node s in
-    omega (arith, c .before .before .before .before .before .before .before .before .before .before .before .before .before .before .loop .inv .0 .walk .inside, s .pre .0 .hyper _ (n .0) (n .1), turn-le (s .pre .0 .valid) (s .args .k) (s .args .k .node))
+    omega (arith, c .before .before .before .before .before .before .before .before .before .before .before .loop .inv .0 .walk .inside, s .pre .0 .hyper _ (n .0) (n .1), turn-le (s .pre .0 .valid) (s .args .k) (s .args .k .node))
 
 next-of-requires-2 : tie.Need-next-of-requires-2 Inv-loop μ-loop
 next-of-requires-2 c κs =
-    let s = c .before .before .before .before .before .before .before .before .before .before .before .before .before .before .before .before .before .before .before .before .before .before .before .before .before in
+    let s = c .before .before .before .before .before .before .before .before .before .before .before .before .before .before .before .before .before .before .before .before in
     let n = node s in
-    (s .pre .0, (s .pre .1 .0, (n .0, n .1, omega (arith, c .before .before .before .before .before .before .before .before .before .before .before .before .before .before .loop .inv .0 .walk .inside))))
+    (s .pre .0, (s .pre .1 .0, (n .0, n .1, omega (arith, c .before .before .before .before .before .before .before .before .before .before .before .loop .inv .0 .walk .inside))))
 
 enum-known-found : tie.Need-enum-known-found Inv-loop μ-loop
 enum-known-found c = search needs
@@ -86,28 +82,23 @@ enum-told c = search needs
 
 same-length : tie.Need-same-length Inv-loop μ-loop
 same-length c =
-    c .before .before .before .before .before .before .before .improve .kept .1 .1 .1 .1 .1 .1 .1 .1 .1 .1 .1 .1 .1 .0 ∙ c .before .before .before .before .before .before .before .before .before .before .before .before .before .before .before .before .before .loop .inv .1
-
-same-length-2 : tie.Need-same-length-2 Inv-loop μ-loop
-same-length-2 c =
-    c .before .before .before .before .before .before .before .improve .ensures .1 .size ∙ sym (c .before .before .before .before .before .before .before .before .before .before .before .before .before .before .before .before .before .before .before .before .before .before .before .before .before .before .before .before .pre .1 .1 .1 .1 .size)
+    c .before .before .before .before .before .improve .ensures .1 .size ∙ sym (c .before .before .before .before .before .before .before .before .before .before .before .before .before .before .before .before .before .before .before .before .before .before .before .pre .1 .1 .1 .1 .size)
 
 returns : tie.Need-returns Inv-loop μ-loop
 returns c =
-    let p = c .before .before .before .before .before .before .before .before .before .before .before .before .before .before .before .before .before .before .before .before .before .before .before .before .before .before .before .before .pre in (
-      precise-levels (p .0) (p .1 .1 .0) (best-end _ _ _ _ (c .before .before .before .before .before .before .before .before .before .before .before .before .before .before .before .before .before .loop .inv .0) (rw (c .before .before .before .before .before .before .before .before .before .before .before .before .before .before .before .before .with-choice .ensures) at (c .before .before .before .before .before .before .before .improve .ensures .0)) (sym (c .before .before .next-of2 .ensures) ∙ c .enum-told .given .1)),
-      c .before .before .before .before .before .before .before .improve .ensures .1,
+    let p = c .before .before .before .before .before .before .before .before .before .before .before .before .before .before .before .before .before .before .before .before .before .before .before .pre in (
+      precise-levels (p .0) (p .1 .1 .0) (best-end _ _ _ _ (c .before .before .before .before .before .before .before .before .before .before .before .before .before .before .loop .inv .0) (rw (c .before .before .before .before .before .before .before .before .before .before .before .before .before .with-choice .ensures) at (c .before .before .before .before .before .improve .ensures .0)) (sym (c .before .before .next-of2 .ensures) ∙ c .enum-told .given .1)),
+      c .before .before .before .before .before .improve .ensures .1,
     )
 
 loop-less : tie.Need-loop-less Inv-loop μ-loop
 loop-less c =
-    walk-less _ _ _ _ _ (c .before .before .before .before .before .before .before .before .before .before .before .before .before .before .before .before .before .before .loop .inv .0 .walk) (sym (c .before .before .before .next-of2 .ensures) ∙ c .before .found .given .1)
+    walk-less _ _ _ _ _ (c .before .before .before .before .before .before .before .before .before .before .before .before .before .before .before .loop .inv .0 .walk) (sym (c .before .before .before .next-of2 .ensures) ∙ c .before .found .given .1)
 
 loop-again : tie.Need-loop-again Inv-loop μ-loop
 loop-again c = (
-  best-more _ _ _ _ (c .before .before .before .before .before .before .before .before .before .before .before .before .before .before .before .before .before .before .loop .inv .0) (rw (c .before .before .before .before .before .before .before .before .before .before .before .before .before .before .before .before .before .with-choice .ensures) at (c .before .before .before .before .before .before .before .before .improve .ensures .0)) (c .before .before .before .before .before .before .before .before .before .before .before .before .before .before .before .before .before .before .before .before .before .before .before .before .before .before .before .before .before .pre .0 .valid) (sym (c .before .before .before .next-of2 .ensures) ∙ c .before .found .given .1),
-  c .before .before .before .before .before .before .before .before .improve .kept .1 .1 .1 .1 .1 .1 .1 .1 .1 .1 .1 .1 .1 .0 ∙ c .before .before .before .before .before .before .before .before .before .before .before .before .before .before .before .before .before .before .loop .inv .1,
-  c .before .before .before .before .before .before .before .before .improve .ensures .1,
+  best-more _ _ _ _ (c .before .before .before .before .before .before .before .before .before .before .before .before .before .before .before .loop .inv .0) (rw (c .before .before .before .before .before .before .before .before .before .before .before .before .before .before .with-choice .ensures) at (c .before .before .before .before .before .before .improve .ensures .0)) (c .before .before .before .before .before .before .before .before .before .before .before .before .before .before .before .before .before .before .before .before .before .before .before .before .pre .0 .valid) (sym (c .before .before .before .next-of2 .ensures) ∙ c .before .found .given .1),
+  c .before .before .before .before .before .before .improve .ensures .1,
 )
 
 pub precise-spec : {M : Type 1} → statement M
@@ -117,7 +108,6 @@ precise-spec =
     Inv-loop
     μ-loop
     cast-j
-    heaviest-requires
     next-of-requires
     or-zero-requires
     loop-holds
@@ -131,7 +121,6 @@ precise-spec =
     enum-known-found
     enum-told
     same-length
-    same-length-2
     returns
     loop-less
     loop-again)

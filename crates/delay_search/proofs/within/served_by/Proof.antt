@@ -13,7 +13,7 @@ returns : tie.Need-returns
 returns c = search needs
 
 served-late-requires : tie.Need-served-late-requires
-served-late-requires c κs = let p = c .before .before .before .before .before .before .before .before .before .before .before .before .before .before .pre in (p .0, (p .1 .0, (p .1 .1 .0, (p .1 .1 .1 .0, c .before .before .before .before .before .served-tried .ensures .1 .1))))
+served-late-requires c κs = let p = c .before .before .before .before .before .before .before .before .before .before .before .before .before .pre in (p .0, (p .1 .0, (p .1 .1 .0, (p .1 .1 .1 .0, c .before .before .before .before .before .served-tried .ensures .1 .1))))
 
 same-length-2 : tie.Need-same-length-2
 same-length-2 c = search needs

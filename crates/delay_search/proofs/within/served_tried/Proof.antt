@@ -1,5 +1,6 @@
 -- Each way of trying tells for itself; the frames laid out tell of the load.
 use Prim.Native.Nat.{_≤_}
+use native.Mathlib.Omega.{arith}
 use borrow.Author.Needs.{needs}
 use Rattle.workload.specs.Stored.{stored}
 use Rattle.workload.specs.Laid.{FineFrames}
@@ -18,47 +19,32 @@ climbs : (s : tie.Start) → (1 ≤ s .args .k .length) × (s .args .base ≤ 10
 climbs s = let p = s .pre .1 .1 in (in-table-fine _ (s .pre .0) (p .0) .length-low, p .1 .0 .1, p .1 .0 .2)
 
 climb-above-requires : tie.Need-climb-above-requires
-climb-above-requires c κs = (fine (c .before .before .before .before .before .before .before), climbs (c .before .before .before .before .before .before .before))
+climb-above-requires c κs = (fine (c .before .before .before .before .before .before), climbs (c .before .before .before .before .before .before))
 
 returns : tie.Need-returns
 returns c =
-    let p = c .before .before .before .before .before .before .before .before .before .before .pre in
+    let p = c .before .before .before .before .before .before .before .before .before .pre in
     (serves-laid (p .0) _ _ _ (p .1 .1 .1 .1 .0) (c .before .before .climb-above .ensures .0), (c .before .before .climb-above .ensures .1, p .1 .1 .1 .1 .1))
 
-served-like-requires : tie.Need-served-like-requires
-served-like-requires c κs = let p = c .before .before .before .before .before .before .before .before .before .before .before .before .pre in (p .0, (p .1 .0, (p .1 .1 .0, (p .1 .1 .1 .0, p .1 .1 .1 .1 .1))))
+returns-2 : tie.Need-returns-2
+returns-2 c = (λ i less. absurd (omega arith), (omega arith, c .before .before .before .before .before .before .before .before .before .before .pre .1 .1 .1 .1 .1))
+
+climb-above-requires-2 : tie.Need-climb-above-requires-2
+climb-above-requires-2 c κs = (fine (c .before .before .before .before .before .before .before .before .before .before), climbs (c .before .before .before .before .before .before .before .before .before .before))
+
+returns-3 : tie.Need-returns-3
+returns-3 c =
+    let p = c .before .before .before .before .before .before .before .before .before .before .before .before .before .pre in
+    (serves-laid (p .0) _ _ _ (p .1 .1 .1 .1 .0) (c .before .before .climb-above2 .ensures .0), (c .before .before .climb-above2 .ensures .1, p .1 .1 .1 .1 .1))
+
+served-at-requires : tie.Need-served-at-requires
+served-at-requires c κs = let p = c .before .before .before .before .before .before .before .before .before .before .before .before .before .before .pre in (p .0, (p .1 .0, (p .1 .1 .0, (p .1 .1 .1 .0, p .1 .1 .1 .1 .1))))
 
 same-length : tie.Need-same-length
 same-length c = search needs
 
-returns-2 : tie.Need-returns-2
-returns-2 c = c .before .before .served-like .ensures
-
-climb-above-requires-2 : tie.Need-climb-above-requires-2
-climb-above-requires-2 c κs = (fine (c .before .before .before .before .before .before .before .before .before .before .before), climbs (c .before .before .before .before .before .before .before .before .before .before .before))
-
-returns-3 : tie.Need-returns-3
-returns-3 c =
-    let p = c .before .before .before .before .before .before .before .before .before .before .before .before .before .before .pre in
-    (serves-laid (p .0) _ _ _ (p .1 .1 .1 .1 .0) (c .before .before .climb-above2 .ensures .0), (c .before .before .climb-above2 .ensures .1, p .1 .1 .1 .1 .1))
-
-served-at-requires : tie.Need-served-at-requires
-served-at-requires c κs = let p = c .before .before .before .before .before .before .before .before .before .before .before .before .before .before .before .pre in (p .0, (p .1 .0, (p .1 .1 .0, (p .1 .1 .1 .0, p .1 .1 .1 .1 .1))))
-
-same-length-2 : tie.Need-same-length-2
-same-length-2 c = search needs
-
 returns-4 : tie.Need-returns-4
-returns-4 c = c .before .before .before .before .served-at .ensures
-
-served-like-requires-2 : tie.Need-served-like-requires-2
-served-like-requires-2 c κs = let p = c .before .before .before .before .before .before .before .before .before .before .before .before .before .before .before .before .before .before .before .before .before .pre in (p .0, (p .1 .0, (p .1 .1 .0, (p .1 .1 .1 .0, c .before .before .before .before .before .served-at .ensures .1 .1))))
-
-same-length-3 : tie.Need-same-length-3
-same-length-3 c = search needs
-
-returns-5 : tie.Need-returns-5
-returns-5 c = c .before .before .served-like2 .ensures
+returns-4 c = search needs
 
 pub served-tried-spec : {M : Type 1} → statement M
 served-tried-spec =
@@ -66,14 +52,9 @@ served-tried-spec =
     (tie.spec
     climb-above-requires
     returns
-    served-like-requires
-    same-length
     returns-2
     climb-above-requires-2
     returns-3
     served-at-requires
-    same-length-2
-    returns-4
-    served-like-requires-2
-    same-length-3
-    returns-5)
+    same-length
+    returns-4)

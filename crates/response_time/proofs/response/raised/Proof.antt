@@ -8,27 +8,21 @@ is-limited-requires : tie.Need-is-limited-requires
 is-limited-requires c κs = search needs
 
 same-length : tie.Need-same-length
-same-length c = search needs
-
-same-length-2 : tie.Need-same-length-2
-same-length-2 c = c .before .before .before .is-limited .ensures .1 .size ∙ sym (c .before .before .before .before .before .before .before .before .before .before .before .before .pre .1 .1 .1 .1 .1 .1 .size)
+same-length c = c .before .before .before .is-limited .ensures .1 .size ∙ sym (c .before .before .before .before .before .before .before .before .before .before .pre .1 .1 .1 .1 .1 .1 .size)
 
 returns : tie.Need-returns
 returns c = (c .before .before .before .is-limited .ensures .0 (rw (c .if1 .taken) tt), c .before .before .before .is-limited .ensures .1)
 
 scenario-response-requires : tie.Need-scenario-response-requires
 scenario-response-requires c κs =
-    let p = c .before .before .before .before .before .before .before .before .before .before .before .before .before .before .pre in
-    (p .0, (p .1 .0, (p .1 .1 .0, (p .1 .1 .1 .0, c .before .before .before .before .before .is-limited .ensures .1))))
+    let p = c .before .before .before .before .before .before .before .before .before .before .before .pre in
+    (p .0, (p .1 .0, (p .1 .1 .0, (p .1 .1 .1 .0, c .before .before .before .before .is-limited .ensures .1))))
 
-same-length-3 : tie.Need-same-length-3
-same-length-3 c = search needs
-
-same-length-4 : tie.Need-same-length-4
-same-length-4 c = c .before .before .before .before .scenario-response .ensures .1 .size ∙ sym (c .before .before .before .before .before .before .before .before .before .before .before .before .before .before .before .before .before .before .before .pre .1 .1 .1 .1 .1 .1 .size)
+same-length-2 : tie.Need-same-length-2
+same-length-2 c = c .before .before .scenario-response .ensures .1 .size ∙ sym (c .before .before .before .before .before .before .before .before .before .before .before .before .before .before .pre .1 .1 .1 .1 .1 .1 .size)
 
 returns-2 : tie.Need-returns-2
-returns-2 c = c .before .before .before .before .scenario-response .ensures
+returns-2 c = c .before .before .scenario-response .ensures
 
 pub raised-spec : {M : Type 1} → statement M
 raised-spec =
@@ -36,9 +30,7 @@ raised-spec =
     (tie.spec
     is-limited-requires
     same-length
-    same-length-2
     returns
     scenario-response-requires
-    same-length-3
-    same-length-4
+    same-length-2
     returns-2)

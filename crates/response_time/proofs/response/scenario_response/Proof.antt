@@ -8,7 +8,7 @@ use Rattle.response_time.proofs.response.scenario_response.Tie as tie
 
 busy-window-requires : tie.Need-busy-window-requires
 busy-window-requires c κs =
-    let p = c .before .before .before .before .before .before .before .pre in
+    let p = c .before .before .before .before .before .before .pre in
     (p .0, (p .1 .0, (p .1 .1 .0, (p .1 .1 .1 .0 .1, p .1 .1 .1 .1))))
 
 enum-known-found : tie.Need-enum-known-found
@@ -18,31 +18,25 @@ enum-told : tie.Need-enum-told
 enum-told c = search needs
 
 same-length : tie.Need-same-length
-same-length c = c .before .before .before .before .busy-window .ensures .1 .size ∙ sym (c .before .before .before .before .before .before .before .before .before .before .before .before .pre .1 .1 .1 .1 .size)
+same-length c = c .before .before .before .before .busy-window .ensures .1 .size ∙ sym (c .before .before .before .before .before .before .before .before .before .before .before .pre .1 .1 .1 .1 .size)
 
 returns : tie.Need-returns
 unfolding both
-returns c = (sym (ap (both (At (c .before .before .before .before .before .before .before .before .before .before .before .before .args .most))) (found-none _ _ _ (sym (c .before .before .before .before .busy-window .ensures .0) ∙ c .enum-told .given .1))), c .before .before .before .before .busy-window .ensures .1)
-
-remember-requires : tie.Need-remember-requires
-remember-requires c κs = search needs
+returns c = (sym (ap (both (At (c .before .before .before .before .before .before .before .before .before .before .before .args .most))) (found-none _ _ _ (sym (c .before .before .before .before .busy-window .ensures .0) ∙ c .enum-told .given .1))), c .before .before .before .before .busy-window .ensures .1)
 
 greatest-response-requires : tie.Need-greatest-response-requires
 greatest-response-requires c κs =
-    let p = c .before .before .before .before .before .before .before .before .before .before .before .before .before .before .before .before .before .before .before .pre in
+    let p = c .before .before .before .before .before .before .before .before .before .before .before .before .before .pre in
     let q = p .1 .1 .1 .0 in
-    (p .0, (p .1 .0, (p .1 .1 .0, ((q .0, q .1, sym (c .before .before .before .before .before .before .before .before .before .before .before .busy-window .ensures .0) ∙ c .before .before .before .before .before .before .before .found .given .1), c .before .before .before .before .before .before .before .before .before .before .before .busy-window .ensures .1))))
+    (p .0, (p .1 .0, (p .1 .1 .0, ((q .0, q .1, sym (c .before .before .before .before .before .before .busy-window .ensures .0) ∙ c .before .before .found .given .1), c .before .before .before .before .before .before .busy-window .ensures .1))))
 
 same-length-2 : tie.Need-same-length-2
-same-length-2 c = search needs
-
-same-length-3 : tie.Need-same-length-3
-same-length-3 c = c .before .before .before .before .greatest-response .ensures .1 .size ∙ sym (c .before .before .before .before .before .before .before .before .before .before .before .before .before .before .before .before .before .before .before .before .before .before .before .before .pre .1 .1 .1 .1 .size)
+same-length-2 c = c .before .before .greatest-response .ensures .1 .size ∙ sym (c .before .before .before .before .before .before .before .before .before .before .before .before .before .before .before .before .pre .1 .1 .1 .1 .size)
 
 returns-2 : tie.Need-returns-2
 unfolding both
 returns-2 c =
-    (ap At (c .before .before .before .before .greatest-response .ensures .0) ∙ sym (ap (both (At (c .before .before .before .before .before .before .before .before .before .before .before .before .before .before .before .before .before .before .before .before .before .before .before .before .args .most))) (found-at _ _ _ _ (sym (c .before .before .before .before .before .before .before .before .before .before .before .before .before .before .before .before .busy-window .ensures .0) ∙ c .before .before .before .before .before .before .before .before .before .before .before .before .found .given .1))), c .before .before .before .before .greatest-response .ensures .1)
+    (ap At (c .before .before .greatest-response .ensures .0) ∙ sym (ap (both (At (c .before .before .before .before .before .before .before .before .before .before .before .before .before .before .before .before .args .most))) (found-at _ _ _ _ (sym (c .before .before .before .before .before .before .before .before .before .busy-window .ensures .0) ∙ c .before .before .before .before .before .found .given .1))), c .before .before .greatest-response .ensures .1)
 
 pub scenario-response-spec : {M : Type 1} → statement M
 scenario-response-spec =
@@ -53,8 +47,6 @@ scenario-response-spec =
     enum-told
     same-length
     returns
-    remember-requires
     greatest-response-requires
     same-length-2
-    same-length-3
     returns-2)

@@ -29,12 +29,9 @@ slice-aggregate-bound-frame-3 c = search needs
 slice-aggregate-bound-frame-4 : tie.Need-slice-aggregate-bound-frame-4
 slice-aggregate-bound-frame-4 c = search needs
 
-slice-aggregate-bound-frame-5 : tie.Need-slice-aggregate-bound-frame-5
-slice-aggregate-bound-frame-5 c = search needs
-
 bound-frame-requires : tie.Need-bound-frame-requires
 bound-frame-requires c κs =
-    let s = c .before .before .before .before .before .before .before .before .before .before .before .before .before in (s .pre .0, (c .before .before .before .before .before .before .before .before .group .ensures, (s .pre .1, kept-zeros (s .pre .0) _ {n = 2064} refl refl)))
+    let s = c .before .before .before .before .before .before .before .before .before .before .before .before in (s .pre .0, (c .before .before .before .before .before .before .before .group .ensures, (s .pre .1, kept-zeros (s .pre .0) _ {n = 2064} refl refl)))
 
 returns : tie.Need-returns
 returns c = search needs
@@ -51,6 +48,5 @@ bound-among-spec =
     slice-aggregate-bound-frame-2
     slice-aggregate-bound-frame-3
     slice-aggregate-bound-frame-4
-    slice-aggregate-bound-frame-5
     bound-frame-requires
     returns)

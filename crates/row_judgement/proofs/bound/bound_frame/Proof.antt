@@ -20,11 +20,11 @@ frame-blocking-requires c κs = search needs
 
 approximate-requires : tie.Need-approximate-requires
 approximate-requires c κs =
-    let s = c .before .before .before .before .before .before .before .before .before in (s .pre .0, (s .pre .1 .0, (inside s, (c .before .before .frame-blocking .ensures .0, s .pre .1 .1 .1))))
+    let s = c .before .before .before .before .before .before .before in (s .pre .0, (s .pre .1 .0, (inside s, (c .before .frame-blocking .ensures .0, s .pre .1 .1 .1))))
 
 -- what is found
-rough : (c : tie.After-enum-told) → let s = c .before .before .before .before .before .before .before .before .before .before .before .before .before .before .before .before in Approximated (stored (s .args .frames .now)) (s .args .k) (c .enum-told .given .0 .0)
-rough c = let s = c .before .before .before .before .before .before .before .before .before .before .before .before .before .before .before .before in found-bound (s .pre .0) (inside s) (c .before .before .before .before .before .before .approximate .ensures .0) (c .enum-told .given .1)
+rough : (c : tie.After-enum-told) → let s = c .before .before .before .before .before .before .before .before .before .before .before .before in Approximated (stored (s .args .frames .now)) (s .args .k) (c .enum-told .given .0 .0)
+rough c = let s = c .before .before .before .before .before .before .before .before .before .before .before .before in found-bound (s .pre .0) (inside s) (c .before .before .before .before .approximate .ensures .0) (c .enum-told .given .1)
 
 enum-told : tie.Need-enum-told
 enum-told c = search needs
@@ -32,57 +32,48 @@ enum-told c = search needs
 enum-told-2 : tie.Need-enum-told-2
 enum-told-2 c = search needs
 
-cast-t17 : tie.Need-cast-t17
-cast-t17 c =
-    record { fits = omega (arith, small (c .before .before .before .before .before .before .before .before .before .before .before .before .before .before .before .before)) }
+cast-t14 : tie.Need-cast-t14
+cast-t14 c =
+    record { fits = omega (arith, small (c .before .before .before .before .before .before .before .before .before .before .before .before)) }
 
 same-length : tie.Need-same-length
-same-length c = search needs
-
-same-length-2 : tie.Need-same-length-2
-same-length-2 c =
-    c .before .before .before .before .before .before .approximate .ensures .1 .size ∙ sym (c .before .before .before .before .before .before .before .before .before .before .before .before .before .before .before .before .pre .1 .1 .1 .size)
+same-length c =
+    c .before .before .before .before .approximate .ensures .1 .size ∙ sym (c .before .before .before .before .before .before .before .before .before .before .before .before .pre .1 .1 .1 .size)
 
 returns : tie.Need-returns
 returns c =
-    let s = c .before .before .before .before .before .before .before .before .before .before .before .before .before .before .before .before in
-    bound-none (stored (s .args .frames .now)) (s .args .i) (s .pre .1 .1 .0 .1) (found-none (s .pre .0) (inside s) (c .before .before .before .before .before .before .approximate .ensures .0) (c .enum-told2 .given .1))
+    let s = c .before .before .before .before .before .before .before .before .before .before .before .before in
+    bound-none (stored (s .args .frames .now)) (s .args .i) (s .pre .1 .1 .0 .1) (found-none (s .pre .0) (inside s) (c .before .before .before .before .approximate .ensures .0) (c .enum-told2 .given .1))
 
 scenario-count-requires : tie.Need-scenario-count-requires
 scenario-count-requires c κs = search needs
 
-cast-t21 : tie.Need-cast-t21
-cast-t21 c =
-    record { fits = omega (arith, small (c .before .before .before .before .before .before .before .before .before .before .before .before .before .before .before .before .before .before)) }
+cast-t18 : tie.Need-cast-t18
+cast-t18 c =
+    record { fits = omega (arith, small (c .before .before .before .before .before .before .before .before .before .before .before .before .before .before)) }
 
-same-length-3 : tie.Need-same-length-3
-same-length-3 c = search needs
-
-same-length-4 : tie.Need-same-length-4
-same-length-4 c =
-    c .before .before .before .before .before .before .before .before .approximate .ensures .1 .size ∙ sym (c .before .before .before .before .before .before .before .before .before .before .before .before .before .before .before .before .before .before .pre .1 .1 .1 .size)
+same-length-2 : tie.Need-same-length-2
+same-length-2 c =
+    c .before .before .before .before .before .before .approximate .ensures .1 .size ∙ sym (c .before .before .before .before .before .before .before .before .before .before .before .before .before .before .pre .1 .1 .1 .size)
 
 returns-2 : tie.Need-returns-2
 returns-2 c =
-    let s = c .before .before .before .before .before .before .before .before .before .before .before .before .before .before .before .before .before .before in
+    let s = c .before .before .before .before .before .before .before .before .before .before .before .before .before .before in
     bound-undecided (stored (s .args .frames .now)) (s .args .i) (s .pre .1 .1 .0 .1) (rough (c .before .before)) (c .before .scenario-count .ensures) (c .if1 .taken)
 
 precise-requires : tie.Need-precise-requires
 precise-requires c κs =
-    let s = c .before .before .before .before .before .before .before .before .before .before .before .before .before .before .before .before .before .before .before .before in
-    (s .pre .0, (s .pre .1 .0, (inside s, ((c .before .before .before .before .before .before .before .before .before .before .before .before .before .frame-blocking .ensures .0, rough (c .before .before .before .before) .windows), c .before .before .before .before .before .before .before .before .before .before .approximate .ensures .1))))
+    let s = c .before .before .before .before .before .before .before .before .before .before .before .before .before .before .before in
+    (s .pre .0, (s .pre .1 .0, (inside s, ((c .before .before .before .before .before .before .before .before .before .frame-blocking .ensures .0, rough (c .before .before .before) .windows), c .before .before .before .before .before .before .before .approximate .ensures .1))))
 
-same-length-5 : tie.Need-same-length-5
-same-length-5 c = search needs
-
-same-length-6 : tie.Need-same-length-6
-same-length-6 c =
-    c .before .before .before .before .precise .ensures .1 .size ∙ sym (c .before .before .before .before .before .before .before .before .before .before .before .before .before .before .before .before .before .before .before .before .before .before .before .before .before .pre .1 .1 .1 .size)
+same-length-3 : tie.Need-same-length-3
+same-length-3 c =
+    c .before .before .precise .ensures .1 .size ∙ sym (c .before .before .before .before .before .before .before .before .before .before .before .before .before .before .before .before .before .before .pre .1 .1 .1 .size)
 
 returns-3 : tie.Need-returns-3
 returns-3 c =
-    let s = c .before .before .before .before .before .before .before .before .before .before .before .before .before .before .before .before .before .before .before .before .before .before .before .before .before in
-    bound-precise (stored (s .args .frames .now)) (s .args .i) (s .pre .1 .1 .0 .1) (rough (c .before .before .before .before .before .before .before .before .before)) (c .before .before .before .before .before .before .before .before .scenario-count .ensures) (c .before .before .before .before .before .before .before .if1 .left) (c .before .before .before .before .precise .ensures .0)
+    let s = c .before .before .before .before .before .before .before .before .before .before .before .before .before .before .before .before .before .before in
+    bound-precise (stored (s .args .frames .now)) (s .args .i) (s .pre .1 .1 .0 .1) (rough (c .before .before .before .before .before .before)) (c .before .before .before .before .before .scenario-count .ensures) (c .before .before .before .before .if1 .left) (c .before .before .precise .ensures .0)
 
 pub bound-frame-spec : {M : Type 1} → statement M
 bound-frame-spec =
@@ -92,16 +83,13 @@ bound-frame-spec =
     approximate-requires
     enum-told
     enum-told-2
-    cast-t17
+    cast-t14
     same-length
-    same-length-2
     returns
     scenario-count-requires
-    cast-t21
-    same-length-3
-    same-length-4
+    cast-t18
+    same-length-2
     returns-2
     precise-requires
-    same-length-5
-    same-length-6
+    same-length-3
     returns-3)

@@ -29,12 +29,9 @@ slice-aggregate-judge-frame-3 c = search needs
 slice-aggregate-judge-frame-4 : tie.Need-slice-aggregate-judge-frame-4
 slice-aggregate-judge-frame-4 c = search needs
 
-slice-aggregate-judge-frame-5 : tie.Need-slice-aggregate-judge-frame-5
-slice-aggregate-judge-frame-5 c = search needs
-
 judge-frame-requires : tie.Need-judge-frame-requires
 judge-frame-requires c κs =
-    let s = c .before .before .before .before .before .before .before .before .before .before .before .before .before in (s .pre .0, (c .before .before .before .before .before .before .before .before .group .ensures, (s .pre .1, kept-zeros (s .pre .0) _ {n = 2064} refl refl)))
+    let s = c .before .before .before .before .before .before .before .before .before .before .before .before in (s .pre .0, (c .before .before .before .before .before .before .before .group .ensures, (s .pre .1, kept-zeros (s .pre .0) _ {n = 2064} refl refl)))
 
 returns : tie.Need-returns
 returns c = search needs
@@ -51,6 +48,5 @@ judge-among-spec =
     slice-aggregate-judge-frame-2
     slice-aggregate-judge-frame-3
     slice-aggregate-judge-frame-4
-    slice-aggregate-judge-frame-5
     judge-frame-requires
     returns)

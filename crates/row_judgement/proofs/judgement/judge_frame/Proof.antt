@@ -11,7 +11,7 @@ frame-blocking-requires c κs = search needs
 
 approximate-requires : tie.Need-approximate-requires
 approximate-requires c κs =
-    let p = c .before .before .before .before .before .before .before .before .before .pre in (p .0, (p .1 .0, (p .1 .1 .0, (c .before .before .frame-blocking .ensures .0, p .1 .1 .1))))
+    let p = c .before .before .before .before .before .before .before .pre in (p .0, (p .1 .0, (p .1 .1 .0, (c .before .frame-blocking .ensures .0, p .1 .1 .1))))
 
 enum-known-found : tie.Need-enum-known-found
 enum-known-found c = search needs
@@ -20,30 +20,24 @@ enum-told : tie.Need-enum-told
 enum-told c = search needs
 
 same-length : tie.Need-same-length
-same-length c = search needs
-
-same-length-2 : tie.Need-same-length-2
-same-length-2 c =
-    c .before .before .before .before .before .before .approximate .ensures .1 .size ∙ sym (c .before .before .before .before .before .before .before .before .before .before .before .before .before .before .before .before .pre .1 .1 .1 .size)
+same-length c =
+    c .before .before .before .before .approximate .ensures .1 .size ∙ sym (c .before .before .before .before .before .before .before .before .before .before .before .before .pre .1 .1 .1 .size)
 
 returns : tie.Need-returns
 returns c =
-    let s = c .before .before .before .before .before .before .before .before .before .before .before .before .before .before .before .before in
-    judge-none (stored (s .args .frames .now)) (s .args .k) (s .args .claim) (found-none (s .pre .0) (s .pre .1 .1 .0) (c .before .before .before .before .before .before .approximate .ensures .0) (c .enum-told .given .1))
+    let s = c .before .before .before .before .before .before .before .before .before .before .before .before in
+    judge-none (stored (s .args .frames .now)) (s .args .k) (s .args .claim) (found-none (s .pre .0) (s .pre .1 .1 .0) (c .before .before .before .before .approximate .ensures .0) (c .enum-told .given .1))
 
 -- what is found
-rough : (c : tie.After-known-told) → let s = c .before .before .before .before .before .before .before .before .before .before .before .before .before .before .before .before .before in Approximated (stored (s .args .frames .now)) (s .args .k) (c .before .found .given .0 .0)
-rough c = let p = c .before .before .before .before .before .before .before .before .before .before .before .before .before .before .before .before .before .pre in found-bound (p .0) (p .1 .1 .0) (c .before .before .before .before .before .before .before .approximate .ensures .0) (c .before .found .given .1)
+rough : (c : tie.After-known-told) → let s = c .before .before .before .before .before .before .before .before .before .before .before .before .before in Approximated (stored (s .args .frames .now)) (s .args .k) (c .before .found .given .0 .0)
+rough c = let p = c .before .before .before .before .before .before .before .before .before .before .before .before .before .pre in found-bound (p .0) (p .1 .1 .0) (c .before .before .before .before .before .approximate .ensures .0) (c .before .found .given .1)
 
 judged-requires : tie.Need-judged-requires
 judged-requires c κs = search needs
 
-same-length-3 : tie.Need-same-length-3
-same-length-3 c = search needs
-
-same-length-4 : tie.Need-same-length-4
-same-length-4 c =
-    c .before .before .before .before .before .before .before .before .before .approximate .ensures .1 .size ∙ sym (c .before .before .before .before .before .before .before .before .before .before .before .before .before .before .before .before .before .before .before .pre .1 .1 .1 .size)
+same-length-2 : tie.Need-same-length-2
+same-length-2 c =
+    c .before .before .before .before .before .before .before .approximate .ensures .1 .size ∙ sym (c .before .before .before .before .before .before .before .before .before .before .before .before .before .before .before .pre .1 .1 .1 .size)
 
 returns-2 : tie.Need-returns-2
 returns-2 c = c .judged .ensures ∙ judge-approximate (rough (c .before .before)) (c .before .if1 .taken)
@@ -54,12 +48,9 @@ scenario-count-requires c κs = search needs
 judged-requires-2 : tie.Need-judged-requires-2
 judged-requires-2 c κs = search needs
 
-same-length-5 : tie.Need-same-length-5
-same-length-5 c = search needs
-
-same-length-6 : tie.Need-same-length-6
-same-length-6 c =
-    c .before .before .before .before .before .before .before .before .before .before .before .approximate .ensures .1 .size ∙ sym (c .before .before .before .before .before .before .before .before .before .before .before .before .before .before .before .before .before .before .before .before .before .pre .1 .1 .1 .size)
+same-length-3 : tie.Need-same-length-3
+same-length-3 c =
+    c .before .before .before .before .before .before .before .before .before .approximate .ensures .1 .size ∙ sym (c .before .before .before .before .before .before .before .before .before .before .before .before .before .before .before .before .before .pre .1 .1 .1 .size)
 
 returns-3 : tie.Need-returns-3
 returns-3 c =
@@ -67,8 +58,8 @@ returns-3 c =
 
 precise-requires : tie.Need-precise-requires
 precise-requires c κs =
-    let p = c .before .before .before .before .before .before .before .before .before .before .before .before .before .before .before .before .before .before .before .before .before .before .pre in
-    (p .0, (p .1 .0, (p .1 .1 .0, ((c .before .before .before .before .before .before .before .before .before .before .before .before .before .before .before .frame-blocking .ensures .0, rough (c .before .before .before .before .before) .windows), c .before .before .before .before .before .before .before .before .before .before .before .before .approximate .ensures .1))))
+    let p = c .before .before .before .before .before .before .before .before .before .before .before .before .before .before .before .before .before .pre in
+    (p .0, (p .1 .0, (p .1 .1 .0, ((c .before .before .before .before .before .before .before .before .before .before .before .frame-blocking .ensures .0, rough (c .before .before .before .before) .windows), c .before .before .before .before .before .before .before .before .before .approximate .ensures .1))))
 
 judged-requires-3 : tie.Need-judged-requires-3
 judged-requires-3 c κs = search needs
@@ -76,27 +67,21 @@ judged-requires-3 c κs = search needs
 judged-requires-4 : tie.Need-judged-requires-4
 judged-requires-4 c κs = search needs
 
-same-length-7 : tie.Need-same-length-7
-same-length-7 c = search needs
-
-same-length-8 : tie.Need-same-length-8
-same-length-8 c =
-    c .before .before .before .before .before .before .precise .ensures .1 .size ∙ sym (c .before .before .before .before .before .before .before .before .before .before .before .before .before .before .before .before .before .before .before .before .before .before .before .before .before .before .before .before .before .pre .1 .1 .1 .size)
+same-length-4 : tie.Need-same-length-4
+same-length-4 c =
+    c .before .before .before .before .precise .ensures .1 .size ∙ sym (c .before .before .before .before .before .before .before .before .before .before .before .before .before .before .before .before .before .before .before .before .before .before .pre .1 .1 .1 .size)
 
 returns-4 : tie.Need-returns-4
 returns-4 c =
-    c .judged3 .ensures ∙ judge-precise (rough (c .before .before .before .before .before .before .before .before .before .before .before .before)) (c .before .before .before .before .before .before .before .before .before .before .before .if1 .left) (c .before .before .before .before .before .before .before .before .before .before .scenario-count .ensures) (c .before .before .before .before .before .before .before .before .before .if2 .left) (c .before .before .before .before .before .before .precise .ensures .0) (c .before .if3 .taken)
+    c .judged3 .ensures ∙ judge-precise (rough (c .before .before .before .before .before .before .before .before .before)) (c .before .before .before .before .before .before .before .before .if1 .left) (c .before .before .before .before .before .before .before .scenario-count .ensures) (c .before .before .before .before .before .before .if2 .left) (c .before .before .before .before .precise .ensures .0) (c .before .if3 .taken)
 
-same-length-9 : tie.Need-same-length-9
-same-length-9 c = search needs
-
-same-length-10 : tie.Need-same-length-10
-same-length-10 c =
-    c .before .before .before .before .before .before .precise .ensures .1 .size ∙ sym (c .before .before .before .before .before .before .before .before .before .before .before .before .before .before .before .before .before .before .before .before .before .before .before .before .before .before .before .before .before .pre .1 .1 .1 .size)
+same-length-5 : tie.Need-same-length-5
+same-length-5 c =
+    c .before .before .before .before .precise .ensures .1 .size ∙ sym (c .before .before .before .before .before .before .before .before .before .before .before .before .before .before .before .before .before .before .before .before .before .before .pre .1 .1 .1 .size)
 
 returns-5 : tie.Need-returns-5
 returns-5 c =
-    c .judged4 .ensures ∙ judge-small (rough (c .before .before .before .before .before .before .before .before .before .before .before .before)) (c .before .before .before .before .before .before .before .before .before .before .before .if1 .left) (c .before .before .before .before .before .before .before .before .before .before .scenario-count .ensures) (c .before .before .before .before .before .before .before .before .before .if2 .left) (c .before .before .before .before .before .before .precise .ensures .0) (c .before .if3 .left)
+    c .judged4 .ensures ∙ judge-small (rough (c .before .before .before .before .before .before .before .before .before)) (c .before .before .before .before .before .before .before .before .if1 .left) (c .before .before .before .before .before .before .before .scenario-count .ensures) (c .before .before .before .before .before .before .if2 .left) (c .before .before .before .before .precise .ensures .0) (c .before .if3 .left)
 
 pub judge-frame-spec : {M : Type 1} → statement M
 judge-frame-spec =
@@ -107,23 +92,18 @@ judge-frame-spec =
     enum-known-found
     enum-told
     same-length
-    same-length-2
     returns
     judged-requires
-    same-length-3
-    same-length-4
+    same-length-2
     returns-2
     scenario-count-requires
     judged-requires-2
-    same-length-5
-    same-length-6
+    same-length-3
     returns-3
     precise-requires
     judged-requires-3
     judged-requires-4
-    same-length-7
-    same-length-8
+    same-length-4
     returns-4
-    same-length-9
-    same-length-10
+    same-length-5
     returns-5)
