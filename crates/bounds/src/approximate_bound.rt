@@ -14,8 +14,7 @@ ghost use Rattle.arith.specs.declared.Found.the-variants.{At};
 ghost use Rattle.bus_model.specs.Bounds.{blocking};
 ghost use Rattle.bus_model.specs.theory.Approximate.{approximateFound};
 ghost use Rattle.workload.specs.Stored.{stored};
-ghost use Rattle.workload.specs.Grouped.{Grouped, InTable, FineTable};
-ghost use Rattle.greatest_work.specs.Kept.{Kept};
+ghost use Rattle.delay_search.specs.Ready.{Ready};
 ghost use Rattle.delay_search.specs.Load.{WindowWithin};
 
 // A length that the window of the scenario does not exceed: the one given, or else the window itself.
@@ -30,14 +29,11 @@ fn limit_of(
     limit: Found,
     sums: &mut [u64],
 ) -> Found
-    requires { ⌜ FineTable (stored (now frames)) ⌝ }
-    requires { ⌜ Grouped (stored (now frames)) k (now members) (now counts) (now ends) ⌝ }
-    requires { ⌜ InTable (stored (now frames)) k ⌝ }
+    requires { ⌜ Ready (stored (now frames)) k (now members) (now counts) (now ends) (now sums) ⌝ }
     requires { ⌜ blocked ≡ blocking (stored (now frames)) k ⌝ }
     requires { ⌜ ((l : ℕ) → limit ≡ At l → (l ≤ 1000000) × WindowWithin (stored (now frames)) k choices l) ⌝ }
-    requires { ⌜ Kept (stored (now frames)) k (now sums) ⌝ }
     ensures { λ r. ⌜ ((l : ℕ) → r ≡ At l → (l ≤ 1000000) × WindowWithin (stored (now (frames .entry))) k choices l) ⌝ }
-    ensures kept { λ _. ⌜ Kept (stored (now (frames .entry))) k (now (sums .exit)) ⌝ }
+    ensures kept { λ _. ⌜ Ready (stored (now (frames .entry))) k (now (members .entry)) (now (counts .entry)) (now (ends .entry)) (now (sums .exit)) ⌝ }
 {
     match limit {
         Found::At(l) => Found::At(l),
@@ -55,13 +51,10 @@ pub fn approximate(
     blocked: u32,
     sums: &mut [u64],
 ) -> Found
-    requires { ⌜ FineTable (stored (now frames)) ⌝ }
-    requires { ⌜ Grouped (stored (now frames)) k (now members) (now counts) (now ends) ⌝ }
-    requires { ⌜ InTable (stored (now frames)) k ⌝ }
+    requires { ⌜ Ready (stored (now frames)) k (now members) (now counts) (now ends) (now sums) ⌝ }
     requires { ⌜ blocked ≡ blocking (stored (now frames)) k ⌝ }
-    requires { ⌜ Kept (stored (now frames)) k (now sums) ⌝ }
     ensures { λ r. ⌜ r ≡ approximateFound (stored (now (frames .entry))) k ⌝ }
-    ensures kept { λ _. ⌜ Kept (stored (now (frames .entry))) k (now (sums .exit)) ⌝ }
+    ensures kept { λ _. ⌜ Ready (stored (now (frames .entry))) k (now (members .entry)) (now (counts .entry)) (now (ends .entry)) (now (sums .exit)) ⌝ }
 {
     let j = k.node as usize;
     let limit = busy_window(

@@ -24,8 +24,7 @@ ghost use Rattle.bus_model.specs.Bounds.{nodes, blocking, choiceOf, preciseBoun
 ghost use Rattle.bus_model.specs.Judgement.{lacksWindow};
 ghost use Rattle.bus_model.specs.theory.Refine.{levels, refined, Level};
 ghost use Rattle.workload.specs.Stored.{stored};
-ghost use Rattle.workload.specs.Grouped.{Grouped, InTable, FineTable};
-ghost use Rattle.greatest_work.specs.Kept.{Kept};
+ghost use Rattle.delay_search.specs.Ready.{Ready};
 ghost use Rattle.delay_search.specs.Load.{WindowWithin, Left};
 
 // Which instances are left in the scenario with the open nodes at `Any`. Where none are, no scenario from a level on has a response above
@@ -46,17 +45,14 @@ fn left_over(
     known: Unserved,
     sums: &mut [u64],
 ) -> Unserved
-    requires { ⌜ FineTable (stored (now frames)) ⌝ }
-    requires { ⌜ Grouped (stored (now frames)) k (now members) (now counts) (now ends) ⌝ }
-    requires { ⌜ InTable (stored (now frames)) k ⌝ }
+    requires { ⌜ Ready (stored (now frames)) k (now members) (now counts) (now ends) (now sums) ⌝ }
     requires { ⌜ (choiceOf choices (k .node) ≡ Fixed own) × (blocked ≡ blocking (stored (now frames)) k) ⌝ }
     requires { ⌜ (1 ≤ level) × (level ≤ 16) × Level k level choices ⌝ }
     requires { ⌜ (limit ≤ 1000000) × WindowWithin (stored (now frames)) k choices limit ⌝ }
     requires { ⌜ Left (stored (now frames)) k choices own most (known .list) (known .count) (known .end) ⌝ }
-    requires { ⌜ Kept (stored (now frames)) k (now sums) ⌝ }
     ensures { λ r. ⌜ Left (stored (now (frames .entry))) k choices own most (r .list) (r .count) (r .end) ⌝ }
     ensures none { λ r. ⌜ (T (r .none) → refined (stored (now (frames .entry))) k (levels k level nodes) choices ≤ most) ⌝ }
-    ensures kept { λ _. ⌜ Kept (stored (now (frames .entry))) k (now (sums .exit)) ⌝ }
+    ensures kept { λ _. ⌜ Ready (stored (now (frames .entry))) k (now (members .entry)) (now (counts .entry)) (now (ends .entry)) (now (sums .exit)) ⌝ }
 {
     if !asked {
         return with_none(known, false);
@@ -97,16 +93,13 @@ fn improve(
     known: Unserved,
     sums: &mut [u64],
 ) -> u32
-    requires { ⌜ FineTable (stored (now frames)) ⌝ }
-    requires { ⌜ Grouped (stored (now frames)) k (now members) (now counts) (now ends) ⌝ }
-    requires { ⌜ InTable (stored (now frames)) k ⌝ }
+    requires { ⌜ Ready (stored (now frames)) k (now members) (now counts) (now ends) (now sums) ⌝ }
     requires { ⌜ (choiceOf choices (k .node) ≡ Fixed own) × (blocked ≡ blocking (stored (now frames)) k) ⌝ }
     requires { ⌜ (1 ≤ level) × (level ≤ 16) × Level k level choices ⌝ }
     requires { ⌜ (limit ≤ 1000000) × WindowWithin (stored (now frames)) k choices limit ⌝ }
     requires { ⌜ Left (stored (now frames)) k choices own best (known .list) (known .count) (known .end) ⌝ }
-    requires { ⌜ Kept (stored (now frames)) k (now sums) ⌝ }
     ensures { λ r. ⌜ r ≡ max best (refined (stored (now (frames .entry))) k (levels k level nodes) choices) ⌝ }
-    ensures kept { λ _. ⌜ Kept (stored (now (frames .entry))) k (now (sums .exit)) ⌝ }
+    ensures kept { λ _. ⌜ Ready (stored (now (frames .entry))) k (now (members .entry)) (now (counts .entry)) (now (ends .entry)) (now (sums .exit)) ⌝ }
 {
     if level == NODES {
         return or_zero(raised(
@@ -205,13 +198,10 @@ pub fn precise(
     blocked: u32,
     sums: &mut [u64],
 ) -> u32
-    requires { ⌜ FineTable (stored (now frames)) ⌝ }
-    requires { ⌜ Grouped (stored (now frames)) k (now members) (now counts) (now ends) ⌝ }
-    requires { ⌜ InTable (stored (now frames)) k ⌝ }
+    requires { ⌜ Ready (stored (now frames)) k (now members) (now counts) (now ends) (now sums) ⌝ }
     requires { ⌜ (blocked ≡ blocking (stored (now frames)) k) × (lacksWindow (stored (now frames)) k ≡ false) ⌝ }
-    requires { ⌜ Kept (stored (now frames)) k (now sums) ⌝ }
     ensures { λ r. ⌜ r ≡ preciseBound (stored (now (frames .entry))) k ⌝ }
-    ensures kept { λ _. ⌜ Kept (stored (now (frames .entry))) k (now (sums .exit)) ⌝ }
+    ensures kept { λ _. ⌜ Ready (stored (now (frames .entry))) k (now (members .entry)) (now (counts .entry)) (now (ends .entry)) (now (sums .exit)) ⌝ }
 {
     let j = k.node as usize;
     let mut most: u32 = 0;

@@ -1,3 +1,4 @@
 -- What the code of this crate works with. The bounds themselves are defined in bus_model.
+pub mod Ready
 pub mod Load
 pub mod laws

@@ -19,9 +19,8 @@ ghost use Rattle.bus_model.specs.declared.Choice.the-variants.{Fixed};
 ghost use Rattle.bus_model.specs.Bounds.{choiceOf};
 ghost use Rattle.bus_model.specs.theory.Work.{RefinedBy};
 ghost use Rattle.workload.specs.Stored.{stored};
-ghost use Rattle.workload.specs.Grouped.{FineTable, Grouped, InTable};
 ghost use Rattle.workload.specs.Laid.{FineFrames};
-ghost use Rattle.greatest_work.specs.Kept.{Kept};
+ghost use Rattle.delay_search.specs.Ready.{Ready};
 ghost use Rattle.delay_search.specs.Load.{loadOf, holds, laidHolds, shiftOf};
 
 // The longest busy window that is looked for.
@@ -42,13 +41,10 @@ pub fn load(
     x: u32,
     sums: &mut [u64],
 ) -> u64
-    requires { ⌜ FineTable (stored (now frames)) ⌝ }
-    requires { ⌜ Grouped (stored (now frames)) k (now members) (now counts) (now ends) ⌝ }
-    requires { ⌜ InTable (stored (now frames)) k ⌝ }
+    requires { ⌜ Ready (stored (now frames)) k (now members) (now counts) (now ends) (now sums) ⌝ }
     requires { ⌜ (T delay → choiceOf choices (k .node) ≡ Fixed own) × (base ≤ 1000000000) × (x ≤ 1000000) ⌝ }
-    requires { ⌜ Kept (stored (now frames)) k (now sums) ⌝ }
     ensures { λ r. ⌜ r ≡ loadOf (stored (now (frames .entry))) k choices delay base x ⌝ }
-    ensures kept { λ _. ⌜ Kept (stored (now (frames .entry))) k (now (sums .exit)) ⌝ }
+    ensures kept { λ _. ⌜ Ready (stored (now (frames .entry))) k (now (members .entry)) (now (counts .entry)) (now (ends .entry)) (now (sums .exit)) ⌝ }
 {
     if delay {
         let all = whole_work(frames, members, counts, ends, k, choices, x + 1, sums);
@@ -100,10 +96,8 @@ fn climb_guessed(
     end: u32,
     sums: &[u64],
 ) -> Found
-    requires { ⌜ FineTable (stored (now frames)) ⌝ }
-    requires { ⌜ Grouped (stored (now frames)) k (now members) (now counts) (now ends) ⌝ }
+    requires { ⌜ Ready (stored (now frames)) k (now members) (now counts) (now ends) (now sums) ⌝ }
     requires { ⌜ (base ≤ 1000000000) × (end ≤ 1000001) ⌝ }
-    requires { ⌜ Kept (stored (now frames)) k (now sums) ⌝ }
     ensures { λ r. ⌜ ((cs : List Choice) × RefinedBy (stored (now (frames .entry))) k choices cs × (r ≡ least (holds (stored (now (frames .entry))) k cs delay base) (end - from) from)) ⌝ }
 {
     let finer = guessed(frames, members, counts, ends, k, choices, sums);
@@ -128,13 +122,10 @@ pub fn settle(
     end: u32,
     sums: &mut [u64],
 ) -> Found
-    requires { ⌜ FineTable (stored (now frames)) ⌝ }
-    requires { ⌜ Grouped (stored (now frames)) k (now members) (now counts) (now ends) ⌝ }
-    requires { ⌜ InTable (stored (now frames)) k ⌝ }
+    requires { ⌜ Ready (stored (now frames)) k (now members) (now counts) (now ends) (now sums) ⌝ }
     requires { ⌜ (T delay → choiceOf choices (k .node) ≡ Fixed own) × (base ≤ 1000000000) × (end ≤ 1000001) ⌝ }
-    requires { ⌜ Kept (stored (now frames)) k (now sums) ⌝ }
     ensures { λ r. ⌜ r ≡ least (holds (stored (now (frames .entry))) k choices delay base) (end - from) from ⌝ }
-    ensures kept { λ _. ⌜ Kept (stored (now (frames .entry))) k (now (sums .exit)) ⌝ }
+    ensures kept { λ _. ⌜ Ready (stored (now (frames .entry))) k (now (members .entry)) (now (counts .entry)) (now (ends .entry)) (now (sums .exit)) ⌝ }
 {
     let mut x = from;
     while x < end {

@@ -12,9 +12,8 @@ ghost use Prim.Native.Nat.{ℕ, _+_, _*_, _≤_, _<_};
 ghost use Rattle.bus_model.specs.declared.Choice.the-variants.{Fixed};
 ghost use Rattle.bus_model.specs.Bounds.{distance, choiceOf, blocking};
 ghost use Rattle.workload.specs.Stored.{stored};
-ghost use Rattle.workload.specs.Grouped.{FineTable, Grouped, InTable};
 ghost use Rattle.workload.specs.Laid.{laidOut, FineFrames};
-ghost use Rattle.greatest_work.specs.Kept.{Kept};
+ghost use Rattle.delay_search.specs.Ready.{Ready};
 ghost use Rattle.delay_search.specs.Load.{latestStart, Serves, ServesLaid, InTime};
 
 // So many steps does a climb take that is only to save visits.
@@ -69,14 +68,11 @@ fn served_at(
     latest: u32,
     sums: &mut [u64],
 ) -> Served
-    requires { ⌜ FineTable (stored (now frames)) ⌝ }
-    requires { ⌜ Grouped (stored (now frames)) k (now members) (now counts) (now ends) ⌝ }
-    requires { ⌜ InTable (stored (now frames)) k ⌝ }
+    requires { ⌜ Ready (stored (now frames)) k (now members) (now counts) (now ends) (now sums) ⌝ }
     requires { ⌜ (choiceOf choices (k .node) ≡ Fixed own) × (base ≤ 1000000000) × (latest ≤ 1000000) ⌝ }
-    requires { ⌜ Kept (stored (now frames)) k (now sums) ⌝ }
     ensures { λ r. ⌜ Serves (stored (now (frames .entry))) k choices base latest (r .start) (r .count) ⌝ }
     ensures small { λ r. ⌜ r .count ≤ 1000001 ⌝ }
-    ensures kept { λ _. ⌜ Kept (stored (now (frames .entry))) k (now (sums .exit)) ⌝ }
+    ensures kept { λ _. ⌜ Ready (stored (now (frames .entry))) k (now (members .entry)) (now (counts .entry)) (now (ends .entry)) (now (sums .exit)) ⌝ }
 {
     if x > latest {
         return Served { start: 0, count: 0 };
@@ -146,15 +142,12 @@ fn served_tried(
     laid: &[u32],
     sums: &mut [u64],
 ) -> Served
-    requires { ⌜ FineTable (stored (now frames)) ⌝ }
-    requires { ⌜ Grouped (stored (now frames)) k (now members) (now counts) (now ends) ⌝ }
-    requires { ⌜ InTable (stored (now frames)) k ⌝ }
+    requires { ⌜ Ready (stored (now frames)) k (now members) (now counts) (now ends) (now sums) ⌝ }
     requires { ⌜ (choiceOf choices (k .node) ≡ Fixed own) × (base ≤ 1000000000) × (latest ≤ 1000000) ⌝ }
     requires { ⌜ stored (now laid) ≡ laidOut (stored (now frames)) k true choices ⌝ }
-    requires { ⌜ Kept (stored (now frames)) k (now sums) ⌝ }
     ensures { λ r. ⌜ Serves (stored (now (frames .entry))) k choices base latest (r .start) (r .count) ⌝ }
     ensures small { λ r. ⌜ r .count ≤ 1000001 ⌝ }
-    ensures kept { λ _. ⌜ Kept (stored (now (frames .entry))) k (now (sums .exit)) ⌝ }
+    ensures kept { λ _. ⌜ Ready (stored (now (frames .entry))) k (now (members .entry)) (now (counts .entry)) (now (ends .entry)) (now (sums .exit)) ⌝ }
 {
     let last = climb_above(laid, k.length, base, latest, latest);
     if 0 < last.count {
@@ -196,14 +189,11 @@ fn served_late(
     latest: u32,
     sums: &mut [u64],
 ) -> Served
-    requires { ⌜ FineTable (stored (now frames)) ⌝ }
-    requires { ⌜ Grouped (stored (now frames)) k (now members) (now counts) (now ends) ⌝ }
-    requires { ⌜ InTable (stored (now frames)) k ⌝ }
+    requires { ⌜ Ready (stored (now frames)) k (now members) (now counts) (now ends) (now sums) ⌝ }
     requires { ⌜ (choiceOf choices (k .node) ≡ Fixed own) × (base ≤ 1000000000) × (latest ≤ 1000000) ⌝ }
-    requires { ⌜ Kept (stored (now frames)) k (now sums) ⌝ }
     ensures { λ r. ⌜ Serves (stored (now (frames .entry))) k choices base latest (r .start) (r .count) ⌝ }
     ensures small { λ r. ⌜ r .count ≤ 1000001 ⌝ }
-    ensures kept { λ _. ⌜ Kept (stored (now (frames .entry))) k (now (sums .exit)) ⌝ }
+    ensures kept { λ _. ⌜ Ready (stored (now (frames .entry))) k (now (members .entry)) (now (counts .entry)) (now (ends .entry)) (now (sums .exit)) ⌝ }
 {
     let found = settle(
         frames,
@@ -253,15 +243,12 @@ fn served_by(
     laid: &[u32],
     sums: &mut [u64],
 ) -> Served
-    requires { ⌜ FineTable (stored (now frames)) ⌝ }
-    requires { ⌜ Grouped (stored (now frames)) k (now members) (now counts) (now ends) ⌝ }
-    requires { ⌜ InTable (stored (now frames)) k ⌝ }
+    requires { ⌜ Ready (stored (now frames)) k (now members) (now counts) (now ends) (now sums) ⌝ }
     requires { ⌜ (choiceOf choices (k .node) ≡ Fixed own) × (base ≤ 1000000000) × (latest ≤ 1000000) ⌝ }
     requires { ⌜ stored (now laid) ≡ laidOut (stored (now frames)) k true choices ⌝ }
-    requires { ⌜ Kept (stored (now frames)) k (now sums) ⌝ }
     ensures { λ r. ⌜ Serves (stored (now (frames .entry))) k choices base latest (r .start) (r .count) ⌝ }
     ensures small { λ r. ⌜ r .count ≤ 1000001 ⌝ }
-    ensures kept { λ _. ⌜ Kept (stored (now (frames .entry))) k (now (sums .exit)) ⌝ }
+    ensures kept { λ _. ⌜ Ready (stored (now (frames .entry))) k (now (members .entry)) (now (counts .entry)) (now (ends .entry)) (now (sums .exit)) ⌝ }
 {
     let tried = served_tried(
         frames,
@@ -329,16 +316,13 @@ pub fn served_instance(
     laid: &[u32],
     sums: &mut [u64],
 ) -> Passed
-    requires { ⌜ FineTable (stored (now frames)) ⌝ }
-    requires { ⌜ Grouped (stored (now frames)) k (now members) (now counts) (now ends) ⌝ }
-    requires { ⌜ InTable (stored (now frames)) k ⌝ }
+    requires { ⌜ Ready (stored (now frames)) k (now members) (now counts) (now ends) (now sums) ⌝ }
     requires { ⌜ (choiceOf choices (k .node) ≡ Fixed own) × (blocked ≡ blocking (stored (now frames)) k) × (d ≡ distance k own) ⌝ }
     requires { ⌜ (blocked + q * k .length ≤ 1000000000) × (d + q * k .period < 1000000) ⌝ }
     requires { ⌜ stored (now laid) ≡ laidOut (stored (now frames)) k true choices ⌝ }
-    requires { ⌜ Kept (stored (now frames)) k (now sums) ⌝ }
     ensures { λ r. ⌜ ((i : ℕ) → i < r .count → InTime (stored (now (frames .entry))) k choices own most (q + i)) ⌝ }
     ensures small { λ r. ⌜ r .count ≤ 1000001 ⌝ }
-    ensures kept { λ _. ⌜ Kept (stored (now (frames .entry))) k (now (sums .exit)) ⌝ }
+    ensures kept { λ _. ⌜ Ready (stored (now (frames .entry))) k (now (members .entry)) (now (counts .entry)) (now (ends .entry)) (now (sums .exit)) ⌝ }
 {
     let base = blocked as u64 + q as u64 * k.length as u64;
     let found = latest_start(most, k.length, d + q * k.period);

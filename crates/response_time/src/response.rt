@@ -24,8 +24,7 @@ ghost use Rattle.bus_model.specs.declared.Choice.the-variants.{Fixed};
 ghost use Rattle.bus_model.specs.Bounds.{choiceOf, blocking, busyWindow, responseTime};
 ghost use Rattle.bus_model.specs.theory.Approximate.{both, scenarioFound};
 ghost use Rattle.workload.specs.Stored.{stored};
-ghost use Rattle.workload.specs.Grouped.{Grouped, InTable, FineTable};
-ghost use Rattle.greatest_work.specs.Kept.{Kept};
+ghost use Rattle.delay_search.specs.Ready.{Ready};
 ghost use Rattle.delay_search.specs.Load.{WindowWithin, Left};
 
 // The response of an instance that starts at a delay and was released at a tick.
@@ -56,13 +55,10 @@ fn greatest_response(
     open: bool,
     sums: &mut [u64],
 ) -> u32
-    requires { ⌜ FineTable (stored (now frames)) ⌝ }
-    requires { ⌜ Grouped (stored (now frames)) k (now members) (now counts) (now ends) ⌝ }
-    requires { ⌜ InTable (stored (now frames)) k ⌝ }
+    requires { ⌜ Ready (stored (now frames)) k (now members) (now counts) (now ends) (now sums) ⌝ }
     requires { ⌜ (choiceOf choices (k .node) ≡ Fixed own) × (blocked ≡ blocking (stored (now frames)) k) × (busyWindow (stored (now frames)) k choices ≡ At l) ⌝ }
-    requires { ⌜ Kept (stored (now frames)) k (now sums) ⌝ }
     ensures { λ r. ⌜ r ≡ max most (responseTime (stored (now (frames .entry))) k choices l) ⌝ }
-    ensures kept { λ _. ⌜ Kept (stored (now (frames .entry))) k (now (sums .exit)) ⌝ }
+    ensures kept { λ _. ⌜ Ready (stored (now (frames .entry))) k (now (members .entry)) (now (counts .entry)) (now (ends .entry)) (now (sums .exit)) ⌝ }
 {
     let d = distance_from(k, own, 0);
     let instances = releases_before(d, k.period, l, 0);
@@ -130,13 +126,10 @@ pub fn busy_window(
     blocked: u32,
     sums: &mut [u64],
 ) -> Found
-    requires { ⌜ FineTable (stored (now frames)) ⌝ }
-    requires { ⌜ Grouped (stored (now frames)) k (now members) (now counts) (now ends) ⌝ }
-    requires { ⌜ InTable (stored (now frames)) k ⌝ }
+    requires { ⌜ Ready (stored (now frames)) k (now members) (now counts) (now ends) (now sums) ⌝ }
     requires { ⌜ blocked ≡ blocking (stored (now frames)) k ⌝ }
-    requires { ⌜ Kept (stored (now frames)) k (now sums) ⌝ }
     ensures { λ r. ⌜ r ≡ busyWindow (stored (now (frames .entry))) k choices ⌝ }
-    ensures kept { λ _. ⌜ Kept (stored (now (frames .entry))) k (now (sums .exit)) ⌝ }
+    ensures kept { λ _. ⌜ Ready (stored (now (frames .entry))) k (now (members .entry)) (now (counts .entry)) (now (ends .entry)) (now (sums .exit)) ⌝ }
 {
     settle(
         frames,
@@ -168,13 +161,10 @@ fn scenario_response(
     open: bool,
     sums: &mut [u64],
 ) -> Found
-    requires { ⌜ FineTable (stored (now frames)) ⌝ }
-    requires { ⌜ Grouped (stored (now frames)) k (now members) (now counts) (now ends) ⌝ }
-    requires { ⌜ InTable (stored (now frames)) k ⌝ }
+    requires { ⌜ Ready (stored (now frames)) k (now members) (now counts) (now ends) (now sums) ⌝ }
     requires { ⌜ (choiceOf choices (k .node) ≡ Fixed own) × (blocked ≡ blocking (stored (now frames)) k) ⌝ }
-    requires { ⌜ Kept (stored (now frames)) k (now sums) ⌝ }
     ensures { λ r. ⌜ r ≡ both (At most) (scenarioFound (stored (now (frames .entry))) k choices) ⌝ }
-    ensures kept { λ _. ⌜ Kept (stored (now (frames .entry))) k (now (sums .exit)) ⌝ }
+    ensures kept { λ _. ⌜ Ready (stored (now (frames .entry))) k (now (members .entry)) (now (counts .entry)) (now (ends .entry)) (now (sums .exit)) ⌝ }
 {
     let found = busy_window(frames, members, counts, ends, k, choices, blocked, sums);
     let Found::At(l) = found else {
@@ -212,15 +202,12 @@ fn is_limited(
     known: Unserved,
     sums: &mut [u64],
 ) -> bool
-    requires { ⌜ FineTable (stored (now frames)) ⌝ }
-    requires { ⌜ Grouped (stored (now frames)) k (now members) (now counts) (now ends) ⌝ }
-    requires { ⌜ InTable (stored (now frames)) k ⌝ }
+    requires { ⌜ Ready (stored (now frames)) k (now members) (now counts) (now ends) (now sums) ⌝ }
     requires { ⌜ (choiceOf choices (k .node) ≡ Fixed own) × (blocked ≡ blocking (stored (now frames)) k) ⌝ }
     requires { ⌜ ((l : ℕ) → limit ≡ At l → (l ≤ 1000000) × WindowWithin (stored (now frames)) k choices l) ⌝ }
     requires { ⌜ Left (stored (now frames)) k choices own most (known .list) (known .count) (known .end) ⌝ }
-    requires { ⌜ Kept (stored (now frames)) k (now sums) ⌝ }
     ensures { λ r. ⌜ (T r → At most ≡ both (At most) (scenarioFound (stored (now (frames .entry))) k choices)) ⌝ }
-    ensures kept { λ _. ⌜ Kept (stored (now (frames .entry))) k (now (sums .exit)) ⌝ }
+    ensures kept { λ _. ⌜ Ready (stored (now (frames .entry))) k (now (members .entry)) (now (counts .entry)) (now (ends .entry)) (now (sums .exit)) ⌝ }
 {
     match limit {
         Found::At(l) => is_within(
@@ -259,15 +246,12 @@ pub fn raised(
     known: Unserved,
     sums: &mut [u64],
 ) -> Found
-    requires { ⌜ FineTable (stored (now frames)) ⌝ }
-    requires { ⌜ Grouped (stored (now frames)) k (now members) (now counts) (now ends) ⌝ }
-    requires { ⌜ InTable (stored (now frames)) k ⌝ }
+    requires { ⌜ Ready (stored (now frames)) k (now members) (now counts) (now ends) (now sums) ⌝ }
     requires { ⌜ (choiceOf choices (k .node) ≡ Fixed own) × (blocked ≡ blocking (stored (now frames)) k) ⌝ }
     requires { ⌜ ((l : ℕ) → limit ≡ At l → (l ≤ 1000000) × WindowWithin (stored (now frames)) k choices l) ⌝ }
     requires { ⌜ Left (stored (now frames)) k choices own most (known .list) (known .count) (known .end) ⌝ }
-    requires { ⌜ Kept (stored (now frames)) k (now sums) ⌝ }
     ensures { λ r. ⌜ r ≡ both (At most) (scenarioFound (stored (now (frames .entry))) k choices) ⌝ }
-    ensures kept { λ _. ⌜ Kept (stored (now (frames .entry))) k (now (sums .exit)) ⌝ }
+    ensures kept { λ _. ⌜ Ready (stored (now (frames .entry))) k (now (members .entry)) (now (counts .entry)) (now (ends .entry)) (now (sums .exit)) ⌝ }
 {
     if is_limited(
         frames,

@@ -18,8 +18,7 @@ ghost use lib.ListN.{length, take};
 ghost use Rattle.bus_model.specs.declared.Choice.the-variants.{Fixed};
 ghost use Rattle.bus_model.specs.Bounds.{choiceOf, blocking, scenarioResponse};
 ghost use Rattle.workload.specs.Stored.{stored};
-ghost use Rattle.workload.specs.Grouped.{FineTable, Grouped, InTable};
-ghost use Rattle.greatest_work.specs.Kept.{Kept};
+ghost use Rattle.delay_search.specs.Ready.{Ready};
 ghost use Rattle.delay_search.specs.Load.{WindowWithin, Left, NotedMore};
 
 // So many instances are listed at the most.
@@ -127,16 +126,13 @@ pub fn sweep(
     room: usize,
     sums: &mut [u64],
 ) -> Unserved
-    requires { ⌜ FineTable (stored (now frames)) ⌝ }
-    requires { ⌜ Grouped (stored (now frames)) k (now members) (now counts) (now ends) ⌝ }
-    requires { ⌜ InTable (stored (now frames)) k ⌝ }
+    requires { ⌜ Ready (stored (now frames)) k (now members) (now counts) (now ends) (now sums) ⌝ }
     requires { ⌜ (choiceOf choices (k .node) ≡ Fixed own) × (blocked ≡ blocking (stored (now frames)) k) ⌝ }
     requires { ⌜ (limit ≤ 1000000) × WindowWithin (stored (now frames)) k choices limit ⌝ }
     requires { ⌜ (room ≤ 64) × Left (stored (now frames)) k choices own most (known .list) (known .count) (known .end) ⌝ }
-    requires { ⌜ Kept (stored (now frames)) k (now sums) ⌝ }
     ensures { λ r. ⌜ Left (stored (now (frames .entry))) k choices own most (r .list) (r .count) (r .end) ⌝ }
     ensures none { λ r. ⌜ (T (r .none) → scenarioResponse (stored (now (frames .entry))) k choices ≤ most) ⌝ }
-    ensures kept { λ _. ⌜ Kept (stored (now (frames .entry))) k (now (sums .exit)) ⌝ }
+    ensures kept { λ _. ⌜ Ready (stored (now (frames .entry))) k (now (members .entry)) (now (counts .entry)) (now (ends .entry)) (now (sums .exit)) ⌝ }
 {
     let d = distance_from(k, own, 0);
     let releases = releases_before(d, k.period, limit, 0);
@@ -202,15 +198,12 @@ pub fn is_within(
     known: Unserved,
     sums: &mut [u64],
 ) -> bool
-    requires { ⌜ FineTable (stored (now frames)) ⌝ }
-    requires { ⌜ Grouped (stored (now frames)) k (now members) (now counts) (now ends) ⌝ }
-    requires { ⌜ InTable (stored (now frames)) k ⌝ }
+    requires { ⌜ Ready (stored (now frames)) k (now members) (now counts) (now ends) (now sums) ⌝ }
     requires { ⌜ (choiceOf choices (k .node) ≡ Fixed own) × (blocked ≡ blocking (stored (now frames)) k) ⌝ }
     requires { ⌜ (limit ≤ 1000000) × WindowWithin (stored (now frames)) k choices limit ⌝ }
     requires { ⌜ Left (stored (now frames)) k choices own most (known .list) (known .count) (known .end) ⌝ }
-    requires { ⌜ Kept (stored (now frames)) k (now sums) ⌝ }
     ensures { λ r. ⌜ (T r → scenarioResponse (stored (now (frames .entry))) k choices ≤ most) ⌝ }
-    ensures kept { λ _. ⌜ Kept (stored (now (frames .entry))) k (now (sums .exit)) ⌝ }
+    ensures kept { λ _. ⌜ Ready (stored (now (frames .entry))) k (now (members .entry)) (now (counts .entry)) (now (ends .entry)) (now (sums .exit)) ⌝ }
 {
     let left = sweep(
         frames,

@@ -14,8 +14,8 @@ ghost use Rattle.bus_model.specs.Frame.{row};
 ghost use Rattle.table_checks.specs.Frames.{framesOf};
 ghost use Rattle.table_checks.specs.Checks.{Accepted};
 ghost use Rattle.workload.specs.Stored.{stored};
-ghost use Rattle.greatest_work.specs.Kept.{Kept};
-ghost use Rattle.workload.specs.Grouped.{FineTable, Grouped};
+ghost use Rattle.delay_search.specs.Ready.{Ready};
+ghost use Rattle.workload.specs.Grouped.{FineTable};
 ghost use Rattle.row_judgement.specs.Judge.{boundFrame, boundRow};
 
 // The precise bound of a row.
@@ -83,10 +83,8 @@ fn bound_frame(
     i: usize,
     sums: &mut [u64],
 ) -> Bounded
-    requires { ⌜ FineTable (stored (now frames)) ⌝ }
-    requires { ⌜ Grouped (stored (now frames)) k (now members) (now counts) (now ends) ⌝ }
+    requires { ⌜ Ready (stored (now frames)) k (now members) (now counts) (now ends) (now sums) ⌝ }
     requires { ⌜ (i < length (stored (now frames))) × (k ≡ row (stored (now frames)) i) ⌝ }
-    requires { ⌜ Kept (stored (now frames)) k (now sums) ⌝ }
     ensures { λ r. ⌜ r ≡ boundFrame (stored (now (frames .entry))) i ⌝ }
 {
     let blocked = workload::frame_blocking(frames, k);

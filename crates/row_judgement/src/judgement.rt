@@ -20,8 +20,8 @@ ghost use Rattle.bus_model.specs.Judgement.{verdict, judge};
 ghost use Rattle.table_checks.specs.Frames.{framesOf};
 ghost use Rattle.table_checks.specs.Checks.{Accepted};
 ghost use Rattle.workload.specs.Stored.{stored};
-ghost use Rattle.greatest_work.specs.Kept.{Kept};
-ghost use Rattle.workload.specs.Grouped.{FineTable, Grouped, InTable};
+ghost use Rattle.delay_search.specs.Ready.{Ready};
+ghost use Rattle.workload.specs.Grouped.{FineTable, InTable};
 ghost use Rattle.row_judgement.specs.Judge.{claimOf, judgeRow, certified};
 
 // Judges the claim of a row. Where it certifies the frame, no instance of it is late, in any schedule.
@@ -91,10 +91,7 @@ fn judge_frame(
     claim: u32,
     sums: &mut [u64],
 ) -> Judgement
-    requires { ⌜ FineTable (stored (now frames)) ⌝ }
-    requires { ⌜ Grouped (stored (now frames)) k (now members) (now counts) (now ends) ⌝ }
-    requires { ⌜ InTable (stored (now frames)) k ⌝ }
-    requires { ⌜ Kept (stored (now frames)) k (now sums) ⌝ }
+    requires { ⌜ Ready (stored (now frames)) k (now members) (now counts) (now ends) (now sums) ⌝ }
     ensures { λ r. ⌜ r ≡ judge (stored (now (frames .entry))) k claim ⌝ }
 {
     let blocked = workload::frame_blocking(frames, k);

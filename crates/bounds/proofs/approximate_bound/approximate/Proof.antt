@@ -13,10 +13,10 @@ use Rattle.bus_model.specs.theory.Visits.{isAlignment}
 use Rattle.bus_model.specs.theory.Approximate.{both, greatestFound, approximateFound, found-more, both-missing, both-zero}
 use Rattle.bus_model.specs.theory.Turns.{turn, turn-le, visit-first, first-listed, found-listed}
 use Rattle.workload.specs.Stored.{stored}
-use Rattle.greatest_work.specs.Kept.{Kept}
 use Rattle.delay_search.specs.laws.Searches.{window-small}
 use Rattle.delay_search.specs.laws.Within.{left-all}
 use Rattle.bounds.specs.laws.Levels.{own-node, ownFound, found-end, free-within, own-found}
+use Rattle.delay_search.specs.Ready.{Ready}
 use Rattle.bounds.proofs.approximate_bound.approximate.Statement.{statement}
 use Rattle.bounds.proofs.approximate_bound.approximate.Tie as tie
 
@@ -24,14 +24,14 @@ abbrev Inv-loop : tie.InvT-loop
 Inv-loop frames members counts ends k blocked sums₀ j limit most₀ a₀ sums most a =
     Walk (greatestFound (ownFound (stored frames) k)) (λ done r. both (At done) r) (isAlignment (stored frames) k (k .node)) (turn (stored frames) k (k .node)) (approximateFound (stored frames) k) most a
     × Mem a (orEmpty (alignments (stored frames) k (k .node)))
-    × Kept (stored frames) k sums
+    × Ready (stored frames) k members counts ends sums
 
 abbrev μ-loop : tie.MeasureT-loop
 μ-loop frames members counts ends k blocked sums₀ j limit most₀ a₀ sums most a = turn (stored frames) k (k .node) - a
 
 -- k's node is one of the nodes
 node : (s : tie.Start Inv-loop μ-loop) → (1 ≤ s .args .k .node) × (s .args .k .node ≤ 16)
-node s = own-node (s .pre .0) (s .pre .1 .1 .0)
+node s = own-node (s .pre .0 .table) (s .pre .0 .listed)
 
 cast-j : tie.Need-cast-j Inv-loop μ-loop
 cast-j c = search needs
@@ -39,13 +39,13 @@ cast-j c = search needs
 busy-window-requires : tie.Need-busy-window-requires Inv-loop μ-loop
 busy-window-requires c κs =
     let p = c .before .before .before .before .before .before .before .pre in
-    (p .0, (p .1 .0, (p .1 .1 .0, p .1 .1 .1)))
+    (p .0, p .1)
 
 next-of-requires : tie.Need-next-of-requires Inv-loop μ-loop
 next-of-requires c κs =
     let s = c .before .before .before .before .before .before .before .before .before .before in
     let n = node s in
-    (s .pre .0, (s .pre .1 .0, (n .0, n .1, omega arith)))
+    (s .pre .0 .table, (s .pre .0 .grouped, (n .0, n .1, omega arith)))
 
 or-zero-requires : tie.Need-or-zero-requires Inv-loop μ-loop
 or-zero-requires c κs = search needs
@@ -53,10 +53,10 @@ or-zero-requires c κs = search needs
 loop-holds : tie.Need-loop-holds Inv-loop μ-loop
 loop-holds c =
     let s = c .before .before .before .before .before .before .before .before .before .before .before .before in
-    let valid = s .pre .0 .valid in
+    let valid = s .pre .0 .table .valid in
     let first = c .before .next-of in
     rw (c .or-zero .ensures) (
-      visit-first _ _ _ valid (s .args .k) (s .args .k .node) (first .result) (first .ensures) (both-zero _ ∙ own-found (s .pre .0) (s .pre .1 .1 .0)),
+      visit-first _ _ _ valid (s .args .k) (s .args .k .node) (first .result) (first .ensures) (both-zero _ ∙ own-found (s .pre .0 .table) (s .pre .0 .listed)),
       first-listed valid (s .args .k) (s .args .k .node) (first .result) (first .ensures),
       c .before .before .before .before .busy-window .ensures .1,
     )
@@ -70,7 +70,7 @@ limit-of-requires c κs =
     let l = c .before .before .loop in
     let w = c .before .with-choice .ensures in
     let limit = c .before .before .before .before .before .before .before .busy-window .ensures .0 in
-    (s .pre .0, (s .pre .1 .0, (s .pre .1 .1 .0, (s .pre .1 .1 .1 .0, (λ m e. (window-small _ _ _ (sym limit ∙ e), free-within (s .pre .0) (s .pre .1 .1 .0) (l .inv .1) (sym limit ∙ e) w), l .inv .2)))))
+    (l .inv .2, (s .pre .1, λ m e. (window-small _ _ _ (sym limit ∙ e), free-within (s .pre .0 .table) (s .pre .0 .listed) (l .inv .1) (sym limit ∙ e) w)))
 
 all-left-requires : tie.Need-all-left-requires Inv-loop μ-loop
 all-left-requires c κs = search needs
@@ -82,7 +82,7 @@ raised-requires c κs =
     let l = c .before .before .before .before .before .before .before .loop in
     let w = c .before .before .before .before .before .before .with-choice .ensures in
     let limit = c .before .before .before .before .limit-of .ensures in
-    (s .pre .0, (s .pre .1 .0, (s .pre .1 .1 .0, ((rw w (set-same free (mem-range 1 nodes (s .args .k .node) (n .0) (omega (arith, n .1))) (l .a) refl), s .pre .1 .1 .1 .0), (limit .0, (left-all (c .before .all-left .ensures), limit .1))))))
+    (limit .1, ((rw w (set-same free (mem-range 1 nodes (s .args .k .node) (n .0) (omega (arith, n .1))) (l .a) refl), s .pre .1), (limit .0, left-all (c .before .all-left .ensures))))
 
 enum-known-more : tie.Need-enum-known-more Inv-loop μ-loop
 enum-known-more c = search needs
@@ -91,7 +91,7 @@ enum-told : tie.Need-enum-told Inv-loop μ-loop
 enum-told c = search needs
 
 same-length : tie.Need-same-length Inv-loop μ-loop
-same-length c = c .before .before .before .before .raised .ensures .1 .size ∙ sym (c .before .before .before .before .before .before .before .before .before .before .before .before .before .before .before .before .before .before .before .before .before .before .before .before .before .pre .1 .1 .1 .1 .size)
+same-length c = c .before .before .before .before .raised .ensures .1 .kept .size ∙ sym (c .before .before .before .before .before .before .before .before .before .before .before .before .before .before .before .before .before .before .before .before .before .before .before .before .before .pre .0 .kept .size)
 
 returns : tie.Need-returns Inv-loop μ-loop
 returns c =
@@ -103,13 +103,13 @@ add-next-of : tie.Need-add-next-of Inv-loop μ-loop
 add-next-of c =
     let s = c .before .before .before .before .before .before .before .before .before .before .before .before .before .before .before .before .before .before .before .before .before .before .before .before .before .before in
     let n = node s in
-    omega (arith, c .before .before .before .before .before .before .before .before .before .before .before .before .before .loop .inv .0 .inside, s .pre .0 .hyper _ (n .0) (n .1), turn-le (s .pre .0 .valid) (s .args .k) (s .args .k .node))
+    omega (arith, c .before .before .before .before .before .before .before .before .before .before .before .before .before .loop .inv .0 .inside, s .pre .0 .table .hyper _ (n .0) (n .1), turn-le (s .pre .0 .table .valid) (s .args .k) (s .args .k .node))
 
 next-of-requires-2 : tie.Need-next-of-requires-2 Inv-loop μ-loop
 next-of-requires-2 c κs =
     let s = c .before .before .before .before .before .before .before .before .before .before .before .before .before .before .before .before .before .before .before .before .before .before .before .before .before .before in
     let n = node s in
-    (s .pre .0, (s .pre .1 .0, (n .0, n .1, omega (arith, c .before .before .before .before .before .before .before .before .before .before .before .before .before .loop .inv .0 .inside))))
+    (s .pre .0 .table, (s .pre .0 .grouped, (n .0, n .1, omega (arith, c .before .before .before .before .before .before .before .before .before .before .before .before .before .loop .inv .0 .inside))))
 
 enum-known-found : tie.Need-enum-known-found Inv-loop μ-loop
 enum-known-found c = search needs
@@ -118,7 +118,7 @@ enum-told-2 : tie.Need-enum-told-2 Inv-loop μ-loop
 enum-told-2 c = search needs
 
 same-length-2 : tie.Need-same-length-2 Inv-loop μ-loop
-same-length-2 c = c .before .before .before .before .before .before .before .before .raised .ensures .1 .size ∙ sym (c .before .before .before .before .before .before .before .before .before .before .before .before .before .before .before .before .before .before .before .before .before .before .before .before .before .before .before .before .before .pre .1 .1 .1 .1 .size)
+same-length-2 c = c .before .before .before .before .before .before .before .before .raised .ensures .1 .kept .size ∙ sym (c .before .before .before .before .before .before .before .before .before .before .before .before .before .before .before .before .before .before .before .before .before .before .before .before .before .before .before .before .before .pre .0 .kept .size)
 
 returns-2 : tie.Need-returns-2 Inv-loop μ-loop
 returns-2 c =
@@ -139,7 +139,7 @@ loop-again c =
     let more = rw (c .before .before .before .before .before .before .before .before .before .before .before .before .before .before .before .before .with-choice .ensures) at (c .before .before .before .before .before .before .before .before .before .raised .ensures .0) in
     let next = sym (c .before .before .before .next-of2 .ensures) ∙ c .before .found .given .1 in (
       walk-more _ _ _ _ _ (l .inv .0) (found-more _ (l .most) (l .a) (sym (c .before .before .before .before .before .more .given .1) ∙ more)) next,
-      found-listed (s .pre .0 .valid) _ _ _ next,
+      found-listed (s .pre .0 .table .valid) _ _ _ next,
       c .before .before .before .before .before .before .before .before .before .raised .ensures .1,
     )
 

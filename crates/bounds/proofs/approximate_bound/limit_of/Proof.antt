@@ -15,12 +15,12 @@ enum-told c = search needs
 busy-window-requires : tie.Need-busy-window-requires
 busy-window-requires c κs =
     let p = c .before .before .before .before .before .before .before .before .pre in
-    (p .0, (p .1 .0, (p .1 .1 .0, (p .1 .1 .1 .0, p .1 .1 .1 .1 .1))))
+    (p .0, p .1 .0)
 
 returns : tie.Need-returns
 returns c =
     let p = c .before .before .before .before .before .before .before .before .pre in
-    (λ l is. p .1 .1 .1 .1 .0 l (c .before .limit .given .1 ∙ is), p .1 .1 .1 .1 .1)
+    (λ l is. p .1 .1 l (c .before .limit .given .1 ∙ is), p .0)
 
 same-length : tie.Need-same-length
 same-length c = search needs

@@ -18,10 +18,10 @@ use Rattle.bus_model.specs.Bounds.{nodes, alignments, orEmpty}
 use Rattle.bus_model.specs.theory.Turns.{turn, firstTurn, turn-le}
 use Rattle.bus_model.specs.theory.Refine.{levels, refined, refined-end}
 use Rattle.workload.specs.Stored.{stored}
-use Rattle.greatest_work.specs.Kept.{Kept}
 use Rattle.delay_search.specs.Load.{Left}
 use Rattle.delay_search.specs.laws.Within.{left-more}
 use Rattle.bounds.specs.laws.Levels.{Reached, Best, best-first, best-more, best-end, best-over, nextLevel, next-levels, at-within, raised-counts, reached-node, reached-next, left-next}
+use Rattle.delay_search.specs.Ready.{Ready}
 use Rattle.bounds.proofs.precise_bound.improve.Reads as improve
 use Rattle.bounds.proofs.precise_bound.improve.Kinds as improve-kinds
 use Rattle.bounds.proofs.precise_bound.+improve.Lts-improve as improve-lts
@@ -67,7 +67,7 @@ claims t = (
 abbrev improve-Inv-loop : improve-lts.InvT-loop
 improve-Inv-loop frames members counts ends k choices own blocked limit level best sums₀ j first₀ below most₀ a₀ asked₀ left₀ sums most a asked left =
     Best (stored frames) k j (nextLevel (stored frames) k choices level j) best most a × (best ≤ most)
-    × Left (stored frames) k choices own most (left .list) (left .count) (left .end) × Kept (stored frames) k sums
+    × Left (stored frames) k choices own most (left .list) (left .count) (left .end) × Ready (stored frames) k members counts ends sums
 
 abbrev improve-μ-loop : improve-lts.MeasureT-loop
 improve-μ-loop frames members counts ends k choices own blocked limit level best sums₀ j first₀ below most₀ a₀ asked₀ left₀ sums most a asked left =
@@ -75,27 +75,27 @@ improve-μ-loop frames members counts ends k choices own blocked limit level bes
 
 -- where the search stands when the function starts
 reached : (t : ℕ) (s : improve-lts.Start (claims t) (improve-at t) improve.Post improve-Inv-loop improve-μ-loop) → Reached (stored (s .args .frames .now)) (s .args .k) (s .args .level) (s .args .own) (s .args .limit) (s .args .choices)
-reached t s = let p = s .pre .1 .1 .1 .1 in (p .0 .0, p .1 .0 .2, p .1 .1 .0 .1)
+reached t s = let p = s .pre .1 in (p .1 .0 .0, p .1 .1 .0 .2, p .1 .1 .1 .0 .1)
 
 -- a level is left
 lower : (t : ℕ) (c : improve-lts.Else1 (claims t) (improve-at t) improve.Post improve-Inv-loop improve-μ-loop) → c .before .before .before .before .before .before .args .level < nodes
-lower t c = omega (arith, c .before .before .before .before .before .before .pre .1 .1 .1 .1 .1 .0, c .if1 .left)
+lower t c = omega (arith, c .before .before .before .before .before .before .pre .1 .1 .1 .0, c .if1 .left)
 
 -- its node is one of the nodes
 node : (t : ℕ) (c : improve-lts.After-node-at (claims t) (improve-at t) improve.Post improve-Inv-loop improve-μ-loop) → (1 ≤ c .node-at .result) × (c .node-at .result ≤ 16)
-node t c = let s = c .before .before .before .before .before .before .before in reached-node (s .pre .1 .0) (s .pre .1 .1 .1 .0) (c .node-at .ensures) (lower t (c .before))
+node t c = let s = c .before .before .before .before .before .before .before in reached-node (s .pre .1 .0 .table) (s .pre .1 .0 .listed) (c .node-at .ensures) (lower t (c .before))
 
 improve-raised-requires : (t : ℕ) → improve-lts.Need-raised-requires (claims t) (improve-at t) improve.Post improve-Inv-loop improve-μ-loop
 improve-raised-requires t c κs =
     let p = c .before .before .before .before .before .before .before .pre .1 in
-    (p .0, (p .1 .0, (p .1 .1 .0, (p .1 .1 .1 .0, (at-within (p .1 .1 .1 .1 .1 .0), p .1 .1 .1 .1 .1 .1)))))
+    (p .0, (p .1 .0, (at-within (p .1 .1 .1 .0), p .1 .1 .1 .1)))
 
 improve-or-zero-requires : (t : ℕ) → improve-lts.Need-or-zero-requires (claims t) (improve-at t) improve.Post improve-Inv-loop improve-μ-loop
 improve-or-zero-requires t c κs = search needs
 
 improve-same-length : (t : ℕ) → improve-lts.Need-same-length (claims t) (improve-at t) improve.Post improve-Inv-loop improve-μ-loop
 improve-same-length t c =
-    c .before .before .before .raised .ensures .1 .size ∙ sym (c .before .before .before .before .before .before .before .before .before .before .before .pre .1 .1 .1 .1 .1 .1 .1 .1 .size)
+    c .before .before .before .raised .ensures .1 .kept .size ∙ sym (c .before .before .before .before .before .before .before .before .before .before .before .pre .1 .0 .kept .size)
 
 improve-returns : (t : ℕ) → improve-lts.Need-returns (claims t) (improve-at t) improve.Post improve-Inv-loop improve-μ-loop
 improve-returns t c =
@@ -114,7 +114,7 @@ improve-next-of-requires : (t : ℕ) → improve-lts.Need-next-of-requires (clai
 improve-next-of-requires t c κs =
     let p = c .before .before .before .before .before .before .before .pre .1 in
     let n = node t (c) in
-    (p .0, (p .1 .0, (n .0, n .1, omega arith)))
+    (p .0 .table, (p .0 .grouped, (n .0, n .1, omega arith)))
 
 improve-or-zero-requires-2 : (t : ℕ) → improve-lts.Need-or-zero-requires-2 (claims t) (improve-at t) improve.Post improve-Inv-loop improve-μ-loop
 improve-or-zero-requires-2 t c κs = search needs
@@ -122,13 +122,13 @@ improve-or-zero-requires-2 t c κs = search needs
 -- the walk stands at its first alignment
 first : (t : ℕ) (c : improve-lts.After-or-zero2 (claims t) (improve-at t) improve.Post improve-Inv-loop improve-μ-loop) → let s = c .before .before .before .before .before .before .before .before .before in let j = c .before .before .node-at .result in
     Best (stored (s .args .frames .now)) (s .args .k) j (nextLevel (stored (s .args .frames .now)) (s .args .k) (s .args .choices) (s .args .level) j) (s .args .best) (s .args .best) (c .or-zero2 .result)
-first t c = best-first _ _ _ _ (c .before .before .before .before .before .before .before .before .before .pre .1 .0 .valid) (c .before .next-of .result) (c .before .next-of .ensures) (c .or-zero2 .ensures)
+first t c = best-first _ _ _ _ (c .before .before .before .before .before .before .before .before .before .pre .1 .0 .table .valid) (c .before .next-of .result) (c .before .next-of .ensures) (c .or-zero2 .ensures)
 
 improve-is-last-requires : (t : ℕ) → improve-lts.Need-is-last-requires (claims t) (improve-at t) improve.Post improve-Inv-loop improve-μ-loop
 improve-is-last-requires t c κs =
     let p = c .before .before .before .before .before .before .before .before .before .pre .1 in
     let n = node t (c .before .before) in
-    (p .0, (p .1 .0, (n .0, n .1, first t (c) .walk .inside)))
+    (p .0 .table, (p .0 .grouped, (n .0, n .1, first t (c) .walk .inside)))
 
 -- it goes on with one of its node's alignments
 deeper : (t : ℕ) (c : improve-lts.After-node-at (claims t) (improve-at t) improve.Post improve-Inv-loop improve-μ-loop) {a most count end : ℕ} {cs : List Choice} {list : List ℕ} → let x = c .before .before .before .before .before .before .before .args in let j = c .node-at .result in
@@ -140,14 +140,14 @@ deeper t c listed finer left =
     let p = s .pre .1 in
     let less = lower t (c .before) in
     let level = reached t s .1 in (
-      reached-next (p .0) (p .1 .1 .0) (reached t s) less (c .node-at .ensures) listed finer,
-      left-next (p .0) (p .1 .1 .0) less (level .long) (level .left _ (omega arith) less) (c .node-at .ensures) listed finer left,
+      reached-next (p .0 .table) (p .0 .listed) (reached t s) less (c .node-at .ensures) listed finer,
+      left-next (p .0 .table) (p .0 .listed) less (level .long) (level .left _ (omega arith) less) (c .node-at .ensures) listed finer left,
     )
 
 -- the greatest over its alignments is that from the level on
 whole : (t : ℕ) (c : improve-lts.After-node-at (claims t) (improve-at t) improve.Post improve-Inv-loop improve-μ-loop) → let x = c .before .before .before .before .before .before .before .args in let j = c .node-at .result in
     greatest (nextLevel (stored (x .frames .now)) (x .k) (x .choices) (x .level) j) (orEmpty (firstTurn (stored (x .frames .now)) (x .k) j)) ≡ refined (stored (x .frames .now)) (x .k) (levels (x .k) (x .level) nodes) (x .choices)
-whole t c = let p = c .before .before .before .before .before .before .before .pre .1 in next-levels (p .0) (p .1 .1 .0) (c .before .before .before .before .before .before .before .args .choices) (p .1 .1 .1 .1 .0 .2 .long) (c .node-at .ensures) (lower t (c .before))
+whole t c = let p = c .before .before .before .before .before .before .before .pre .1 in next-levels (p .0 .table) (p .0 .listed) (c .before .before .before .before .before .before .before .args .choices) (p .1 .1 .0 .2 .long) (c .node-at .ensures) (lower t (c .before))
 
 improve-add-below : (t : ℕ) → improve-lts.Need-add-below (claims t) (improve-at t) improve.Post improve-Inv-loop improve-μ-loop
 improve-add-below t c = omega (arith, lower t (c .before .before .before))
@@ -159,11 +159,11 @@ improve-improve-requires : (t : ℕ) → improve-lts.Need-improve-requires (clai
 improve-improve-requires t c κs =
     let s = c .before .before .before .before .before .before .before .before .before .before .before .before .before in
     let p = s .pre .1 in
-    let (r, left) = deeper t (c .before .before .before .before .before .before) (first t (c .before .before .before .before) .listed) (c .before .with-choice .ensures) (p .1 .1 .1 .1 .1 .1 .0) in
-    (omega (arith, s .pre .0, lower t (c .before .before .before .before .before .before .before)), (p .0, (p .1 .0, (p .1 .1 .0, ((r .0, p .1 .1 .1 .0 .1), ((omega arith, omega (arith, lower t (c .before .before .before .before .before .before .before)), r .1), ((p .1 .1 .1 .1 .1 .0 .0, r .2), (left, p .1 .1 .1 .1 .1 .1 .1))))))))
+    let (r, left) = deeper t (c .before .before .before .before .before .before) (first t (c .before .before .before .before) .listed) (c .before .with-choice .ensures) (p .1 .1 .1 .1) in
+    (omega (arith, s .pre .0, lower t (c .before .before .before .before .before .before .before)), (p .0, ((r .0, p .1 .0 .1), ((omega arith, omega (arith, lower t (c .before .before .before .before .before .before .before)), r .1), ((p .1 .1 .1 .0 .0, r .2), left)))))
 
 improve-same-length-2 : (t : ℕ) → improve-lts.Need-same-length-2 (claims t) (improve-at t) improve.Post improve-Inv-loop improve-μ-loop
-improve-same-length-2 t c = c .before .before .improve .ensures .1 .size ∙ sym (c .before .before .before .before .before .before .before .before .before .before .before .before .before .before .before .before .pre .1 .1 .1 .1 .1 .1 .1 .1 .size)
+improve-same-length-2 t c = c .before .before .improve .ensures .1 .kept .size ∙ sym (c .before .before .before .before .before .before .before .before .before .before .before .before .before .before .before .before .pre .1 .0 .kept .size)
 
 improve-returns-2 : (t : ℕ) → improve-lts.Need-returns-2 (claims t) (improve-at t) improve.Post improve-Inv-loop improve-μ-loop
 improve-returns-2 t c = (
@@ -173,16 +173,16 @@ improve-returns-2 t c = (
 )
 
 improve-loop-holds : (t : ℕ) → improve-lts.Need-loop-holds (claims t) (improve-at t) improve.Post improve-Inv-loop improve-μ-loop
-improve-loop-holds t c = (first t (c .before .before), omega arith, c .before .before .before .before .before .before .before .before .before .before .before .pre .1 .1 .1 .1 .1 .1 .1 .0, c .before .before .before .before .before .before .before .before .before .before .before .pre .1 .1 .1 .1 .1 .1 .1 .1)
+improve-loop-holds t c = (first t (c .before .before), omega arith, c .before .before .before .before .before .before .before .before .before .before .before .pre .1 .1 .1 .1 .1, c .before .before .before .before .before .before .before .before .before .before .before .pre .1 .0)
 
 improve-left-over-requires : (t : ℕ) → improve-lts.Need-left-over-requires (claims t) (improve-at t) improve.Post improve-Inv-loop improve-μ-loop
 improve-left-over-requires t c κs =
     let p = c .before .before .before .before .before .before .before .before .before .before .before .before .before .pre .1 in
-    (p .0, (p .1 .0, (p .1 .1 .0, (p .1 .1 .1 .0, (p .1 .1 .1 .1 .0, (p .1 .1 .1 .1 .1 .0, (c .before .loop .inv .2, c .before .loop .inv .3)))))))
+    (c .before .loop .inv .3, (p .1 .0, (p .1 .1 .0, (p .1 .1 .1 .0, c .before .loop .inv .2))))
 
 improve-same-length-3 : (t : ℕ) → improve-lts.Need-same-length-3 (claims t) (improve-at t) improve.Post improve-Inv-loop improve-μ-loop
 improve-same-length-3 t c =
-    c .before .before .before .left-over .ensures .1 .1 .size ∙ sym (c .before .before .before .before .before .before .before .before .before .before .before .before .before .before .before .before .before .pre .1 .1 .1 .1 .1 .1 .1 .1 .size)
+    c .before .before .before .left-over .ensures .1 .1 .kept .size ∙ sym (c .before .before .before .before .before .before .before .before .before .before .before .before .before .before .before .before .before .pre .1 .0 .kept .size)
 
 improve-returns-3 : (t : ℕ) → improve-lts.Need-returns-3 (claims t) (improve-at t) improve.Post improve-Inv-loop improve-μ-loop
 improve-returns-3 t c =
@@ -198,18 +198,18 @@ improve-improve-requires-2 t c κs =
     let s = c .before .before .before .before .before .before .before .before .before .before .before .before .before .before .before .before .before .before .before in
     let p = s .pre .1 in
     let (r, left) = deeper t (c .before .before .before .before .before .before .before .before .before .before .before .before) (c .before .before .before .before .before .before .before .loop .inv .0 .listed) (c .before .with-choice2 .ensures) (c .before .before .before .before .before .left-over .ensures .0) in
-    (omega (arith, s .pre .0, lower t (c .before .before .before .before .before .before .before .before .before .before .before .before .before)), (p .0, (p .1 .0, (p .1 .1 .0, ((r .0, p .1 .1 .1 .0 .1), ((omega arith, omega (arith, lower t (c .before .before .before .before .before .before .before .before .before .before .before .before .before)), r .1), ((p .1 .1 .1 .1 .1 .0 .0, r .2), (left, c .before .before .before .before .before .left-over .ensures .1 .1))))))))
+    (omega (arith, s .pre .0, lower t (c .before .before .before .before .before .before .before .before .before .before .before .before .before)), (c .before .before .before .before .before .left-over .ensures .1 .1, ((r .0, p .1 .0 .1), ((omega arith, omega (arith, lower t (c .before .before .before .before .before .before .before .before .before .before .before .before .before)), r .1), ((p .1 .1 .1 .0 .0, r .2), left)))))
 
 improve-add-next-of : (t : ℕ) → improve-lts.Need-add-next-of (claims t) (improve-at t) improve.Post improve-Inv-loop improve-μ-loop
 improve-add-next-of t c =
     let n = node t (c .before .before .before .before .before .before .before .before .before .before .before .before .before .before .before) in
-    omega (arith, c .before .before .before .before .before .before .before .before .before .before .loop .inv .0 .walk .inside, c .before .before .before .before .before .before .before .before .before .before .before .before .before .before .before .before .before .before .before .before .before .before .pre .1 .0 .hyper _ (n .0) (n .1), turn-le (c .before .before .before .before .before .before .before .before .before .before .before .before .before .before .before .before .before .before .before .before .before .before .pre .1 .0 .valid) (c .before .before .before .before .before .before .before .before .before .before .before .before .before .before .before .before .before .before .before .before .before .before .args .k) (c .before .before .before .before .before .before .before .before .before .before .before .before .before .before .before .node-at .result))
+    omega (arith, c .before .before .before .before .before .before .before .before .before .before .loop .inv .0 .walk .inside, c .before .before .before .before .before .before .before .before .before .before .before .before .before .before .before .before .before .before .before .before .before .before .pre .1 .0 .table .hyper _ (n .0) (n .1), turn-le (c .before .before .before .before .before .before .before .before .before .before .before .before .before .before .before .before .before .before .before .before .before .before .pre .1 .0 .table .valid) (c .before .before .before .before .before .before .before .before .before .before .before .before .before .before .before .before .before .before .before .before .before .before .args .k) (c .before .before .before .before .before .before .before .before .before .before .before .before .before .before .before .node-at .result))
 
 improve-next-of-requires-2 : (t : ℕ) → improve-lts.Need-next-of-requires-2 (claims t) (improve-at t) improve.Post improve-Inv-loop improve-μ-loop
 improve-next-of-requires-2 t c κs =
     let p = c .before .before .before .before .before .before .before .before .before .before .before .before .before .before .before .before .before .before .before .before .before .before .pre .1 in
     let n = node t (c .before .before .before .before .before .before .before .before .before .before .before .before .before .before .before) in
-    (p .0, (p .1 .0, (n .0, n .1, omega (arith, c .before .before .before .before .before .before .before .before .before .before .loop .inv .0 .walk .inside))))
+    (p .0 .table, (p .0 .grouped, (n .0, n .1, omega (arith, c .before .before .before .before .before .before .before .before .before .before .loop .inv .0 .walk .inside))))
 
 improve-enum-known-found : (t : ℕ) → improve-lts.Need-enum-known-found (claims t) (improve-at t) improve.Post improve-Inv-loop improve-μ-loop
 improve-enum-known-found t c = search needs
@@ -219,7 +219,7 @@ improve-enum-told t c = search needs
 
 improve-same-length-4 : (t : ℕ) → improve-lts.Need-same-length-4 (claims t) (improve-at t) improve.Post improve-Inv-loop improve-μ-loop
 improve-same-length-4 t c =
-    c .before .before .before .before .before .improve2 .ensures .1 .size ∙ sym (c .before .before .before .before .before .before .before .before .before .before .before .before .before .before .before .before .before .before .before .before .before .before .before .before .before .pre .1 .1 .1 .1 .1 .1 .1 .1 .size)
+    c .before .before .before .before .before .improve2 .ensures .1 .kept .size ∙ sym (c .before .before .before .before .before .before .before .before .before .before .before .before .before .before .before .before .before .before .before .before .before .before .before .before .before .pre .1 .0 .kept .size)
 
 improve-returns-4 : (t : ℕ) → improve-lts.Need-returns-4 (claims t) (improve-at t) improve.Post improve-Inv-loop improve-μ-loop
 improve-returns-4 t c =
@@ -236,7 +236,7 @@ improve-loop-less t c =
 improve-loop-again : (t : ℕ) → improve-lts.Need-loop-again (claims t) (improve-at t) improve.Post improve-Inv-loop improve-μ-loop
 improve-loop-again t c =
     let l = c .before .before .before .before .before .before .before .before .before .before .before .before .before .before .loop in (
-      best-more _ _ _ _ (l .inv .0) (rw (c .before .before .before .before .before .before .before .before .with-choice2 .ensures) at (c .before .before .before .before .before .before .improve2 .ensures .0)) (c .before .before .before .before .before .before .before .before .before .before .before .before .before .before .before .before .before .before .before .before .before .before .before .before .before .before .pre .1 .0 .valid) (sym (c .before .before .before .next-of2 .ensures) ∙ c .before .found .given .1),
+      best-more _ _ _ _ (l .inv .0) (rw (c .before .before .before .before .before .before .before .before .with-choice2 .ensures) at (c .before .before .before .before .before .before .improve2 .ensures .0)) (c .before .before .before .before .before .before .before .before .before .before .before .before .before .before .before .before .before .before .before .before .before .before .before .before .before .before .pre .1 .0 .table .valid) (sym (c .before .before .before .next-of2 .ensures) ∙ c .before .found .given .1),
       omega (arith, l .inv .1, c .before .before .before .before .before .before .improve2 .ensures .0),
       left-more (omega (arith, c .before .before .before .before .before .before .improve2 .ensures .0)) (c .before .before .before .before .before .before .before .before .before .before .before .before .left-over .ensures .0),
       c .before .before .before .before .before .before .improve2 .ensures .1,

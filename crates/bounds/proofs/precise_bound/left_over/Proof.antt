@@ -13,29 +13,28 @@ use Rattle.bounds.proofs.precise_bound.left_over.Tie as tie
 
 -- where the search stands
 reached : (s : tie.Start) → let a = s .args in Reached (stored (a .frames .now)) (a .k) (a .level) (a .own) (a .limit) (a .choices)
-reached s = let p = s .pre .1 .1 .1 in (p .0 .0, p .1 .0 .2, p .1 .1 .0 .1)
+reached s = let p = s .pre in (p .1 .0 .0, p .1 .1 .0 .2, p .1 .1 .1 .0 .1)
 
 -- where none are left, no response further on exceeds `most`
 none : (c : tie.After-sweep) → let a = c .before .before .before .before .before .before .before .before .args in T (c .sweep .result .none) → refined (stored (a .frames .now)) (a .k) (levels (a .k) (a .level) nodes) (a .choices) ≤ a .most
-none c t = let s = c .before .before .before .before .before .before .before .before in le-trans (reached-most (s .pre .0) (s .pre .1 .1 .0) (reached s) (s .pre .1 .1 .1 .1 .0 .0)) (c .sweep .ensures .1 .0 t)
+none c t = let s = c .before .before .before .before .before .before .before .before in le-trans (reached-most (s .pre .0 .table) (s .pre .0 .listed) (reached s) (s .pre .1 .1 .0 .0)) (c .sweep .ensures .1 .0 t)
 
 with-none-requires : tie.Need-with-none-requires
 with-none-requires c κs = search needs
 
 returns : tie.Need-returns
 returns c =
-    let p = c .before .before .before .before .before .before .before .pre .1 .1 .1 .1 .1 .1 in
+    let p = c .before .before .before .before .before .before .before .pre in
     let w = c .with-none .ensures in
-    (rw (w .0, w .1, w .2) (p .0), (λ t. absurd (rw (w .3) at t), p .1))
+    (rw (w .0, w .1, w .2) (p .1 .1 .1 .1), (λ t. absurd (rw (w .3) at t), p .0))
 
 sweep-requires : tie.Need-sweep-requires
 sweep-requires c κs =
     let p = c .before .before .before .before .before .before .before .pre in
-    let q = p .1 .1 .1 .1 .1 in
-    (p .0, (p .1 .0, (p .1 .1 .0, (p .1 .1 .1 .0, (q .0, ((le-refl 64, q .1 .0), q .1 .1))))))
+    (p .0, (p .1 .0, (p .1 .1 .1 .0, (le-refl 64, p .1 .1 .1 .1))))
 
 same-length : tie.Need-same-length
-same-length c = c .before .before .sweep .ensures .1 .1 .size ∙ sym (c .before .before .before .before .before .before .before .before .before .before .pre .1 .1 .1 .1 .1 .1 .1 .size)
+same-length c = c .before .before .sweep .ensures .1 .1 .kept .size ∙ sym (c .before .before .before .before .before .before .before .before .before .before .pre .0 .kept .size)
 
 returns-2 : tie.Need-returns-2
 returns-2 c = (c .before .before .sweep .ensures .0, (none (c .before .before), c .before .before .sweep .ensures .1 .1))

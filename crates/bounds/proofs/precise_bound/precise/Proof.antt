@@ -8,23 +8,23 @@ use Rattle.arith.specs.laws.Walks.{walk-less}
 use Rattle.bus_model.specs.theory.Turns.{turn, turn-le}
 use Rattle.bus_model.specs.theory.Refine.{free}
 use Rattle.workload.specs.Stored.{stored}
-use Rattle.greatest_work.specs.Kept.{Kept}
 use Rattle.delay_search.specs.laws.Searches.{window-zero}
 use Rattle.delay_search.specs.laws.Within.{left-all}
 use Rattle.bounds.specs.laws.Levels.{Best, best-first, best-more, best-end, nextLevel, own-node, reached-first, precise-levels}
+use Rattle.delay_search.specs.Ready.{Ready}
 use Rattle.bounds.proofs.precise_bound.precise.Statement.{statement}
 use Rattle.bounds.proofs.precise_bound.precise.Tie as tie
 
 abbrev Inv-loop : tie.InvT-loop
 Inv-loop frames members counts ends k blocked sums₀ j most₀ a₀ sums most a =
-    Best (stored frames) k (k .node) (nextLevel (stored frames) k free 0 (k .node)) 0 most a × Kept (stored frames) k sums
+    Best (stored frames) k (k .node) (nextLevel (stored frames) k free 0 (k .node)) 0 most a × Ready (stored frames) k members counts ends sums
 
 abbrev μ-loop : tie.MeasureT-loop
 μ-loop frames members counts ends k blocked sums₀ j most₀ a₀ sums most a = turn (stored frames) k (k .node) - a
 
 -- k's node is one of the nodes
 node : (s : tie.Start Inv-loop μ-loop) → (1 ≤ s .args .k .node) × (s .args .k .node ≤ 16)
-node s = own-node (s .pre .0) (s .pre .1 .1 .0)
+node s = own-node (s .pre .0 .table) (s .pre .0 .listed)
 
 cast-j : tie.Need-cast-j Inv-loop μ-loop
 cast-j c = search needs
@@ -33,21 +33,21 @@ next-of-requires : tie.Need-next-of-requires Inv-loop μ-loop
 next-of-requires c κs =
     let s = c .before .before .before .before .before .before in
     let n = node s in
-    (s .pre .0, (s .pre .1 .0, (n .0, n .1, omega arith)))
+    (s .pre .0 .table, (s .pre .0 .grouped, (n .0, n .1, omega arith)))
 
 or-zero-requires : tie.Need-or-zero-requires Inv-loop μ-loop
 or-zero-requires c κs = search needs
 
 loop-holds : tie.Need-loop-holds Inv-loop μ-loop
 loop-holds c =
-    (best-first _ _ _ _ (c .before .before .before .before .before .before .before .before .pre .0 .valid) (c .before .next-of .result) (c .before .next-of .ensures) (c .or-zero .ensures), c .before .before .before .before .before .before .before .before .pre .1 .1 .1 .1)
+    (best-first _ _ _ _ (c .before .before .before .before .before .before .before .before .pre .0 .table .valid) (c .before .next-of .result) (c .before .next-of .ensures) (c .or-zero .ensures), c .before .before .before .before .before .before .before .before .pre .0)
 
 with-choice-requires : tie.Need-with-choice-requires Inv-loop μ-loop
 with-choice-requires c κs = node (c .before .before .before .before .before .before .before .before .before)
 
 busy-window-requires : tie.Need-busy-window-requires Inv-loop μ-loop
 busy-window-requires c κs =
-    let p = c .before .before .before .before .before .before .before .before .before .before .before .pre in (p .0, (p .1 .0, (p .1 .1 .0, (p .1 .1 .1 .0 .0, c .before .before .loop .inv .1))))
+    let p = c .before .before .before .before .before .before .before .before .before .before .before .pre in (c .before .before .loop .inv .1, p .1 .0)
 
 or-zero-requires-2 : tie.Need-or-zero-requires-2 Inv-loop μ-loop
 or-zero-requires-2 c κs = search needs
@@ -59,20 +59,20 @@ improve-requires : tie.Need-improve-requires Inv-loop μ-loop
 improve-requires c κs =
     let p = c .before .before .before .before .before .before .before .before .before .before .before .before .before .before .before .before .before .pre in
     let limit = c .before .before .or-zero2 .ensures ∙ ap orZero (c .before .before .before .before .before .busy-window .ensures .0) in
-    let r = reached-first (p .0) (p .1 .1 .0) (p .1 .1 .1 .0 .1) (c .before .before .before .before .before .before .before .before .loop .inv .0 .listed) (c .before .before .before .before .before .before .before .with-choice .ensures) limit in
-    (p .0, (p .1 .0, (p .1 .1 .0, ((r .0, p .1 .1 .1 .0 .0), ((omega arith, omega arith, r .1), ((window-zero _ _ _ limit, r .2), (left-all (c .before .all-left .ensures), c .before .before .before .before .before .busy-window .ensures .1)))))))
+    let r = reached-first (p .0 .table) (p .0 .listed) (p .1 .1) (c .before .before .before .before .before .before .before .before .loop .inv .0 .listed) (c .before .before .before .before .before .before .before .with-choice .ensures) limit in
+    (c .before .before .before .before .before .busy-window .ensures .1, ((r .0, p .1 .0), ((omega arith, omega arith, r .1), ((window-zero _ _ _ limit, r .2), left-all (c .before .all-left .ensures)))))
 
 add-next-of : tie.Need-add-next-of Inv-loop μ-loop
 add-next-of c =
     let s = c .before .before .before .before .before .before .before .before .before .before .before .before .before .before .before .before .before .before .before .before in
     let n = node s in
-    omega (arith, c .before .before .before .before .before .before .before .before .before .before .before .loop .inv .0 .walk .inside, s .pre .0 .hyper _ (n .0) (n .1), turn-le (s .pre .0 .valid) (s .args .k) (s .args .k .node))
+    omega (arith, c .before .before .before .before .before .before .before .before .before .before .before .loop .inv .0 .walk .inside, s .pre .0 .table .hyper _ (n .0) (n .1), turn-le (s .pre .0 .table .valid) (s .args .k) (s .args .k .node))
 
 next-of-requires-2 : tie.Need-next-of-requires-2 Inv-loop μ-loop
 next-of-requires-2 c κs =
     let s = c .before .before .before .before .before .before .before .before .before .before .before .before .before .before .before .before .before .before .before .before in
     let n = node s in
-    (s .pre .0, (s .pre .1 .0, (n .0, n .1, omega (arith, c .before .before .before .before .before .before .before .before .before .before .before .loop .inv .0 .walk .inside))))
+    (s .pre .0 .table, (s .pre .0 .grouped, (n .0, n .1, omega (arith, c .before .before .before .before .before .before .before .before .before .before .before .loop .inv .0 .walk .inside))))
 
 enum-known-found : tie.Need-enum-known-found Inv-loop μ-loop
 enum-known-found c = search needs
@@ -82,12 +82,12 @@ enum-told c = search needs
 
 same-length : tie.Need-same-length Inv-loop μ-loop
 same-length c =
-    c .before .before .before .before .before .improve .ensures .1 .size ∙ sym (c .before .before .before .before .before .before .before .before .before .before .before .before .before .before .before .before .before .before .before .before .before .before .before .pre .1 .1 .1 .1 .size)
+    c .before .before .before .before .before .improve .ensures .1 .kept .size ∙ sym (c .before .before .before .before .before .before .before .before .before .before .before .before .before .before .before .before .before .before .before .before .before .before .before .pre .0 .kept .size)
 
 returns : tie.Need-returns Inv-loop μ-loop
 returns c =
     let p = c .before .before .before .before .before .before .before .before .before .before .before .before .before .before .before .before .before .before .before .before .before .before .before .pre in (
-      precise-levels (p .0) (p .1 .1 .0) (best-end _ _ _ _ (c .before .before .before .before .before .before .before .before .before .before .before .before .before .before .loop .inv .0) (rw (c .before .before .before .before .before .before .before .before .before .before .before .before .before .with-choice .ensures) at (c .before .before .before .before .before .improve .ensures .0)) (sym (c .before .before .next-of2 .ensures) ∙ c .enum-told .given .1)),
+      precise-levels (p .0 .table) (p .0 .listed) (best-end _ _ _ _ (c .before .before .before .before .before .before .before .before .before .before .before .before .before .before .loop .inv .0) (rw (c .before .before .before .before .before .before .before .before .before .before .before .before .before .with-choice .ensures) at (c .before .before .before .before .before .improve .ensures .0)) (sym (c .before .before .next-of2 .ensures) ∙ c .enum-told .given .1)),
       c .before .before .before .before .before .improve .ensures .1,
     )
 
@@ -97,7 +97,7 @@ loop-less c =
 
 loop-again : tie.Need-loop-again Inv-loop μ-loop
 loop-again c = (
-  best-more _ _ _ _ (c .before .before .before .before .before .before .before .before .before .before .before .before .before .before .before .loop .inv .0) (rw (c .before .before .before .before .before .before .before .before .before .before .before .before .before .before .with-choice .ensures) at (c .before .before .before .before .before .before .improve .ensures .0)) (c .before .before .before .before .before .before .before .before .before .before .before .before .before .before .before .before .before .before .before .before .before .before .before .before .pre .0 .valid) (sym (c .before .before .before .next-of2 .ensures) ∙ c .before .found .given .1),
+  best-more _ _ _ _ (c .before .before .before .before .before .before .before .before .before .before .before .before .before .before .before .loop .inv .0) (rw (c .before .before .before .before .before .before .before .before .before .before .before .before .before .before .with-choice .ensures) at (c .before .before .before .before .before .before .improve .ensures .0)) (c .before .before .before .before .before .before .before .before .before .before .before .before .before .before .before .before .before .before .before .before .before .before .before .before .pre .0 .table .valid) (sym (c .before .before .before .next-of2 .ensures) ∙ c .before .found .given .1),
   c .before .before .before .before .before .before .improve .ensures .1,
 )
 

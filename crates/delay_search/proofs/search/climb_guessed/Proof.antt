@@ -45,12 +45,12 @@ laid c = rw sub-zero (c .lay-out .ensures .0)
 climb-requires : tie.Need-climb-requires
 climb-requires c κs =
     let s = c .before .before .before .before .before .before .before .before .before .before .before .before in
-    (rw (laid (c .before .before .before .before)) (laid-fine (s .pre .0) (s .args .k) (c .before .before .before .before .before .before .guessed .result) (s .args .delay)), (c .shift-of .ensures .1, s .pre .1 .1 .0 .0, s .pre .1 .1 .0 .1))
+    (rw (laid (c .before .before .before .before)) (laid-fine (s .pre .0 .table) (s .args .k) (c .before .before .before .before .before .before .guessed .result) (s .args .delay)), (c .shift-of .ensures .1, s .pre .1 .0, s .pre .1 .1))
 
 returns : tie.Need-returns
 returns c =
     let s = c .before .before .before .before .before .before .before .before .before .before .before .before .before in
-    let same = laid-search (s .pre .0) (s .args .k) (c .before .before .before .before .before .before .before .guessed .result) (c .before .before .before .before .before .before .before .guessed .ensures .1) (s .args .base) (s .args .delay) (laid (c .before .before .before .before .before)) (c .before .shift-of .ensures .0) in
+    let same = laid-search (s .pre .0 .table) (s .args .k) (c .before .before .before .before .before .before .before .guessed .result) (c .before .before .before .before .before .before .before .guessed .ensures .1) (s .args .base) (s .args .delay) (laid (c .before .before .before .before .before)) (c .before .shift-of .ensures .0) in
     (c .before .before .before .before .before .before .before .guessed .result, c .before .before .before .before .before .before .before .guessed .ensures .0, c .climb .ensures ∙ ap (λ (p : ℕ → Bool). least p (s .args .end - s .args .from) (s .args .from)) same)
 
 pub climb-guessed-spec : {M : Type 1} → statement M

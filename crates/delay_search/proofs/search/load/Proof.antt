@@ -17,7 +17,7 @@ add-whole-work c = search needs
 whole-work-requires : tie.Need-whole-work-requires
 whole-work-requires c κs =
     let s = c .before .before .before .before .before .before .before in
-    (s .pre .0, (s .pre .1 .0, (omega (arith, s .pre .1 .1 .1 .0), s .pre .1 .1 .1 .1)))
+    (s .pre .0 .table, (s .pre .0 .grouped, (omega (arith, s .pre .1), s .pre .0 .kept)))
 
 add-frame-demand : tie.Need-add-frame-demand
 add-frame-demand c = search needs
@@ -25,7 +25,7 @@ add-frame-demand c = search needs
 frame-demand-requires : tie.Need-frame-demand-requires
 frame-demand-requires c κs =
     let s = c .before .before .before .before .before .before .before .before .before .before in
-    (in-table-fine _ (s .pre .0) (s .pre .1 .1 .0), omega (arith, s .pre .1 .1 .1 .0))
+    (in-table-fine _ (s .pre .0 .table) (s .pre .0 .listed), omega (arith, s .pre .1))
 
 -- k's demand is a part of the work, and what is left gives the load.
 loads : (c : tie.After-frame-demand) →
@@ -34,8 +34,8 @@ loads : (c : tie.After-frame-demand) →
     × (a .base + (c .before .before .before .whole-work .result - c .frame-demand .result) ≡ loadOf (stored (a .frames .now)) (a .k) (a .choices) true (a .base) (a .x))
 loads c =
     let s = c .before .before .before .before .before .before .before .before .before .before .before in
-    let t = s .pre .1 .1 .0 in
-    start-load (s .pre .0 .valid) (t .inside) (t .is) (s .args .choices) (s .args .own) (s .pre .1 .1 .1 .0 .0 (rw (c .before .before .before .before .before .if1 .taken) tt)) (s .args .base) (s .args .x) (c .before .before .before .whole-work .ensures .0) (c .frame-demand .ensures .0)
+    let t = s .pre .0 .listed in
+    start-load (s .pre .0 .table .valid) (t .inside) (t .is) (s .args .choices) (s .args .own) (s .pre .1 .0 (rw (c .before .before .before .before .before .if1 .taken) tt)) (s .args .base) (s .args .x) (c .before .before .before .whole-work .ensures .0) (c .frame-demand .ensures .0)
 
 sub-result : tie.Need-sub-result
 sub-result c = loads c .0
@@ -47,12 +47,14 @@ same-length : tie.Need-same-length
 same-length c = search needs
 
 returns : tie.Need-returns
-returns c = (rw (c .before .before .before .before .before .if1 .taken) (loads c .1), c .before .before .before .whole-work .ensures .1 .1)
+returns c =
+    let s = c .before .before .before .before .before .before .before .before .before .before .before in
+    (rw (c .before .before .before .before .before .if1 .taken) (loads c .1), record { table = s .pre .0 .table; grouped = s .pre .0 .grouped; listed = s .pre .0 .listed; kept = c .before .before .before .whole-work .ensures .1 .1 })
 
 whole-work-requires-2 : tie.Need-whole-work-requires-2
 whole-work-requires-2 c κs =
     let s = c .before .before .before .before .before .before .before in
-    (s .pre .0, (s .pre .1 .0, (omega (arith, s .pre .1 .1 .1 .0), s .pre .1 .1 .1 .1)))
+    (s .pre .0 .table, (s .pre .0 .grouped, (omega (arith, s .pre .1), s .pre .0 .kept)))
 
 add-result-2 : tie.Need-add-result-2
 add-result-2 c = search needs
@@ -62,7 +64,9 @@ same-length-2 c = search needs
 
 returns-2 : tie.Need-returns-2
 unfolding loadOf
-returns-2 c = (rw (c .before .before .before .before .if1 .left, c .before .before .whole-work2 .ensures .0), c .before .before .whole-work2 .ensures .1 .1)
+returns-2 c =
+    let s = c .before .before .before .before .before .before .before .before .before .before in
+    (rw (c .before .before .before .before .if1 .left, c .before .before .whole-work2 .ensures .0), record { table = s .pre .0 .table; grouped = s .pre .0 .grouped; listed = s .pre .0 .listed; kept = c .before .before .whole-work2 .ensures .1 .1 })
 
 pub load-spec : {M : Type 1} → statement M
 load-spec =

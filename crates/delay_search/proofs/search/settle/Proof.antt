@@ -6,7 +6,8 @@ use borrow.Author.Needs.{needs}
 use Rattle.arith.specs.laws.Least.{least-within, least-end}
 use Rattle.arith.specs.Least.{least}
 use Rattle.workload.specs.Stored.{stored}
-use Rattle.greatest_work.specs.Kept.{Kept}
+use lib.ListN.{length}
+use Rattle.delay_search.specs.Ready.{Ready}
 use Rattle.delay_search.specs.laws.Searches.{climb-here, climb-skip, climb-beyond, settle-skip, settle-beyond}
 use Rattle.delay_search.specs.Load.{holds}
 use Rattle.delay_search.proofs.search.settle.Statement.{statement}
@@ -15,18 +16,19 @@ use Rattle.delay_search.proofs.search.settle.Tie as tie
 abbrev Inv-loop : tie.InvT-loop
 Inv-loop frames members counts ends k choices own delay base from end sums₀ x₀ sums x =
     (least (holds (stored frames) k choices delay base) (end - x) x ≡ least (holds (stored frames) k choices delay base) (end - from) from)
-    × Kept (stored frames) k sums
+    × Ready (stored frames) k members counts ends sums
+    × (length sums ≡ length sums₀)
 
 abbrev μ-loop : tie.MeasureT-loop
 μ-loop frames members counts ends k choices own delay base from end sums₀ x₀ sums x = end - x
 
 loop-holds : tie.Need-loop-holds Inv-loop μ-loop
-loop-holds c = (refl, c .before .before .before .before .before .pre .1 .1 .1 .1)
+loop-holds c = (refl, c .before .before .before .before .before .pre .0, refl)
 
 climb-guessed-requires : tie.Need-climb-guessed-requires Inv-loop μ-loop
 climb-guessed-requires c κs =
     let p = c .before .before .before .before .before .before .before .before .pre in
-    (p .0, (p .1 .0, ((p .1 .1 .1 .0 .1, p .1 .1 .1 .0 .2), c .before .before .loop .inv .1)))
+    (c .before .before .loop .inv .1, (p .1 .1, p .1 .2))
 
 enum-known-found : tie.Need-enum-known-found Inv-loop μ-loop
 enum-known-found c = search needs
@@ -35,13 +37,13 @@ enum-told : tie.Need-enum-told Inv-loop μ-loop
 enum-told c = search needs
 
 same-length : tie.Need-same-length Inv-loop μ-loop
-same-length c = c .before .before .before .before .before .loop .inv .1 .size ∙ sym (c .before .before .before .before .before .before .before .before .before .before .before .pre .1 .1 .1 .1 .size)
+same-length c = search needs
 
 returns : tie.Need-returns Inv-loop μ-loop
 returns c =
     let s = c .before .before .before .before .before .before .before .before .before .before .before in
     let (finer, refines, is) = c .before .before .climb-guessed .ensures in
-    (settle-beyond (s .pre .0 .valid) (s .args .k) _ _ refines _ _ (s .args .end) (c .before .before .before .before .before .loop .x) is (c .enum-told .given .1) ∙ c .before .before .before .before .before .loop .inv .0, c .before .before .before .before .before .loop .inv .1)
+    (settle-beyond (s .pre .0 .table .valid) (s .args .k) _ _ refines _ _ (s .args .end) (c .before .before .before .before .before .loop .x) is (c .enum-told .given .1) ∙ c .before .before .before .before .before .loop .inv .0, c .before .before .before .before .before .loop .inv .1)
 
 -- where the number lies that is found with guesses
 within : (c : tie.After-found Inv-loop μ-loop) → (c .before .before .before .before .before .loop .x ≤ c .found .given .0 .0) × (c .found .given .0 .0 < c .before .before .before .before .before .before .before .before .before .before .before .args .end)
@@ -56,36 +58,36 @@ goes-on : (c : tie.After-found Inv-loop μ-loop) →
 goes-on c =
     let s = c .before .before .before .before .before .before .before .before .before .before .before in
     let (finer, refines, is) = c .before .before .climb-guessed .ensures in
-    sym (settle-skip (s .pre .0 .valid) (s .args .k) _ _ refines _ _ (s .args .end) (c .before .before .before .before .before .loop .x) is (c .found .given .1)) ∙ c .before .before .before .before .before .loop .inv .0
+    sym (settle-skip (s .pre .0 .table .valid) (s .args .k) _ _ refines _ _ (s .args .end) (c .before .before .before .before .before .loop .x) is (c .found .given .1)) ∙ c .before .before .before .before .before .loop .inv .0
 
 load-requires : tie.Need-load-requires Inv-loop μ-loop
 load-requires c κs =
     let s = c .before .before .before .before .before .before .before .before .before .before .before .before .before in
-    let p = s .pre .1 .1 .1 .0 in
-    (s .pre .0, (s .pre .1 .0, (s .pre .1 .1 .0, ((p .0, p .1, omega (arith, p .2, within (c .before .before))), c .before .before .before .before .before .before .before .loop .inv .1))))
+    let p = s .pre .1 in
+    (c .before .before .before .before .before .before .before .loop .inv .1, (p .0, p .1, omega (arith, p .2, within (c .before .before))))
 
 cast-if1 : tie.Need-cast-if1 Inv-loop μ-loop
 cast-if1 c = search needs
 
 same-length-2 : tie.Need-same-length-2 Inv-loop μ-loop
-same-length-2 c = c .before .before .before .load .ensures .1 .size ∙ sym (c .before .before .before .before .before .before .before .before .before .before .before .before .before .before .before .before .before .pre .1 .1 .1 .1 .size)
+same-length-2 c = search needs
 
 returns-2 : tie.Need-returns-2 Inv-loop μ-loop
 returns-2 c =
     let s = c .before .before .before .before .before .before .before .before .before .before .before .before .before .before .before .before .before in
     let f = c .before .before .before .before .before .before in
-    (climb-here (s .pre .0 .valid) _ _ _ _ (s .args .end) (c .before .before .before .before .before .before .found .given .0 .0) (c .before .before .before .load .ensures .0) (within f .1) (c .if1 .taken) ∙ goes-on f, c .before .before .before .load .ensures .1)
+    (climb-here (s .pre .0 .table .valid) _ _ _ _ (s .args .end) (c .before .before .before .before .before .before .found .given .0 .0) (c .before .before .before .load .ensures .0) (within f .1) (c .if1 .taken) ∙ goes-on f, c .before .before .before .load .ensures .1)
 
 same-length-3 : tie.Need-same-length-3 Inv-loop μ-loop
-same-length-3 c = c .before .before .before .before .load .ensures .1 .size ∙ sym (c .before .before .before .before .before .before .before .before .before .before .before .before .before .before .before .before .before .before .pre .1 .1 .1 .1 .size)
+same-length-3 c = search needs
 
 returns-3 : tie.Need-returns-3 Inv-loop μ-loop
 returns-3 c =
     let s = c .before .before .before .before .before .before .before .before .before .before .before .before .before .before .before .before .before .before in
-    (climb-beyond (s .pre .0 .valid) _ _ _ _ (s .args .end) (c .before .before .before .before .before .before .before .found .given .0 .0) (c .before .before .before .before .load .ensures .0) (c .if2 .taken) ∙ goes-on (c .before .before .before .before .before .before .before), c .before .before .before .before .load .ensures .1)
+    (climb-beyond (s .pre .0 .table .valid) _ _ _ _ (s .args .end) (c .before .before .before .before .before .before .before .found .given .0 .0) (c .before .before .before .before .load .ensures .0) (c .if2 .taken) ∙ goes-on (c .before .before .before .before .before .before .before), c .before .before .before .before .load .ensures .1)
 
 cast-x : tie.Need-cast-x Inv-loop μ-loop
-cast-x c = omega (arith, c .before .before .before .before .before .before .before .before .before .before .before .before .before .before .before .before .before .before .pre .1 .1 .1 .0 .2, c .if2 .left)
+cast-x c = omega (arith, c .before .before .before .before .before .before .before .before .before .before .before .before .before .before .before .before .before .before .pre .1 .2, c .if2 .left)
 
 loop-less : tie.Need-loop-less Inv-loop μ-loop
 loop-less c = omega (arith, within (c .before .before .before .before .before .before .before), c .before .if1 .left, c .if2 .left)
@@ -93,10 +95,10 @@ loop-less c = omega (arith, within (c .before .before .before .before .before .b
 loop-again : tie.Need-loop-again Inv-loop μ-loop
 loop-again c =
     let s = c .before .before .before .before .before .before .before .before .before .before .before .before .before .before .before .before .before .before in
-    (sym (climb-skip (s .pre .0 .valid) _ _ _ _ (s .args .end) (c .before .before .before .before .before .before .before .found .given .0 .0) (c .before .before .before .before .load .ensures .0) (c .before .if1 .left) (omega (arith, c .if2 .left))) ∙ goes-on (c .before .before .before .before .before .before .before), c .before .before .before .before .load .ensures .1)
+    (sym (climb-skip (s .pre .0 .table .valid) _ _ _ _ (s .args .end) (c .before .before .before .before .before .before .before .found .given .0 .0) (c .before .before .before .before .load .ensures .0) (c .before .if1 .left) (omega (arith, c .if2 .left))) ∙ goes-on (c .before .before .before .before .before .before .before), c .before .before .before .before .load .ensures .1, search needs)
 
 same-length-4 : tie.Need-same-length-4 Inv-loop μ-loop
-same-length-4 c = c .before .loop .inv .1 .size ∙ sym (c .before .before .before .before .before .before .before .pre .1 .1 .1 .1 .size)
+same-length-4 c = search needs
 
 returns-4 : tie.Need-returns-4 Inv-loop μ-loop
 returns-4 c = (sym (least-end _ _ (c .before .loop .x) (c .loop-test .left)) ∙ c .before .loop .inv .0, c .before .loop .inv .1)

@@ -7,18 +7,18 @@ use Rattle.delay_search.proofs.within.served_at.Statement.{statement}
 use Rattle.delay_search.proofs.within.served_at.Tie as tie
 
 returns : tie.Need-returns
-returns c = (λ i less. absurd (omega arith), (omega arith, c .before .before .before .before .before .before .pre .1 .1 .1 .1))
+returns c = (λ i less. absurd (omega arith), (omega arith, c .before .before .before .before .before .before .pre .0))
 
 load-requires : tie.Need-load-requires
 load-requires c κs =
     let p = c .before .before .before .before .before .before .before .pre in
-    let q = p .1 .1 .1 .0 in
-    (p .0, (p .1 .0, (p .1 .1 .0, ((λ t. q .0, q .1, omega (arith, q .2, c .before .if1 .left)), p .1 .1 .1 .1))))
+    let q = p .1 in
+    (p .0, (λ t. q .0, q .1, omega (arith, q .2, c .before .if1 .left)))
 
 count-served-requires : tie.Need-count-served-requires
 count-served-requires c κs =
     let p = c .before .before .before .before .before .before .before .before .before .before .pre in
-    (in-table-fine _ (p .0) (p .1 .1 .0) .length-low, omega (arith, p .1 .1 .1 .0 .2, c .before .before .before .before .if1 .left))
+    (in-table-fine _ (p .0 .table) (p .0 .listed) .length-low, omega (arith, p .1 .2, c .before .before .before .before .if1 .left))
 
 same-length : tie.Need-same-length
 same-length c = search needs

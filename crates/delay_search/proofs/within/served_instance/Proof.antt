@@ -31,14 +31,14 @@ enum-told : tie.Need-enum-told
 enum-told c = search needs
 
 returns : tie.Need-returns
-returns c = (λ i less. absurd (omega arith), (omega arith, c .before .before .before .before .before .before .before .before .before .before .before .pre .1 .1 .1 .1 .1 .1))
+returns c = (λ i less. absurd (omega arith), (omega arith, c .before .before .before .before .before .before .before .before .before .before .before .pre .0))
 
 served-by-requires : tie.Need-served-by-requires
 served-by-requires c κs =
     let s = c .before .before .before .before .before .before .before .before .before .before .before .before .before in
-    let p = s .pre .1 .1 .1 in
+    let p = s .pre in
     let latest = latest-start-fits _ _ _ (sym (c .before .before .before .before .latest-start .ensures) ∙ c .before .before .found .given .1) in
-    (s .pre .0, (s .pre .1 .0, (s .pre .1 .1 .0, ((p .0 .0, p .1 .0 .0, omega (arith, latest .1)), (p .1 .1 .0, p .1 .1 .1)))))
+    (p .0, ((p .1 .0 .0, p .1 .1 .0 .0, omega (arith, latest .1)), p .1 .1 .1))
 
 next-from-requires : tie.Need-next-from-requires
 next-from-requires c κs = search needs
@@ -49,9 +49,9 @@ same-length c = search needs
 returns-2 : tie.Need-returns-2
 returns-2 c =
     let s = c .before .before .before .before .before .before .before .before .before .before .before .before .before .before .before .before .before in
-    let p = s .pre .1 .1 .1 in
+    let p = s .pre in
     let r = c .before .before .before .served-by .ensures in
-    (serves-in-time _ _ _ (p .0 .0) (p .0 .2) (s .args .q) (s .args .most) (p .0 .1) (sym (c .before .before .before .before .before .before .before .before .latest-start .ensures) ∙ c .before .before .before .before .before .before .found .given .1) (r .0), r .1)
+    (serves-in-time _ _ _ (p .1 .0 .0) (p .1 .0 .2) (s .args .q) (s .args .most) (p .1 .0 .1) (sym (c .before .before .before .before .before .before .before .before .latest-start .ensures) ∙ c .before .before .before .before .before .before .found .given .1) (r .0), r .1)
 
 pub served-instance-spec : {M : Type 1} → statement M
 served-instance-spec =

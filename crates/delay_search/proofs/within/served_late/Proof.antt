@@ -10,8 +10,8 @@ add-settle c = search needs
 settle-requires : tie.Need-settle-requires
 settle-requires c κs =
     let p = c .before .before .before .before .before .before .pre in
-    let q = p .1 .1 .1 .0 in
-    (p .0, (p .1 .0, (p .1 .1 .0, ((λ d. q .0, q .1, omega (arith, q .2)), p .1 .1 .1 .1))))
+    let q = p .1 in
+    (p .0, (λ d. q .0, q .1, omega (arith, q .2)))
 
 enum-known-found : tie.Need-enum-known-found
 enum-known-found c = search needs
@@ -26,7 +26,7 @@ returns : tie.Need-returns
 returns c = (λ i less. absurd (omega arith), (omega arith, c .before .before .before .before .settle .ensures .1))
 
 served-at-requires : tie.Need-served-at-requires
-served-at-requires c κs = let p = c .before .before .before .before .before .before .before .before .before .before .before .before .before .pre in (p .0, (p .1 .0, (p .1 .1 .0, (p .1 .1 .1 .0, c .before .before .before .before .before .before .settle .ensures .1))))
+served-at-requires c κs = search needs
 
 same-length-2 : tie.Need-same-length-2
 same-length-2 c = search needs

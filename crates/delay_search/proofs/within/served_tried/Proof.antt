@@ -12,11 +12,11 @@ use Rattle.delay_search.proofs.within.served_tried.Tie as tie
 
 -- the frames laid out are within their limits,
 fine : (s : tie.Start) → FineFrames (stored (s .args .laid .now))
-fine s = rw (s .pre .1 .1 .1 .1 .0) (laid-fine (s .pre .0) (s .args .k) (s .args .choices) _)
+fine s = rw (s .pre .1 .1) (laid-fine (s .pre .0 .table) (s .args .k) (s .args .choices) _)
 
 -- and so are the numbers of the climb
 climbs : (s : tie.Start) → (1 ≤ s .args .k .length) × (s .args .base ≤ 1000000000) × (s .args .latest ≤ 1000000)
-climbs s = let p = s .pre .1 .1 in (in-table-fine _ (s .pre .0) (p .0) .length-low, p .1 .0 .1, p .1 .0 .2)
+climbs s = let p = s .pre in (in-table-fine _ (s .pre .0 .table) (p .0 .listed) .length-low, p .1 .0 .1, p .1 .0 .2)
 
 climb-above-requires : tie.Need-climb-above-requires
 climb-above-requires c κs = (fine (c .before .before .before .before .before .before), climbs (c .before .before .before .before .before .before))
@@ -24,10 +24,10 @@ climb-above-requires c κs = (fine (c .before .before .before .before .before .b
 returns : tie.Need-returns
 returns c =
     let p = c .before .before .before .before .before .before .before .before .before .pre in
-    (serves-laid (p .0) _ _ _ (p .1 .1 .1 .1 .0) (c .before .before .climb-above .ensures .0), (c .before .before .climb-above .ensures .1, p .1 .1 .1 .1 .1))
+    (serves-laid (p .0 .table) _ _ _ (p .1 .1) (c .before .before .climb-above .ensures .0), (c .before .before .climb-above .ensures .1, p .0))
 
 returns-2 : tie.Need-returns-2
-returns-2 c = (λ i less. absurd (omega arith), (omega arith, c .before .before .before .before .before .before .before .before .before .before .pre .1 .1 .1 .1 .1))
+returns-2 c = (λ i less. absurd (omega arith), (omega arith, c .before .before .before .before .before .before .before .before .before .before .pre .0))
 
 climb-above-requires-2 : tie.Need-climb-above-requires-2
 climb-above-requires-2 c κs = (fine (c .before .before .before .before .before .before .before .before .before .before), climbs (c .before .before .before .before .before .before .before .before .before .before))
@@ -35,10 +35,10 @@ climb-above-requires-2 c κs = (fine (c .before .before .before .before .before 
 returns-3 : tie.Need-returns-3
 returns-3 c =
     let p = c .before .before .before .before .before .before .before .before .before .before .before .before .before .pre in
-    (serves-laid (p .0) _ _ _ (p .1 .1 .1 .1 .0) (c .before .before .climb-above2 .ensures .0), (c .before .before .climb-above2 .ensures .1, p .1 .1 .1 .1 .1))
+    (serves-laid (p .0 .table) _ _ _ (p .1 .1) (c .before .before .climb-above2 .ensures .0), (c .before .before .climb-above2 .ensures .1, p .0))
 
 served-at-requires : tie.Need-served-at-requires
-served-at-requires c κs = let p = c .before .before .before .before .before .before .before .before .before .before .before .before .before .before .pre in (p .0, (p .1 .0, (p .1 .1 .0, (p .1 .1 .1 .0, p .1 .1 .1 .1 .1))))
+served-at-requires c κs = let p = c .before .before .before .before .before .before .before .before .before .before .before .before .before .before .pre in (p .0, p .1 .0)
 
 same-length : tie.Need-same-length
 same-length c = search needs

@@ -13,14 +13,14 @@ add-settle c = search needs
 settle-requires : tie.Need-settle-requires
 settle-requires c κs =
     let s = c .before .before .before .before .before .before in
-    let p = s .pre .1 .1 .1 in
-    (s .pre .0, (s .pre .1 .0, (s .pre .1 .1 .0, ((λ t. absurd t, omega (arith, p .0, blocking-small _ (s .pre .0) (s .args .k)), omega arith), p .1))))
+    let p = s .pre in
+    (p .0, (λ t. absurd t, omega (arith, p .1, blocking-small _ (s .pre .0 .table) (s .args .k)), omega arith))
 
 same-length : tie.Need-same-length
 same-length c = search needs
 
 returns : tie.Need-returns
-returns c = (sym (window-search _ _ _ (c .before .before .before .before .before .before .before .before .before .pre .1 .1 .1 .0) (c .before .before .settle .ensures .0) refl), c .before .before .settle .ensures .1)
+returns c = (sym (window-search _ _ _ (c .before .before .before .before .before .before .before .before .before .pre .1) (c .before .before .settle .ensures .0) refl), c .before .before .settle .ensures .1)
 
 pub busy-window-spec : {M : Type 1} → statement M
 busy-window-spec =

@@ -6,15 +6,15 @@ use native.Mathlib.Omega.{arith}
 use native.Mathlib.Nat.{sub-zero}
 use borrow.Author.Needs.{needs}
 use Rattle.workload.specs.Stored.{stored}
-use Rattle.greatest_work.specs.Kept.{Kept}
 use Rattle.workload.specs.laws.Fine.{in-table-fine}
 use Rattle.delay_search.specs.laws.Searches.{window-small, Windowed, Turn, turn-start, turn-fits, turn-ends, turn-more, turn-skip, turn-end}
 use Rattle.delay_search.specs.laws.Within.{in-time-within}
+use Rattle.delay_search.specs.Ready.{Ready}
 use Rattle.response_time.proofs.response.greatest_response.Statement.{statement}
 use Rattle.response_time.proofs.response.greatest_response.Tie as tie
 
 abbrev Inv-loop : tie.InvT-loop
-Inv-loop frames members counts ends k choices own blocked l most isOpen sums₀ d instances area to best₀ near₀ from₀ q₀ sums best near from q = Kept (stored frames) k sums × Turn (stored frames) k choices l instances most best from q
+Inv-loop frames members counts ends k choices own blocked l most isOpen sums₀ d instances area to best₀ near₀ from₀ q₀ sums best near from q = Ready (stored frames) k members counts ends sums × Turn (stored frames) k choices l instances most best from q
 
 abbrev μ-loop : tie.MeasureT-loop
 μ-loop frames members counts ends k choices own blocked l most isOpen sums₀ d instances area to best₀ near₀ from₀ q₀ sums best near from q = instances - q
@@ -22,13 +22,13 @@ abbrev μ-loop : tie.MeasureT-loop
 distance-from-requires : tie.Need-distance-from-requires Inv-loop μ-loop
 distance-from-requires c κs =
     let s = c .before .before .before .before .before in
-    in-table-fine _ (s .pre .0) (s .pre .1 .1 .0)
+    in-table-fine _ (s .pre .0 .table) (s .pre .0 .listed)
 
 releases-before-requires : tie.Need-releases-before-requires Inv-loop μ-loop
 releases-before-requires c κs =
     let s = c .before .before .before .before .before .before in
-    let f = in-table-fine _ (s .pre .0) (s .pre .1 .1 .0) in
-    (f .period-low, f .period-high, omega (arith, window-small _ _ _ (s .pre .1 .1 .1 .0 .2)))
+    let f = in-table-fine _ (s .pre .0 .table) (s .pre .0 .listed) in
+    (f .period-low, f .period-high, omega (arith, window-small _ _ _ (s .pre .1 .2)))
 
 slice-aggregate-lay-out : tie.Need-slice-aggregate-lay-out Inv-loop μ-loop
 slice-aggregate-lay-out c = search needs
@@ -45,26 +45,26 @@ window : (c : tie.After-releases-before Inv-loop μ-loop) →
 window c =
     let s = c .before .before .before .before .before .before .before in
     record {
-      accepted = s .pre .0;
-      listed = s .pre .1 .1 .0;
-      fixed = s .pre .1 .1 .1 .0 .0;
-      window = s .pre .1 .1 .1 .0 .2;
+      accepted = s .pre .0 .table;
+      listed = s .pre .0 .listed;
+      fixed = s .pre .1 .0;
+      window = s .pre .1 .2;
       away = c .before .distance-from .ensures .0;
       number = c .releases-before .ensures .0;
     }
 
 loop-holds : tie.Need-loop-holds Inv-loop μ-loop
-loop-holds c = (c .before .before .before .before .before .before .before .before .before .before .pre .1 .1 .1 .1, turn-start (window (c .before .before .before)))
+loop-holds c = (c .before .before .before .before .before .before .before .before .before .before .pre .0, turn-start (window (c .before .before .before)))
 
 -- what an instance waits for and its release are small
 fits : (c : tie.In-loop Inv-loop μ-loop) →
     let a = c .before .before .before .before .before .before .before .before .before .before .before .before .args in
     (a .blocked + c .before .loop .q * a .k .length ≤ 1000000) × (c .before .before .before .before .before .before .distance-from .result + c .before .loop .q * a .k .period < 1000000)
-fits c = rw (c .before .before .before .before .before .before .before .before .before .before .before .before .pre .1 .1 .1 .0 .1) (turn-fits (window (c .before .before .before .before .before)) (c .before .loop .inv .1) (c .loop-test .taken))
+fits c = rw (c .before .before .before .before .before .before .before .before .before .before .before .before .pre .1 .1) (turn-fits (window (c .before .before .before .before .before)) (c .before .loop .inv .1) (c .loop-test .taken))
 
 -- and so is its number
 counted : (c : tie.In-loop Inv-loop μ-loop) → c .before .loop .q < 1000001
-counted c = let s = c .before .before .before .before .before .before .before .before .before .before .before .before in omega (arith, c .loop-test .taken, c .before .before .before .before .before .releases-before .ensures .1, window-small _ _ _ (s .pre .1 .1 .1 .0 .2))
+counted c = let s = c .before .before .before .before .before .before .before .before .before .before .before .before in omega (arith, c .loop-test .taken, c .before .before .before .before .before .releases-before .ensures .1, window-small _ _ _ (s .pre .1 .2))
 
 sub-served-instance : tie.Need-sub-served-instance Inv-loop μ-loop
 sub-served-instance c = search needs
@@ -78,9 +78,9 @@ part-served-instance-end c = search needs
 served-instance-requires : tie.Need-served-instance-requires Inv-loop μ-loop
 served-instance-requires c κs =
     let s = c .before .before .before .before .before .before .before .before .before .before .before .before .before .before .before in
-    let p = s .pre .1 .1 .1 in
+    let p = s .pre in
     let f = fits (c .before .before .before) in
-    (s .pre .0, (s .pre .1 .0, (s .pre .1 .1 .0, ((p .0 .0, p .0 .1, c .before .before .before .before .before .before .before .before .before .distance-from .ensures .0), ((omega (arith, f .0), f .1), (rw sub-zero (c .before .before .before .before .before .before .lay-out .ensures .0), c .before .before .before .before .loop .inv .0))))))
+    (c .before .before .before .before .loop .inv .0, ((p .1 .0, p .1 .1, c .before .before .before .before .before .before .before .before .before .distance-from .ensures .0), ((omega (arith, f .0), f .1), rw sub-zero (c .before .before .before .before .before .before .lay-out .ensures .0))))
 
 add-lesser : tie.Need-add-lesser Inv-loop μ-loop
 add-lesser c =
@@ -98,7 +98,7 @@ loop-again c =
     let s = c .before .before .before .before .before .before .before .before .before .before .before .before .before .before .before .before .before .before .before .before .before .before in
     let l = c .before .before .before .before .before .before .before .before .before .before .before .loop in
     let r = c .before .before .before .before .before .before .served-instance .ensures in
-    (r .1 .1, rw (c .lesser .ensures) (turn-skip (c .before .before .before .before .before .before .served-instance .result .count) (l .inv .1) (λ i less. in-time-within _ _ _ (s .pre .1 .1 .1 .0 .0) (c .before .before .before .before .before .before .before .before .before .before .before .before .before .before .before .before .distance-from .ensures .0) (l .q + i) (l .best) (r .0 i less))))
+    (r .1 .1, rw (c .lesser .ensures) (turn-skip (c .before .before .before .before .before .before .served-instance .result .count) (l .inv .1) (λ i less. in-time-within _ _ _ (s .pre .1 .0) (c .before .before .before .before .before .before .before .before .before .before .before .before .before .before .before .before .distance-from .ensures .0) (l .q + i) (l .best) (r .0 i less))))
 
 cast-base : tie.Need-cast-base Inv-loop μ-loop
 cast-base c = search needs
@@ -115,14 +115,14 @@ add-base c = omega (arith, fits (c .before .before .before .before .before .befo
 settle-requires : tie.Need-settle-requires Inv-loop μ-loop
 settle-requires c κs =
     let s = c .before .before .before .before .before .before .before .before .before .before .before .before .before .before .before .before .before .before .before .before .before .before in
-    (s .pre .0, (s .pre .1 .0, (s .pre .1 .1 .0, ((λ t. s .pre .1 .1 .1 .0 .0, omega (arith, fits (c .before .before .before .before .before .before .before .before .before .before) .0), omega arith), c .before .before .before .before .before .before .served-instance .ensures .1 .1))))
+    (c .before .before .before .before .before .before .served-instance .ensures .1 .1, (λ t. s .pre .1 .0, omega (arith, fits (c .before .before .before .before .before .before .before .before .before .before) .0), omega arith))
 
 or-zero-requires : tie.Need-or-zero-requires Inv-loop μ-loop
 or-zero-requires c κs = search needs
 
 -- so is its end
 ends : (c : tie.After-or-zero Inv-loop μ-loop) → c .or-zero .result + c .before .before .before .before .before .before .before .before .before .before .before .before .before .before .before .before .before .before .before .before .before .before .before .before .before .before .args .k .length ≤ 1000000
-ends c = turn-ends (window (c .before .before .before .before .before .before .before .before .before .before .before .before .before .before .before .before .before .before .before)) (c .before .before .before .before .before .before .before .before .before .before .before .before .before .before .before .loop .inv .1) (c .before .before .before .before .before .before .before .before .before .before .before .before .before .before .loop-test .taken) (c .before .before .before .before .before .before .before .before .before .before .before .before .before .before .before .before .before .before .before .before .before .before .before .before .before .before .pre .1 .1 .1 .0 .1) (c .before .before .before .settle .ensures .0) (c .or-zero .ensures)
+ends c = turn-ends (window (c .before .before .before .before .before .before .before .before .before .before .before .before .before .before .before .before .before .before .before)) (c .before .before .before .before .before .before .before .before .before .before .before .before .before .before .before .loop .inv .1) (c .before .before .before .before .before .before .before .before .before .before .before .before .before .before .loop-test .taken) (c .before .before .before .before .before .before .before .before .before .before .before .before .before .before .before .before .before .before .before .before .before .before .before .before .before .before .pre .1 .1) (c .before .before .before .settle .ensures .0) (c .or-zero .ensures)
 
 mul-response : tie.Need-mul-response Inv-loop μ-loop
 mul-response c = omega (arith, fits (c .before .before .before .before .before .before .before .before .before .before .before .before .before .before .before) .1)
@@ -133,7 +133,7 @@ add-response c = omega (arith, fits (c .before .before .before .before .before .
 response-requires : tie.Need-response-requires Inv-loop μ-loop
 response-requires c κs =
     let s = c .before .before .before .before .before .before .before .before .before .before .before .before .before .before .before .before .before .before .before .before .before .before .before .before .before .before .before in
-    (omega (arith, ends (c .before)), in-table-fine _ (s .pre .0) (s .pre .1 .1 .0) .length-high)
+    (omega (arith, ends (c .before)), in-table-fine _ (s .pre .0 .table) (s .pre .0 .listed) .length-high)
 
 greater-requires : tie.Need-greater-requires Inv-loop μ-loop
 greater-requires c κs = search needs
@@ -150,11 +150,11 @@ loop-less-2 c = omega (arith, c .before .before .before .before .before .before 
 loop-again-2 : tie.Need-loop-again-2 Inv-loop μ-loop
 loop-again-2 c =
     let l = c .before .before .before .before .before .before .before .before .before .before .before .before .before .before .before .before .before .before .before .loop in
-    let turn = turn-more (window (c .before .before .before .before .before .before .before .before .before .before .before .before .before .before .before .before .before .before .before .before .before .before .before)) (l .inv .1) (c .before .before .before .before .before .before .before .before .before .before .before .before .before .before .before .before .before .before .loop-test .taken) (c .before .before .before .before .before .before .before .before .before .before .before .before .before .before .before .before .before .before .before .before .before .before .before .before .before .before .before .before .before .before .pre .1 .1 .1 .0 .1) (c .before .before .before .before .before .before .before .settle .ensures .0) (c .before .before .before .before .or-zero .ensures) (c .before .before .response .ensures) (c .before .greater .ensures) in
+    let turn = turn-more (window (c .before .before .before .before .before .before .before .before .before .before .before .before .before .before .before .before .before .before .before .before .before .before .before)) (l .inv .1) (c .before .before .before .before .before .before .before .before .before .before .before .before .before .before .before .before .before .before .loop-test .taken) (c .before .before .before .before .before .before .before .before .before .before .before .before .before .before .before .before .before .before .before .before .before .before .before .before .before .before .before .before .before .before .pre .1 .1) (c .before .before .before .before .before .before .before .settle .ensures .0) (c .before .before .before .before .or-zero .ensures) (c .before .before .response .ensures) (c .before .greater .ensures) in
     (c .before .before .before .before .before .before .before .settle .ensures .1, turn)
 
 same-length : tie.Need-same-length Inv-loop μ-loop
-same-length c = c .before .loop .inv .0 .size ∙ sym (c .before .before .before .before .before .before .before .before .before .before .before .before .pre .1 .1 .1 .1 .size)
+same-length c = c .before .loop .inv .0 .kept .size ∙ sym (c .before .before .before .before .before .before .before .before .before .before .before .before .pre .0 .kept .size)
 
 returns : tie.Need-returns Inv-loop μ-loop
 returns c = (turn-end (c .before .loop .inv .1) (c .loop-test .left), c .before .loop .inv .0)

@@ -11,21 +11,21 @@ enum-known-limit c = search needs
 is-within-requires : tie.Need-is-within-requires
 is-within-requires c κs =
     let p = c .before .before .before .before .before .before .before .before .before .pre in
-    (p .0, (p .1 .0, (p .1 .1 .0, (p .1 .1 .1 .0, (p .1 .1 .1 .1 .0 _ (c .before .before .limit .given .1), (p .1 .1 .1 .1 .1 .0, p .1 .1 .1 .1 .1 .1))))))
+    (p .0, (p .1 .0, (p .1 .1 .0 _ (c .before .before .limit .given .1), p .1 .1 .1)))
 
 enum-told : tie.Need-enum-told
 enum-told c = search needs
 
 same-length : tie.Need-same-length
-same-length c = c .before .before .is-within .ensures .1 .size ∙ sym (c .before .before .before .before .before .before .before .before .before .before .before .before .pre .1 .1 .1 .1 .1 .1 .size)
+same-length c = c .before .before .is-within .ensures .1 .kept .size ∙ sym (c .before .before .before .before .before .before .before .before .before .before .before .before .pre .0 .kept .size)
 
 returns : tie.Need-returns
 returns c =
     let p = c .before .before .before .before .before .before .before .before .before .before .before .before .pre in
-    (λ t. most-stays _ _ _ (p .1 .1 .1 .1 .0 _ (c .before .before .before .before .before .limit .given .1) .1) (c .before .before .is-within .ensures .0 t), c .before .before .is-within .ensures .1)
+    (λ t. most-stays _ _ _ (p .1 .1 .0 _ (c .before .before .before .before .before .limit .given .1) .1) (c .before .before .is-within .ensures .0 t), c .before .before .is-within .ensures .1)
 
 returns-2 : tie.Need-returns-2
-returns-2 c = (λ t. absurd t, c .before .before .before .before .before .before .before .pre .1 .1 .1 .1 .1 .1)
+returns-2 c = (λ t. absurd t, c .before .before .before .before .before .before .before .pre .0)
 
 pub is-limited-spec : {M : Type 1} → statement M
 is-limited-spec =

@@ -8,7 +8,7 @@ is-limited-requires : tie.Need-is-limited-requires
 is-limited-requires c κs = search needs
 
 same-length : tie.Need-same-length
-same-length c = c .before .before .before .is-limited .ensures .1 .size ∙ sym (c .before .before .before .before .before .before .before .before .before .before .pre .1 .1 .1 .1 .1 .1 .size)
+same-length c = c .before .before .before .is-limited .ensures .1 .kept .size ∙ sym (c .before .before .before .before .before .before .before .before .before .before .pre .0 .kept .size)
 
 returns : tie.Need-returns
 returns c = (c .before .before .before .is-limited .ensures .0 (rw (c .if1 .taken) tt), c .before .before .before .is-limited .ensures .1)
@@ -16,10 +16,10 @@ returns c = (c .before .before .before .is-limited .ensures .0 (rw (c .if1 .take
 scenario-response-requires : tie.Need-scenario-response-requires
 scenario-response-requires c κs =
     let p = c .before .before .before .before .before .before .before .before .before .before .before .pre in
-    (p .0, (p .1 .0, (p .1 .1 .0, (p .1 .1 .1 .0, c .before .before .before .before .is-limited .ensures .1))))
+    (c .before .before .before .before .is-limited .ensures .1, p .1 .0)
 
 same-length-2 : tie.Need-same-length-2
-same-length-2 c = c .before .before .scenario-response .ensures .1 .size ∙ sym (c .before .before .before .before .before .before .before .before .before .before .before .before .before .before .pre .1 .1 .1 .1 .1 .1 .size)
+same-length-2 c = c .before .before .scenario-response .ensures .1 .kept .size ∙ sym (c .before .before .before .before .before .before .before .before .before .before .before .before .before .before .pre .0 .kept .size)
 
 returns-2 : tie.Need-returns-2
 returns-2 c = c .before .before .scenario-response .ensures

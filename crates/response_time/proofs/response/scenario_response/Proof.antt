@@ -9,7 +9,7 @@ use Rattle.response_time.proofs.response.scenario_response.Tie as tie
 busy-window-requires : tie.Need-busy-window-requires
 busy-window-requires c κs =
     let p = c .before .before .before .before .before .before .pre in
-    (p .0, (p .1 .0, (p .1 .1 .0, (p .1 .1 .1 .0 .1, p .1 .1 .1 .1))))
+    (p .0, p .1 .1)
 
 enum-known-found : tie.Need-enum-known-found
 enum-known-found c = search needs
@@ -18,7 +18,7 @@ enum-told : tie.Need-enum-told
 enum-told c = search needs
 
 same-length : tie.Need-same-length
-same-length c = c .before .before .before .before .busy-window .ensures .1 .size ∙ sym (c .before .before .before .before .before .before .before .before .before .before .before .pre .1 .1 .1 .1 .size)
+same-length c = c .before .before .before .before .busy-window .ensures .1 .kept .size ∙ sym (c .before .before .before .before .before .before .before .before .before .before .before .pre .0 .kept .size)
 
 returns : tie.Need-returns
 unfolding both
@@ -27,11 +27,11 @@ returns c = (sym (ap (both (At (c .before .before .before .before .before .befor
 greatest-response-requires : tie.Need-greatest-response-requires
 greatest-response-requires c κs =
     let p = c .before .before .before .before .before .before .before .before .before .before .before .before .before .pre in
-    let q = p .1 .1 .1 .0 in
-    (p .0, (p .1 .0, (p .1 .1 .0, ((q .0, q .1, sym (c .before .before .before .before .before .before .busy-window .ensures .0) ∙ c .before .before .found .given .1), c .before .before .before .before .before .before .busy-window .ensures .1))))
+    let q = p .1 in
+    (c .before .before .before .before .before .before .busy-window .ensures .1, (q .0, q .1, sym (c .before .before .before .before .before .before .busy-window .ensures .0) ∙ c .before .before .found .given .1))
 
 same-length-2 : tie.Need-same-length-2
-same-length-2 c = c .before .before .greatest-response .ensures .1 .size ∙ sym (c .before .before .before .before .before .before .before .before .before .before .before .before .before .before .before .before .pre .1 .1 .1 .1 .size)
+same-length-2 c = c .before .before .greatest-response .ensures .1 .kept .size ∙ sym (c .before .before .before .before .before .before .before .before .before .before .before .before .before .before .before .before .pre .0 .kept .size)
 
 returns-2 : tie.Need-returns-2
 unfolding both

@@ -7,7 +7,7 @@ use Rattle.response_time.proofs.unserved.is_within.Tie as tie
 sweep-requires : tie.Need-sweep-requires
 sweep-requires c κs =
     let p = c .before .before .before .before .before .before .pre in
-    (p .0, (p .1 .0, (p .1 .1 .0, (p .1 .1 .1 .0, (p .1 .1 .1 .1 .0, ((omega arith, p .1 .1 .1 .1 .1 .0), p .1 .1 .1 .1 .1 .1))))))
+    (p .0, (p .1 .0, (p .1 .1 .0, (omega arith, p .1 .1 .1))))
 
 same-length : tie.Need-same-length
 same-length c = search needs

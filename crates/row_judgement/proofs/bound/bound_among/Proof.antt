@@ -31,7 +31,7 @@ slice-aggregate-bound-frame-4 c = search needs
 
 bound-frame-requires : tie.Need-bound-frame-requires
 bound-frame-requires c κs =
-    let s = c .before .before .before .before .before .before .before .before .before .before .before .before in (s .pre .0, (c .before .before .before .before .before .before .before .group .ensures, (s .pre .1, kept-zeros (s .pre .0) _ {n = 2064} refl refl)))
+    let s = c .before .before .before .before .before .before .before .before .before .before .before .before in (record { table = s .pre .0; grouped = c .before .before .before .before .before .before .before .group .ensures; listed = record { at = s .args .i; inside = s .pre .1 .0; is = s .pre .1 .1 }; kept = kept-zeros (s .pre .0) _ {n = 2064} refl refl }, s .pre .1)
 
 returns : tie.Need-returns
 returns c = search needs

@@ -31,7 +31,7 @@ slice-aggregate-judge-frame-4 c = search needs
 
 judge-frame-requires : tie.Need-judge-frame-requires
 judge-frame-requires c κs =
-    let s = c .before .before .before .before .before .before .before .before .before .before .before .before in (s .pre .0, (c .before .before .before .before .before .before .before .group .ensures, (s .pre .1, kept-zeros (s .pre .0) _ {n = 2064} refl refl)))
+    let s = c .before .before .before .before .before .before .before .before .before .before .before .before in record { table = s .pre .0; grouped = c .before .before .before .before .before .before .before .group .ensures; listed = s .pre .1; kept = kept-zeros (s .pre .0) _ {n = 2064} refl refl }
 
 returns : tie.Need-returns
 returns c = search needs

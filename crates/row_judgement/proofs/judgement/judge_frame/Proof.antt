@@ -11,7 +11,7 @@ frame-blocking-requires c κs = search needs
 
 approximate-requires : tie.Need-approximate-requires
 approximate-requires c κs =
-    let p = c .before .before .before .before .before .before .before .pre in (p .0, (p .1 .0, (p .1 .1 .0, (c .before .frame-blocking .ensures .0, p .1 .1 .1))))
+    let p = c .before .before .before .before .before .before .before .pre in (p, c .before .frame-blocking .ensures .0)
 
 enum-known-found : tie.Need-enum-known-found
 enum-known-found c = search needs
@@ -21,23 +21,23 @@ enum-told c = search needs
 
 same-length : tie.Need-same-length
 same-length c =
-    c .before .before .before .before .approximate .ensures .1 .size ∙ sym (c .before .before .before .before .before .before .before .before .before .before .before .before .pre .1 .1 .1 .size)
+    c .before .before .before .before .approximate .ensures .1 .kept .size ∙ sym (c .before .before .before .before .before .before .before .before .before .before .before .before .pre .kept .size)
 
 returns : tie.Need-returns
 returns c =
     let s = c .before .before .before .before .before .before .before .before .before .before .before .before in
-    judge-none (stored (s .args .frames .now)) (s .args .k) (s .args .claim) (found-none (s .pre .0) (s .pre .1 .1 .0) (c .before .before .before .before .approximate .ensures .0) (c .enum-told .given .1))
+    judge-none (stored (s .args .frames .now)) (s .args .k) (s .args .claim) (found-none (s .pre .table) (s .pre .listed) (c .before .before .before .before .approximate .ensures .0) (c .enum-told .given .1))
 
 -- what is found
 rough : (c : tie.After-known-told) → let s = c .before .before .before .before .before .before .before .before .before .before .before .before .before in Approximated (stored (s .args .frames .now)) (s .args .k) (c .before .found .given .0 .0)
-rough c = let p = c .before .before .before .before .before .before .before .before .before .before .before .before .before .pre in found-bound (p .0) (p .1 .1 .0) (c .before .before .before .before .before .approximate .ensures .0) (c .before .found .given .1)
+rough c = let p = c .before .before .before .before .before .before .before .before .before .before .before .before .before .pre in found-bound (p .table) (p .listed) (c .before .before .before .before .before .approximate .ensures .0) (c .before .found .given .1)
 
 judged-requires : tie.Need-judged-requires
 judged-requires c κs = search needs
 
 same-length-2 : tie.Need-same-length-2
 same-length-2 c =
-    c .before .before .before .before .before .before .before .approximate .ensures .1 .size ∙ sym (c .before .before .before .before .before .before .before .before .before .before .before .before .before .before .before .pre .1 .1 .1 .size)
+    c .before .before .before .before .before .before .before .approximate .ensures .1 .kept .size ∙ sym (c .before .before .before .before .before .before .before .before .before .before .before .before .before .before .before .pre .kept .size)
 
 returns-2 : tie.Need-returns-2
 returns-2 c = c .judged .ensures ∙ judge-approximate (rough (c .before .before)) (c .before .if1 .taken)
@@ -50,7 +50,7 @@ judged-requires-2 c κs = search needs
 
 same-length-3 : tie.Need-same-length-3
 same-length-3 c =
-    c .before .before .before .before .before .before .before .before .before .approximate .ensures .1 .size ∙ sym (c .before .before .before .before .before .before .before .before .before .before .before .before .before .before .before .before .before .pre .1 .1 .1 .size)
+    c .before .before .before .before .before .before .before .before .before .approximate .ensures .1 .kept .size ∙ sym (c .before .before .before .before .before .before .before .before .before .before .before .before .before .before .before .before .before .pre .kept .size)
 
 returns-3 : tie.Need-returns-3
 returns-3 c =
@@ -59,7 +59,7 @@ returns-3 c =
 precise-requires : tie.Need-precise-requires
 precise-requires c κs =
     let p = c .before .before .before .before .before .before .before .before .before .before .before .before .before .before .before .before .before .pre in
-    (p .0, (p .1 .0, (p .1 .1 .0, ((c .before .before .before .before .before .before .before .before .before .before .before .frame-blocking .ensures .0, rough (c .before .before .before .before) .windows), c .before .before .before .before .before .before .before .before .before .approximate .ensures .1))))
+    (c .before .before .before .before .before .before .before .before .before .approximate .ensures .1, (c .before .before .before .before .before .before .before .before .before .before .before .frame-blocking .ensures .0, rough (c .before .before .before .before) .windows))
 
 judged-requires-3 : tie.Need-judged-requires-3
 judged-requires-3 c κs = search needs
@@ -69,7 +69,7 @@ judged-requires-4 c κs = search needs
 
 same-length-4 : tie.Need-same-length-4
 same-length-4 c =
-    c .before .before .before .before .precise .ensures .1 .size ∙ sym (c .before .before .before .before .before .before .before .before .before .before .before .before .before .before .before .before .before .before .before .before .before .before .pre .1 .1 .1 .size)
+    c .before .before .before .before .precise .ensures .1 .kept .size ∙ sym (c .before .before .before .before .before .before .before .before .before .before .before .before .before .before .before .before .before .before .before .before .before .before .pre .kept .size)
 
 returns-4 : tie.Need-returns-4
 returns-4 c =
@@ -77,7 +77,7 @@ returns-4 c =
 
 same-length-5 : tie.Need-same-length-5
 same-length-5 c =
-    c .before .before .before .before .precise .ensures .1 .size ∙ sym (c .before .before .before .before .before .before .before .before .before .before .before .before .before .before .before .before .before .before .before .before .before .before .pre .1 .1 .1 .size)
+    c .before .before .before .before .precise .ensures .1 .kept .size ∙ sym (c .before .before .before .before .before .before .before .before .before .before .before .before .before .before .before .before .before .before .before .before .before .before .pre .kept .size)
 
 returns-5 : tie.Need-returns-5
 returns-5 c =
