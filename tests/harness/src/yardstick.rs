@@ -109,33 +109,8 @@ impl Search {
     }
 }
 
-/// So many starts are kept at a place, and so many places there are: instances share them.
-const KEPT: usize = 8;
-const PLACES: usize = 511;
-
 /// So many steps climbs a look by the bounds of loads.
 const STEPS: usize = 16;
-
-/// The greatest response found, the last window, and the last starts of instances.
-struct Best {
-    response: u64,
-    window: u64,
-    starts: [[u64; KEPT]; PLACES],
-}
-
-impl Best {
-    fn new() -> Best {
-        Best { response: 0, window: 0, starts: [[0; KEPT]; PLACES] }
-    }
-
-    fn remember(&mut self, instance: u64, start: u64) {
-        let kept = &mut self.starts[instance as usize % PLACES];
-        if !kept.contains(&start) {
-            kept.rotate_right(1);
-            kept[0] = start;
-        }
-    }
-}
 
 /// So many unserved instances are listed at the most.
 const LISTED: usize = 64;
@@ -238,91 +213,64 @@ impl View {
     fn approximate(&self) -> Option<u64> {
         let nodes: Vec<&Node> = self.nodes.iter().collect();
         let common = self.settled_window(Scenario { fixed: &self.lone, open: &nodes });
-        let mut best = Best::new();
+        let mut best = 0;
         for own in self.nodes[0].alignments() {
             let scenario = Scenario { fixed: &self.placed(own), open: &nodes[1..] };
             let limit = common.or_else(|| self.settled_window(scenario))?;
-            if !self.is_within(scenario, limit, &best, &Unserved::default()) {
-                self.raise(scenario, &mut best)?;
+            if !self.is_within(scenario, limit, best, &Unserved::default()) {
+                best = self.raised(scenario, best)?;
             }
         }
-        Some(best.response)
+        Some(best)
     }
 
     /// The exact bound, where the rough one is found.
     fn precise(&self) -> Option<u64> {
-        let mut best = Best::new();
+        let mut best = 0;
         for own in self.nodes[0].alignments() {
             let mut fixed = self.placed(own);
             let open: Vec<&Node> = self.nodes[1..].iter().collect();
             let limit = self.settled_window(Scenario { fixed: &fixed, open: &open })?;
-            self.improve(&mut fixed, &open, limit, &mut best, &Unserved::default())?;
+            best = self.improved(&mut fixed, &open, limit, best, &Unserved::default())?;
         }
-        Some(best.response)
+        Some(best)
     }
 
-    /// Fixes the open nodes one after the other, unless nothing below can exceed the best: that
-    /// is asked anew where the best has risen. What is left unserved is handed down.
-    fn improve(
+    /// The greater of the best and the responses with the open nodes fixed one after the other, unless
+    /// nothing below can exceed the best: that is asked anew where the best has risen. What is left
+    /// unserved is handed down.
+    fn improved(
         &self,
         fixed: &mut Vec<Placed>,
         open: &[&Node],
         limit: u64,
-        best: &mut Best,
+        mut best: u64,
         known: &Unserved,
-    ) -> Option<()> {
+    ) -> Option<u64> {
         let Some((node, rest)) = open.split_first() else {
             let scenario = Scenario { fixed, open };
             let within = self.is_within(scenario, limit, best, known);
-            return if within { Some(()) } else { self.raise(scenario, best) };
+            return if within { Some(best) } else { self.raised(scenario, best) };
         };
         let (mut asked, mut unserved) = (None, known.clone());
         let kept = fixed.len();
         for alignment in node.alignments() {
-            if asked != Some(best.response) {
-                let left = self.sweep(Scenario { fixed, open }, limit, best, &unserved, LISTED);
-                match left {
-                    Some(left) if !self.is_ruled_out(fixed, open, limit, best, &left) => {
-                        unserved = left;
-                    }
-                    _ => return Some(()),
-                }
-                asked = Some(best.response);
+            if asked != Some(best) {
+                let scenario = Scenario { fixed, open };
+                let Some(left) = self.sweep(scenario, limit, best, &unserved, LISTED) else {
+                    return Some(best);
+                };
+                (asked, unserved) = (Some(best), left);
             }
             node.place(alignment, fixed);
-            self.improve(fixed, rest, limit, best, &unserved)?;
+            best = self.improved(fixed, rest, limit, best, &unserved)?;
             fixed.truncate(kept);
         }
-        Some(())
-    }
-
-    /// Whether no response exceeds the best with each alignment of the open node whose frames are
-    /// longest together. Not asked of the first one: that is fixed next anyway.
-    fn is_ruled_out(
-        &self,
-        fixed: &mut Vec<Placed>,
-        open: &[&Node],
-        limit: u64,
-        best: &Best,
-        known: &Unserved,
-    ) -> bool {
-        let heavy = (0..open.len()).rev().max_by_key(|at| open[*at].above(1));
-        let Some(heavy) = heavy.filter(|at| *at > 0) else {
-            return false;
-        };
-        let others = [&open[..heavy], &open[heavy + 1..]].concat();
-        let kept = fixed.len();
-        let out = open[heavy].alignments().all(|alignment| {
-            open[heavy].place(alignment, fixed);
-            let within = self.is_within(Scenario { fixed, open: &others }, limit, best, known);
-            fixed.truncate(kept);
-            within
-        });
-        out
+        Some(best)
     }
 
     /// Whether the starts that are found show that no response exceeds the best.
-    fn is_within(&self, scenario: Scenario, limit: u64, best: &Best, known: &Unserved) -> bool {
+    fn is_within(&self, scenario: Scenario, limit: u64, best: u64, known: &Unserved) -> bool {
         self.sweep(scenario, limit, best, known, 0).is_none()
     }
 
@@ -333,11 +281,12 @@ impl View {
         &self,
         scenario: Scenario,
         limit: u64,
-        best: &Best,
+        best: u64,
         known: &Unserved,
         room: usize,
     ) -> Option<Unserved> {
-        let releases = self.releases(scenario, limit, best);
+        let Placed { frame, distance } = scenario.fixed[0];
+        let releases = frame.count(distance, limit);
         let mut list = Vec::new();
         let (mut instance, mut from) = (known.next(0), 0);
         while instance < releases {
@@ -355,40 +304,22 @@ impl View {
         (!list.is_empty()).then_some(Unserved { list, end: instance })
     }
 
-    /// How often the judged frame is queued up to the limit, or in the last window, where that is
-    /// less often and no window of the scenario is longer.
-    fn releases(&self, scenario: Scenario, limit: u64, best: &Best) -> u64 {
-        let Placed { frame, distance } = scenario.fixed[0];
-        let fewer = (1..limit).contains(&best.window)
-            && frame.count(distance, best.window) < frame.count(distance, limit)
-            && self.window().full_load(scenario, best.window) <= best.window;
-        frame.count(distance, if fewer { best.window } else { limit })
-    }
-
     /// A start that shows a response up to the best: how many instances it serves from this one
     /// on, and from where the next start is looked for.
-    fn serve(
-        &self,
-        scenario: Scenario,
-        instance: u64,
-        from: u64,
-        best: &Best,
-    ) -> Option<(u64, u64)> {
+    fn serve(&self, scenario: Scenario, instance: u64, from: u64, best: u64) -> Option<(u64, u64)> {
         let Placed { frame, distance } = scenario.fixed[0];
         let start = Search::Start(self.blocking + instance * frame.length);
         let queued = distance + instance * frame.period;
-        let latest = (best.response + queued).checked_sub(frame.length)?.min(LIMITS.window - 1);
-        let kept = best.starts[instance as usize % PLACES];
-        let (x, load) = found_start(start, scenario, from, latest, kept)?;
+        let latest = (best + queued).checked_sub(frame.length)?.min(LIMITS.window - 1);
+        let (x, load) = found_start(start, scenario, from, latest)?;
         Some((1 + (x - load) / frame.length, if x < latest { x } else { from }))
     }
 
-    /// Takes the scenario's responses into the best, or answers none if it has no window. Instances
+    /// The greater of the best and the scenario's responses, or none if it has no window. Instances
     /// that do not exceed the best are passed over.
-    fn raise(&self, scenario: Scenario, best: &mut Best) -> Option<()> {
+    fn raised(&self, scenario: Scenario, mut best: u64) -> Option<u64> {
         let Placed { frame, distance } = scenario.fixed[0];
-        best.window = self.settled_window(scenario)?;
-        let releases = frame.count(distance, best.window);
+        let releases = frame.count(distance, self.settled_window(scenario)?);
         let (mut instance, mut from, mut least) = (0, 0, 0);
         while instance < releases {
             if let Some((served, next)) = self.serve(scenario, instance, from, best) {
@@ -397,25 +328,18 @@ impl View {
             }
             let search = Search::Start(self.blocking + instance * frame.length);
             let start = search.settle(scenario, least, LIMITS.window - 1)?;
-            best.remember(instance, start);
             (from, least) = (start, start + frame.length);
             let queued = distance + instance * frame.period;
-            best.response = best.response.max(least.saturating_sub(queued));
+            best = best.max(least.saturating_sub(queued));
             instance += 1;
         }
-        Some(())
+        Some(best)
     }
 }
 
 /// A start up to the latest and its load or a bound of it: one that is tried, or else the first one
 /// from a number on.
-fn found_start(
-    start: Search,
-    scenario: Scenario,
-    from: u64,
-    latest: u64,
-    kept: [u64; KEPT],
-) -> Option<(u64, u64)> {
+fn found_start(start: Search, scenario: Scenario, from: u64, latest: u64) -> Option<(u64, u64)> {
     let load = start.load_above(scenario, latest);
     if load <= latest {
         return Some((latest, load));
@@ -434,10 +358,6 @@ fn found_start(
             return Some((latest, load));
         }
     }
-    let tried = kept.into_iter().take_while(|kept| *kept != 0).filter(|kept| *kept <= latest);
-    let mut loads = tried.map(|kept| (kept, start.full_load(scenario, kept)));
-    loads.find(|(kept, load)| load <= kept).or_else(|| {
-        let found = start.settle(scenario, from, latest)?;
-        Some((found, start.full_load(scenario, found)))
-    })
+    let found = start.settle(scenario, from, latest)?;
+    Some((found, start.full_load(scenario, found)))
 }
