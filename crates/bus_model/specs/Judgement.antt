@@ -2,8 +2,8 @@
 -- "The answer is one of a few named outcomes"; "it stands in a record beside the bound used and the margin".
 use Prim.Native.Nat.{ℕ}
 use mathlib.Core.List.{List}
-use mathlib.Core.Bool.{Bool, true, false, cond}
-use lib.Dec.{leb, ltb}
+use mathlib.Core.Bool.{Bool, cond, _||_}
+use lib.Dec.{eqb, leb, ltb}
 use lib.IntN.{ℤ, pos, _-ℤ_}
 use Rattle.arith.specs.Lists.{exists}
 use Rattle.arith.specs.Least.{isNone}
@@ -69,10 +69,6 @@ marginOf claim NoWindow = pos 0
 unfoldable pub judge : List Frame → Frame → ℕ → Judgement
 judge fs k claim = let o = outcomeOf fs k claim in record { outcome = o; bound = boundUsed o; margin = marginOf claim o }
 
--- "certified": verdict 1 or 2
+-- "certified": "verdict 1 or 2"
 unfoldable pub certifies : Outcome → Bool
-certifies (CertifiedApproximate b) = true
-certifies (CertifiedPrecise b) = true
-certifies (ClaimTooSmall b) = false
-certifies (Undecided b) = false
-certifies NoWindow = false
+certifies o = eqb (verdict o) 1 || eqb (verdict o) 2

@@ -38,7 +38,7 @@ unfolding boundBy scenarioBy responseBy boundOf scenarioResponse busyWindow wind
 unchanged fs k fixes = refl
 
 -- document 01's listing: identifiers 16, 32, 48 and 64
-abbrev listing : List Frame
+abbrev pub listing : List Frame
 listing =
     record { node = 1; priority = 16; length = 135; period = 1000; offset = 0 } ∷
     record { node = 1; priority = 32; length = 55; period = 1000; offset = 200 } ∷

@@ -86,7 +86,7 @@ module _ {fs : List Frame} (valid : Valid fs) {k : ℕ} (inside : k < length fs)
 
   -- A frame that is certified meets its claim.
   pub certified-meets : (claim : ℕ) → T (certifies (judge fs f claim .outcome)) → MeetsClaim fs k claim
-  unfolding judge certifies
+  unfolding judge verdict certifies
   certified-meets claim =
       by-outcome (λ o. T (certifies o) → MeetsClaim fs k claim) fs f claim
       (λ lacks t. absurd t)

@@ -1,0 +1,74 @@
+-- Document 01's listing: frame 64 does not meet a claim of 199, for there is a schedule in which it takes 200 ticks.
+-- So `MeetsClaim` is not weaker than it should be here: of no smaller claim could it be proved.
+use Prim.Native.Nat.{ℕ, _+_, _≤_}
+use mathlib.Core.Path.{_≡_, refl, ap}
+use mathlib.Core.List.{List, [], _∷_, List·Memᴰ as Mem, List·Memᴰ·head as here, List·Memᴰ·tail as there}
+use mathlib.Core.Bool.{Bool, cond}
+use native.Mathlib.Omega.{arith}
+use lib.Dec.{T, leb, leb→le, le→leb}
+use Rattle.arith.specs.laws.Below.{allBelow, below}
+use Rattle.arith.specs.laws.Tests.{cond-yes}
+use Rattle.bus_model.specs.Frame.{row}
+use Rattle.bus_model.specs.Release.{release}
+use Rattle.bus_model.specs.Bus.{Transmission, oneMore, Waiting, Idle, Next, Runs, Schedule, MeetsClaim}
+use Rattle.bus_model.specs.examples.Errors.{listing}
+
+-- all nodes start at tick 0
+abbrev zeros : ℕ → ℕ
+zeros j = 0
+
+-- frames 16 and 64 are released at tick 0, and go one after the other
+abbrev run : List Transmission
+run =
+    record { frame = 0; instance = 0; start = 0; length = 135 } ∷
+    record { frame = 3; instance = 0; start = 135; length = 65 } ∷ []
+
+module _ (sent : ℕ → ℕ) (x : Transmission) where
+  -- when row i waits for the bus
+  abbrev due : ℕ → ℕ
+  due i = release zeros (row listing i) (sent i)
+
+  abbrev priority : ℕ → ℕ
+  priority i = row listing i .priority
+
+  -- row i does not wait, or its priority is no better than that of the transmission
+  abbrev worse : ℕ → Bool
+  worse i = leb (cond (leb (due i) (x .start)) (priority (x .frame)) 0) (priority i)
+
+  -- A waiting frame that starts when the bus becomes free goes next, if one computed test finds none better.
+  goes : Waiting listing zeros sent (x .start) (x .frame) → x .instance ≡ sent (x .frame) → T (allBelow worse 4)
+      → 1 ≤ x .length → x .length ≤ row listing (x .frame) .length → Next listing zeros sent (x .start) x
+  unfolding Waiting Idle
+  goes waits oldest test positive fits = record {
+    after = omega arith;
+    idle = λ u i from to ready. omega arith;
+    waiting = waits;
+    oldest = oldest;
+    best = λ i (inside, ready). omega (arith, leb→le (cond (leb (due i) (x .start)) (priority (x .frame)) 0) (priority i) (below worse 4 test i inside), cond-yes (leb (due i) (x .start)) (priority (x .frame)) 0 (le→leb (due i) (x .start) ready));
+    positive = positive;
+    fits = fits;
+  }
+
+-- This is a schedule up to 199.
+runs : Schedule listing zeros 199 run
+unfolding Schedule Runs Idle Waiting release oneMore
+runs = (
+  goes (λ i. 0) _ (omega arith, omega arith) refl tt (omega arith) (omega arith),
+  omega arith,
+  (
+    goes (oneMore (λ i. 0) 0) _ (omega arith, omega arith) refl tt (omega arith) (omega arith),
+    omega arith,
+    λ u i from to waits. omega arith,
+  ),
+)
+
+-- Frame 64 stands in it once, and ends at 200.
+ends : (x : Transmission) → Mem x run → x .frame ≡ 3 → 200 ≤ x .start + x .length
+ends x (here e) same = absurd (omega (arith, ap (λ (y : Transmission). y .frame) e))
+ends x (there (here e)) same = rw e (omega arith)
+
+pub frame-64-late : ¬ MeetsClaim listing 3 199
+unfolding MeetsClaim release
+frame-64-late meets =
+    let f = meets zeros 199 run runs 0 (omega arith) in
+    omega (arith, f .ended, ends (f .sent) (f .listed) (f .frame))
