@@ -1,29 +1,62 @@
--- Demand 3 applied to document 01's whole case: frame 64 with claim 200 is certified, so it meets that claim in every schedule,
--- and there are schedules.
+-- Demand 3 applied to document 01's whole case, as the contract of `row_judgement::judge` says it: frame 32 has verdict 1 and
+-- frame 64 has verdict 2, so both meet their claims in every schedule, and there are schedules.
 use Prim.Native.Nat.{ℕ}
 use mathlib.Core.Path.{_≡_, refl}
 use mathlib.Core.List.{List, List·Memᴰ as Mem}
-use native.Mathlib.Omega.{arith}
+use lib.IntN.{pos}
+use Rattle.bus_model.specs.declared.Outcome.the-variants.{CertifiedApproximate, CertifiedPrecise}
 use Rattle.bus_model.specs.Frame.{row}
-use Rattle.bus_model.specs.Bus.{Transmission, Schedule, MeetsClaim}
+use Rattle.bus_model.specs.Bus.{Transmission, Schedule, Finished, MeetsClaim}
 use Rattle.bus_model.specs.Judgement.{certifies}
-use Rattle.bus_model.specs.theory.Judged.{certified-meets}
 use Rattle.bus_model.specs.theory.Existence.{longest-schedule}
+use Rattle.bus_model.specs.examples.Late.{frame-64-late, frame-64-due}
 use Rattle.table_checks.specs.Frames.{framesOf}
 use Rattle.table_checks.specs.Checks.{Accepted}
 use Rattle.table_checks.specs.laws.Accepted.{accepted-valid}
+use Rattle.row_judgement.specs.declared.Judged.the-variants.{Verdict}
+use Rattle.row_judgement.specs.Judge.{judgeChecked, judgeRow, certified}
+use Rattle.row_judgement.specs.laws.Judged.{judged-meets}
 use Rattle.starred_examples.specs.Compute.{everything}
 use Rattle.starred_examples.specs.Cases.{listing}
+
+-- ---- verdict 1
+
+frame-32-judged : judgeRow listing 1 ≡ Verdict (record { outcome = CertifiedApproximate 189; bound = 189; margin = pos 0 })
+unfolding everything judgeRow judgeChecked
+frame-32-judged = refl
+
+-- Frame 32 meets its claim.
+pub frame-32-meets : MeetsClaim (framesOf listing) 1 189
+unfolding everything certified certifies
+frame-32-meets = judged-meets listing 1 (rw frame-32-judged tt)
+
+-- ---- verdict 2
+
+frame-64-judged : judgeRow listing 3 ≡ Verdict (record { outcome = CertifiedPrecise 200; bound = 200; margin = pos 0 })
+unfolding everything judgeRow judgeChecked
+frame-64-judged = refl
+
+-- Frame 64 meets its claim.
+pub frame-64-meets : MeetsClaim (framesOf listing) 3 200
+unfolding everything certified certifies
+frame-64-meets = judged-meets listing 3 (rw frame-64-judged tt)
+
+-- So where all nodes start at tick 0, it is finished in every schedule up to 200,
+pub frame-64-finished : (xs : List Transmission) → Schedule (framesOf listing) (λ j. 0) 200 xs → Finished xs 3 0 200
+unfolding everything
+frame-64-finished = frame-64-due frame-64-meets
+
+-- and of 199 the same could not be said.
+pub frame-64-misses : ¬ MeetsClaim (framesOf listing) 3 199
+unfolding everything
+frame-64-misses = frame-64-late
+
+-- ---- schedules
 
 -- The table is accepted.
 listing-accepted : Accepted listing
 unfolding everything
 listing-accepted = refl
-
--- Frame 64 meets its claim.
-pub frame-64-meets : MeetsClaim (framesOf listing) 3 200
-unfolding everything certifies
-frame-64-meets = certified-meets (accepted-valid listing listing-accepted) (omega arith) 200 tt
 
 -- There are schedules in which this says something.
 pub listing-runs : (starts : ℕ → ℕ) (T : ℕ)

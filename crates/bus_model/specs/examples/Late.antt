@@ -1,6 +1,7 @@
 -- Document 01's listing: frame 64 does not meet a claim of 199, for there is a schedule in which it takes 200 ticks.
--- So `MeetsClaim` is not weaker than it should be here: of no smaller claim could it be proved.
-use Prim.Native.Nat.{ℕ, _+_, _≤_}
+-- So `MeetsClaim` is not weaker than it should be here: of no smaller claim could it be proved. And it asks for an instance as
+-- soon as the claim has run out: at 200, of a schedule up to 200.
+use Prim.Native.Nat.{ℕ, _+_, _≤_, _<_}
 use mathlib.Core.Path.{_≡_, refl, ap}
 use mathlib.Core.List.{List, [], _∷_, List·Memᴰ as Mem, List·Memᴰ·head as here, List·Memᴰ·tail as there}
 use mathlib.Core.Bool.{Bool, cond}
@@ -10,7 +11,7 @@ use Rattle.arith.specs.laws.Below.{allBelow, below}
 use Rattle.arith.specs.laws.Tests.{cond-yes}
 use Rattle.bus_model.specs.Frame.{row}
 use Rattle.bus_model.specs.Release.{release}
-use Rattle.bus_model.specs.Bus.{Transmission, oneMore, Waiting, Idle, Next, Runs, Schedule, MeetsClaim}
+use Rattle.bus_model.specs.Bus.{Transmission, oneMore, Waiting, Idle, Next, Runs, Schedule, Finished, MeetsClaim}
 use Rattle.bus_model.specs.examples.Errors.{listing}
 
 -- all nodes start at tick 0
@@ -49,10 +50,10 @@ module _ (sent : ℕ → ℕ) (x : Transmission) where
     fits = fits;
   }
 
--- This is a schedule up to 199.
-runs : Schedule listing zeros 199 run
+-- This is a schedule up to each tick from the second one's start to its end.
+runs : (end : ℕ) → 135 < end → end ≤ 200 → Schedule listing zeros end run
 unfolding Schedule Runs Idle Waiting release oneMore
-runs = (
+runs end started ended = (
   goes (λ i. 0) _ (omega arith, omega arith) refl tt (omega arith) (omega arith),
   omega arith,
   (
@@ -67,8 +68,17 @@ ends : (x : Transmission) → Mem x run → x .frame ≡ 3 → 200 ≤ x .start 
 ends x (here e) same = absurd (omega (arith, ap (λ (y : Transmission). y .frame) e))
 ends x (there (here e)) same = rw e (omega arith)
 
+-- With a claim of 199 it is late where the schedule goes up to 199, its release and the claim.
 pub frame-64-late : ¬ MeetsClaim listing 3 199
 unfolding MeetsClaim release
 frame-64-late meets =
-    let f = meets zeros 199 run runs 0 (omega arith) in
+    let f = meets zeros 199 run (runs 199 (omega arith) (omega arith)) 0 (omega arith) in
     omega (arith, f .ended, ends (f .sent) (f .listed) (f .frame))
+
+-- With a claim of 200 it must be finished where a schedule goes up to 200 and no further, as this one does.
+pub frame-64-due : MeetsClaim listing 3 200 → (xs : List Transmission) → Schedule listing zeros 200 xs → Finished xs 3 0 200
+unfolding MeetsClaim release
+frame-64-due meets xs schedule = meets zeros 200 xs schedule 0 (omega arith)
+
+pub frame-64-finished : MeetsClaim listing 3 200 → Finished run 3 0 200
+frame-64-finished meets = frame-64-due meets run (runs 200 (omega arith) (omega arith))

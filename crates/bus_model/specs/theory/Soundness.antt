@@ -133,7 +133,7 @@ module _ {fs : List Frame} (valid : Valid fs) {k : ℕ} (inside : k < length fs)
       let listed = chosen-listed fs f fixes α (λ j t. real j) in
       let own = chosen-fixed fixes α (f .node) (node-listed self) (more (f .node) (eqb-refl (f .node))) in
       let (l, window) = windows-refine valid inside (ownNode f) fixes more windows cs listed in
-      finished starts T xs n win α stands cs (chosen-agrees fixes α real) own l window claim (le-trans (le-greatest (scenarioResponse fs f) listed) bound) before
+      finished starts T xs n win α stands cs (chosen-agrees fixes α real) own l window claim (le-trans (le-greatest (scenarioResponse fs f) listed) bound) (omega arith)
 
   -- The approximate bound is sound.
   pub sound-approximate : Windowed fs f (ownNode f) → (claim : ℕ) → approximateBound fs f ≤ claim → MeetsClaim fs k claim
