@@ -1,6 +1,7 @@
 -- What is proved of the definitions, each file over those before it.
 pub mod First
 pub mod Limits
+pub mod Rank
 pub mod Lengths
 pub mod Sizes
 pub mod Accepted

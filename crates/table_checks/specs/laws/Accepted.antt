@@ -54,12 +54,12 @@ unfolding priorityOf
 priority-same k i k′ i′ v v′ e =
     elim (identified-cases k i v) [
       | inl a ↦ elim (identified-cases k′ i′ v′) [
-        | inl b ↦ (a .0 ∙ sym (b .0), rw (a .0, b .0) at e)
-        | inr b ↦ let z : i ≡ 2048 + i′ = rw (a .0, b .0) at e in absurd (omega (arith, a .1))
+        | inl b ↦ let z : priorityOf 11 i ≡ priorityOf 11 i′ = rw (a .0, b .0) at e in (a .0 ∙ sym (b .0), omega arith)
+        | inr b ↦ let z : priorityOf 11 i ≡ priorityOf 29 i′ = rw (a .0, b .0) at e in absurd (omega (arith, a .1, b .1))
       ]
       | inr a ↦ elim (identified-cases k′ i′ v′) [
-        | inl b ↦ let z : 2048 + i ≡ i′ = rw (a .0, b .0) at e in absurd (omega (arith, b .1))
-        | inr b ↦ let z : 2048 + i ≡ 2048 + i′ = rw (a .0, b .0) at e in (a .0 ∙ sym (b .0), omega arith)
+        | inl b ↦ let z : priorityOf 29 i ≡ priorityOf 11 i′ = rw (a .0, b .0) at e in absurd (omega (arith, a .1, b .1))
+        | inr b ↦ let z : priorityOf 29 i ≡ priorityOf 29 i′ = rw (a .0, b .0) at e in (a .0 ∙ sym (b .0), omega arith)
       ]
     ]
 
