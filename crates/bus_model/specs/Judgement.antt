@@ -1,10 +1,13 @@
 -- The judgement of the claim of a frame k of the table fs (document 01, "Judgement").
 -- "The answer is one of a few named outcomes"; "it stands in a record beside the bound used and the margin".
 use Prim.Native.Nat.{ℕ}
+use mathlib.Core.Path.{_≡_}
 use mathlib.Core.List.{List}
 use mathlib.Core.Bool.{Bool, cond, _||_}
+use mathlib.Core.Logic.{_↔_, _⊎_}
 use lib.Dec.{eqb, leb, ltb}
 use lib.IntN.{ℤ, pos, _-ℤ_}
+use lib.Signed.{_<ℤ_}
 use Rattle.arith.specs.Lists.{exists}
 use Rattle.arith.specs.Least.{isNone}
 use Rattle.bus_model.specs.Bounds.{busyWindow, scenarios, ownNode, approximateBound, preciseBound, scenarioCount}
@@ -68,6 +71,10 @@ marginOf claim NoWindow = pos 0
 -- the judgement
 unfoldable pub judge : List Frame → Frame → ℕ → Judgement
 judge fs k claim = let o = outcomeOf fs k claim in record { outcome = o; bound = boundUsed o; margin = marginOf claim o }
+
+-- what document 01 says of it: the margin is "below zero exactly for verdicts 3 and 12"
+abbrev pub MarginSign : Judgement → Type 0
+MarginSign j = (j .margin <ℤ pos 0) ↔ ((verdict (j .outcome) ≡ 3) ⊎ (verdict (j .outcome) ≡ 12))
 
 -- "certified": "verdict 1 or 2"
 unfoldable pub certifies : Outcome → Bool

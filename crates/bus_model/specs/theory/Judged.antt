@@ -3,13 +3,12 @@
 use Prim.Native.Nat.{ℕ, zero, suc, _≤_, _<_}
 use mathlib.Core.Path.{_≡_, refl}
 use mathlib.Core.List.{List}
-use mathlib.Core.Bool.{not}
 use mathlib.Core.Logic.{_↔_, _⊎_, inl, inr}
 use native.Mathlib.Omega.{arith}
 use borrow.Author.Tests.{lt-ltb, le-ltb}
 use lib.Dec.{T, leb, leb→le, le→leb, eqb-refl}
-use lib.IntN.{ℤ, pos, _-ℤ_}
-use lib.Signed.{nonNeg}
+use lib.IntN.{pos, _-ℤ_}
+use lib.Signed.{_<ℤ_, ltZ-yes, leZ-yes, clashℤ}
 use lib.ListN.{length}
 use Rattle.arith.specs.laws.Members.{exists-mem}
 use Rattle.arith.specs.laws.Tests.{cond-cases}
@@ -18,7 +17,7 @@ use Rattle.bus_model.specs.Frame.{row}
 use Rattle.bus_model.specs.Valid.{Valid}
 use Rattle.bus_model.specs.Bus.{MeetsClaim}
 use Rattle.bus_model.specs.Bounds.{windowLimit, ownNode, everyNode, busyWindow, approximateBound, preciseBound}
-use Rattle.bus_model.specs.Judgement.{lacksWindow, tooManyScenarios, preciseOutcome, refinedOutcome, windowedOutcome, outcomeOf, verdict, boundUsed, marginOf, judge, certifies}
+use Rattle.bus_model.specs.Judgement.{lacksWindow, tooManyScenarios, preciseOutcome, refinedOutcome, windowedOutcome, outcomeOf, verdict, boundUsed, marginOf, judge, MarginSign, certifies}
 use Rattle.bus_model.specs.theory.Scenarios.{Windowed, bound-le-limit, windows-refine, bound-refine}
 use Rattle.bus_model.specs.theory.Soundness.{sound-approximate, sound-precise}
 use Rattle.bus_model.specs.declared.Frame.{Frame}
@@ -52,37 +51,44 @@ by-outcome P fs k claim lacking approximate crowded precise small =
 
 -- ---- the margin
 
--- a signed number is below zero
-abbrev pub Negative : ℤ → Type 0
-Negative z = T (not (nonNeg z))
+not-below : (n : ℕ) → ¬ (pos n <ℤ pos 0)
+not-below n less = clashℤ less (leZ-yes (le→leb 0 n (omega arith)))
 
 -- A claim below the bound has a negative margin.
-margin-negative : {claim b : ℕ} → claim < b → Negative (pos claim -ℤ pos b)
+margin-negative : {claim b : ℕ} → claim < b → (pos claim -ℤ pos b) <ℤ pos 0
 margin-negative {b = zero} less = absurd (omega arith)
-margin-negative {claim} {b = suc b} less = rw (lt-ltb claim (suc b) less) tt
+margin-negative {claim} {b = suc b} less = ltZ-yes (rw (lt-ltb claim (suc b) less) tt)
 
 -- No other claim has.
-margin-positive : {claim b : ℕ} → b ≤ claim → ¬ Negative (pos claim -ℤ pos b)
-margin-positive {b = zero} le = λ t. t
-margin-positive {claim} {b = suc b} le = rw (le-ltb claim (suc b) le) (λ t. t)
+margin-positive : {claim b : ℕ} → b ≤ claim → ¬ ((pos claim -ℤ pos b) <ℤ pos 0)
+margin-positive {b = zero} le = not-below _
+margin-positive {claim} {b = suc b} le = rw (le-ltb claim (suc b) le) (not-below _)
 
 -- The margin is negative exactly for verdicts 3 and 12.
-pub margin-sign : (fs : List Frame) (k : Frame) (claim : ℕ)
-    → Negative (judge fs k claim .margin) ↔ ((verdict (judge fs k claim .outcome) ≡ 3) ⊎ (verdict (judge fs k claim .outcome) ≡ 12))
+pub margin-sign : (fs : List Frame) (k : Frame) (claim : ℕ) → MarginSign (judge fs k claim)
 unfolding judge marginOf verdict
 margin-sign fs k claim =
-    by-outcome (λ o. Negative (marginOf claim o) ↔ ((verdict o ≡ 3) ⊎ (verdict o ≡ 12))) fs k claim
-    (λ lacks. (λ t. absurd t, elim [ inl e ↦ omega arith | inr e ↦ omega arith ]))
+    by-outcome (λ o. (marginOf claim o <ℤ pos 0) ↔ ((verdict o ≡ 3) ⊎ (verdict o ≡ 12))) fs k claim
+    (λ lacks. (λ t. absurd (not-below 0 t), elim [ inl e ↦ omega arith | inr e ↦ omega arith ]))
     (λ windows le. (λ t. absurd (margin-positive le t), elim [ inl e ↦ absurd (omega arith) | inr e ↦ absurd (omega arith) ]))
     (λ windows less many. (λ t. inr refl, λ e. margin-negative less))
     (λ windows exceeds few le. (λ t. absurd (margin-positive le t), elim [ inl e ↦ absurd (omega arith) | inr e ↦ absurd (omega arith) ]))
     (λ windows exceeds few less. (λ t. inl refl, λ e. margin-negative less))
 
+-- ---- demand 3
+
+-- "Certified" is verdict 1 or 2.
+pub certified-verdict : (o : Outcome) → T (certifies o) ↔ ((verdict o ≡ 1) ⊎ (verdict o ≡ 2))
+unfolding certifies verdict
+certified-verdict (CertifiedApproximate b) = (λ t. inl refl, λ e. tt)
+certified-verdict (CertifiedPrecise b) = (λ t. inr refl, λ e. tt)
+certified-verdict (ClaimTooSmall b) = (λ t. absurd t, elim [ inl e ↦ omega arith | inr e ↦ omega arith ])
+certified-verdict (Undecided b) = (λ t. absurd t, elim [ inl e ↦ omega arith | inr e ↦ omega arith ])
+certified-verdict NoWindow = (λ t. absurd t, elim [ inl e ↦ omega arith | inr e ↦ omega arith ])
+
 module _ {fs : List Frame} (valid : Valid fs) {k : ℕ} (inside : k < length fs) where
   abbrev f : Frame
   f = row fs k
-
-  -- ---- demand 3
 
   -- A frame that is certified meets its claim.
   pub certified-meets : (claim : ℕ) → T (certifies (judge fs f claim .outcome)) → MeetsClaim fs k claim

@@ -1,5 +1,5 @@
 -- What judging a row tells: the judgement of a frame in each of document 01's cases, by what the code computes;
--- and that a certified frame is never late.
+-- that a certified frame is never late, and when the margin is below zero.
 use Prim.Native.Nat.{ℕ, _+_, _*_, _/_, _≤_, _<_, min}
 use mathlib.Core.Path.{_≡_, refl, sym, subst, _∙_}
 use mathlib.Core.List.{List}
@@ -13,14 +13,15 @@ use Rattle.arith.specs.declared.Found.{Found}
 use Rattle.arith.specs.declared.Found.the-variants.{At, Nothing}
 use Rattle.arith.specs.laws.Tests.{cond-cases}
 use Rattle.bus_model.specs.declared.Frame.{Frame}
+use Rattle.bus_model.specs.declared.Judgement.{Judgement}
 use Rattle.bus_model.specs.declared.Outcome.the-variants.{CertifiedApproximate, CertifiedPrecise, ClaimTooSmall, Undecided, NoWindow}
 use Rattle.bus_model.specs.Frame.{row}
 use Rattle.bus_model.specs.Valid.{ValidFrame}
 use Rattle.bus_model.specs.Bus.{MeetsClaim}
 use Rattle.bus_model.specs.Bounds.{approximateBound, preciseBound, scenarioCount}
-use Rattle.bus_model.specs.Judgement.{scenarioLimit, lacksWindow, tooManyScenarios, preciseOutcome, refinedOutcome, windowedOutcome, outcomeOf, boundUsed, marginOf, judge}
+use Rattle.bus_model.specs.Judgement.{scenarioLimit, lacksWindow, tooManyScenarios, preciseOutcome, refinedOutcome, windowedOutcome, outcomeOf, boundUsed, marginOf, judge, MarginSign}
 use Rattle.bus_model.specs.theory.Approximate.{approximateFound, approximate-none, approximate-at}
-use Rattle.bus_model.specs.theory.Judged.{certified-meets}
+use Rattle.bus_model.specs.theory.Judged.{certified-meets, margin-sign}
 use Rattle.table_checks.specs.declared.Checked.{Checked}
 use Rattle.table_checks.specs.declared.Checked.the-variants.{Passed, Failed}
 use Rattle.table_checks.specs.Frames.{framesOf}
@@ -138,6 +139,14 @@ judged-meets rows r =
     by-judged (λ j. T (certified j) → MeetsClaim (framesOf rows) r (claimOf rows r)) rows r (λ f t. absurd t)
     (λ accepted l. certified-meets (accepted-valid rows accepted) (row-inside rows l) (claimOf rows r))
 
--- So what the code answers tells both: it is the judgement, and a certified frame meets its claim.
-pub answered : (rows : List ℕ) (r : ℕ) {j : Judged} → j ≡ judgeRow rows r → (j ≡ judgeRow rows r) × (T (certified j) → MeetsClaim (framesOf rows) r (claimOf rows r))
-answered rows r e = (e, λ t. judged-meets rows r (subst (λ j. T (certified j)) e t))
+-- Where a row is judged, its margin is below zero exactly for verdicts 3 and 12.
+pub judged-sign : (rows : List ℕ) (r : ℕ) (j : Judgement) → judgeRow rows r ≡ Verdict j → MarginSign j
+judged-sign rows r =
+    by-judged (λ answer. (j : Judgement) → answer ≡ Verdict j → MarginSign j) rows r
+    (λ f j e. absurd (let z : _≡_ {A = ℕ} 0 1 = cc in omega arith))
+    (λ accepted l j e. let is : judge (framesOf rows) (row (framesOf rows) r) (claimOf rows r) ≡ j = cc in subst MarginSign is (margin-sign _ _ _))
+
+-- So what the code answers tells all: it is the judgement, a certified frame meets its claim, and the margin has its sign.
+pub answered : (rows : List ℕ) (r : ℕ) {answer : Judged} → answer ≡ judgeRow rows r
+    → (answer ≡ judgeRow rows r) × ((T (certified answer) → MeetsClaim (framesOf rows) r (claimOf rows r)) × ((j : Judgement) → answer ≡ Verdict j → MarginSign j))
+answered rows r e = (e, (λ t. judged-meets rows r (subst (λ j. T (certified j)) e t), λ j is. judged-sign rows r j (sym e ∙ is)))

@@ -1,5 +1,5 @@
 -- A table that a check turns back is refused with its cause, then a missing row; in every case the answer is the row's judgement,
--- and the theory says of the judgement that a certified frame meets its claim.
+-- and the theory says of the judgement that a certified frame meets its claim, and when the margin is below zero.
 use borrow.Author.Needs.{needs}
 use mathlib.Core.Path.{sym, _∙_}
 use borrow.Author.Tests.{lt-leb, le-leb}
