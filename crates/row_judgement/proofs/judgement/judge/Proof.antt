@@ -1,9 +1,10 @@
 -- A table that a check turns back is refused with its cause, then a missing row; in every case the answer is the row's judgement,
 -- and the theory says of the judgement that a certified frame meets its claim, and when the margin is below zero.
 use borrow.Author.Needs.{needs}
-use mathlib.Core.Path.{sym, _∙_}
+use mathlib.Core.Path.{sym, ap, _∙_}
 use borrow.Author.Tests.{lt-leb, le-leb}
 use Rattle.table_checks.specs.Checks.{Accepted}
+use Rattle.row_judgement.specs.declared.Judged.the-variants.{Verdict}
 use Rattle.row_judgement.specs.Judge.{judgeRow, judgeChecked}
 use Rattle.row_judgement.specs.laws.Judged.{row-inside, answered}
 use Rattle.row_judgement.proofs.judgement.judge.Statement.{statement}
@@ -49,7 +50,7 @@ returns-3 : tie.Need-returns-3
 unfolding judgeRow judgeChecked
 returns-3 c =
     let s = start (c .before .before .before .before) in
-    answered (s .args .rows .now) (s .args .row) (rw (passed (c .before .before), lt-leb _ _ (c .before .if1 .left), c .judge-row .ensures))
+    answered (s .args .rows .now) (s .args .row) (ap Verdict (c .judge-row .ensures) ∙ rw (passed (c .before .before), lt-leb _ _ (c .before .if1 .left)))
 
 pub judge-spec : {M : Type 1} → statement M
 judge-spec =

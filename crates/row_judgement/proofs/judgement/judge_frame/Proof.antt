@@ -1,5 +1,6 @@
 -- Each return answers one of document 01's cases, by what the searches before it found.
 use borrow.Author.Needs.{needs}
+use native.Mathlib.Omega.{arith}
 use mathlib.Core.Path.{sym, _∙_}
 use Rattle.workload.specs.Stored.{stored}
 use Rattle.row_judgement.specs.laws.Judged.{Approximated, found-none, found-bound, judge-none, judge-approximate, judge-undecided, judge-precise, judge-small}
@@ -40,7 +41,7 @@ same-length-2 c =
     c .before .before .before .before .before .before .before .approximate .ensures .1 .kept .size ∙ sym (c .before .before .before .before .before .before .before .before .before .before .before .before .before .before .before .pre .kept .size)
 
 returns-2 : tie.Need-returns-2
-returns-2 c = c .judged .ensures ∙ judge-approximate (rough (c .before .before)) (c .before .if1 .taken)
+returns-2 c = c .judged .ensures ∙ judge-approximate (rough (c .before .before)) (omega (arith, c .before .if1 .taken))
 
 scenario-count-requires : tie.Need-scenario-count-requires
 scenario-count-requires c κs = search needs

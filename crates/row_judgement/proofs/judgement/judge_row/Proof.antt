@@ -30,7 +30,7 @@ mul-claim-2 : tie.Need-mul-claim-2
 mul-claim-2 c = record { fits = omega (arith, place (c .before .before)) }
 
 shared-slice-read-claim : tie.Need-shared-slice-read-claim
-shared-slice-read-claim c = place (c .before .before .before) .0
+shared-slice-read-claim c = omega (arith, place (c .before .before .before))
 
 slice-aggregate-store : tie.Need-slice-aggregate-store
 slice-aggregate-store c = search needs
