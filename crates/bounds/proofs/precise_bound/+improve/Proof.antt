@@ -1,12 +1,13 @@
 -- The loop has the greatest response over the alignments of the level's node that are visited, each the start of a search from the next level on;
 -- what is left out has no response above the greatest.
 use Prim.Native.Nat.{ℕ, _+_, _-_, _≤_, _<_, max}
-use mathlib.Core.Path.{_≡_, sym, ap, _∙_}
+use mathlib.Core.Path.{_≡_, sym, ap, subst, _∙_}
 use native.Mathlib.Omega.{arith}
 use borrow.Author.Needs.{needs}
 use borrow.Fn.Kinds.{In}
 use borrow.Fn.PlainCycle.{Measures, is, falls, and}
 use mathlib.Core.List.{List, List·Memᴰ as Mem}
+use lib.Dec.{T}
 use lib.ListN.{set}
 use Rattle.arith.specs.Lists.{greatest}
 use Rattle.arith.specs.Least.{orZero}
@@ -188,7 +189,7 @@ improve-returns-3 : (t : ℕ) → improve-lts.Need-returns-3 (claims t) (improve
 improve-returns-3 t c =
     let a = c .before .before .before .before .before .before .before .before .before .before .before .before .before .before .before .before .before .args in
     let l = c .before .before .before .before .before .loop in
-    (best-over _ _ _ _ (l .inv .0) (l .inv .1) (whole t (c .before .before .before .before .before .before .before .before .before .before)) (c .before .before .before .left-over .ensures .1 .0 (rw (c .if3 .taken) tt)), c .before .before .before .left-over .ensures .1 .1)
+    (best-over _ _ _ _ (l .inv .0) (l .inv .1) (whole t (c .before .before .before .before .before .before .before .before .before .before)) (c .before .before .before .left-over .ensures .1 .0 (subst T (sym (c .if3 .taken)) tt)), c .before .before .before .left-over .ensures .1 .1)
 
 improve-with-choice-requires-2 : (t : ℕ) → improve-lts.Need-with-choice-requires-2 (claims t) (improve-at t) improve.Post improve-Inv-loop improve-μ-loop
 improve-with-choice-requires-2 t c κs = node t (c .before .before .before .before .before .before .before .before .before .before)
