@@ -1,5 +1,6 @@
 -- `certifier::listing::list_rows` meets its contract: the lines are written where they have room, and else the area is left.
 use mathlib.Core.Path.{refl}
+use native.Mathlib.Omega.{arith}
 use borrow.Author.Needs.{needs}
 use Rattle.table_checks.specs.declared.Checked.the-variants.{Passed}
 use Rattle.frame_table.specs.laws.Areas.{area-short, area-written}
@@ -30,7 +31,7 @@ unfolding listingOf
 returns-2 c =
     let at-if1 = c .before .before .before .before in
     let start = at-if1 .before .before .before in
-    area-written Passed (listingOf (start .args .rows .now)) (start .args .out .now) _ _ (length-listing (start .args .rows .now)) refl (at-if1 .if1 .left) (c .before .before .write-lines .ensures)
+    area-written Passed (listingOf (start .args .rows .now)) (start .args .out .now) _ _ (length-listing (start .args .rows .now)) refl (omega (arith, at-if1 .if1 .left)) (c .before .before .write-lines .ensures)
 
 pub list-rows-spec : {M : Type 1} → statement M
 list-rows-spec =

@@ -1,5 +1,6 @@
 -- `certifier::listing::write_row` meets its contract: the line is written from the identifier of the row and from its judgement.
 use mathlib.Core.Path.{ap, _∙_}
+use native.Mathlib.Omega.{arith}
 use borrow.Author.Needs.{needs}
 use Rattle.table_checks.specs.laws.Accepted.{length-frames}
 use Rattle.certifier.specs.Listing.{listingLine, lineOf}
@@ -9,7 +10,7 @@ use Rattle.certifier.proofs.listing.write_row.Tie as tie
 judge-row-requires : tie.Need-judge-row-requires
 judge-row-requires c κs =
     let start = c .before .before in
-    (start .pre .0, rw (length-frames (start .args .rows .now)) (start .pre .1 .0))
+    (start .pre .0, omega (arith, length-frames (start .args .rows .now), start .pre .1 .0))
 
 mul-write-line : tie.Need-mul-write-line
 mul-write-line c = search needs
