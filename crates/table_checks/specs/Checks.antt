@@ -9,7 +9,7 @@ use lib.Dec.{ltb, eqb}
 use Rattle.arith.specs.Lists.{exists, range}
 use Rattle.bus_model.specs.declared.Frame.{Frame}
 use Rattle.bus_model.specs.Pattern.{ofNode, hyperperiod, patternReleases}
-use Rattle.table_checks.specs.declared.Cause.the-variants.{FileLength, LineFeed, TooManyLines, Notation, Limit, Duplicate, Hyperperiod, Releases, RowsLength}
+use Rattle.table_checks.specs.declared.Cause.the-variants.{FileForm, TooManyLines, Notation, Limit, Duplicate, Hyperperiod, Releases, RowsLength}
 use Rattle.table_checks.specs.declared.Checked.{Checked}
 use Rattle.table_checks.specs.declared.Checked.the-variants.{Passed, Failed}
 use Rattle.table_checks.specs.Columns.{field, within}
@@ -33,7 +33,7 @@ firstOf check (suc m) n = first (check n) (firstOf check m (n + 1))
 -- a file's length: 1, then 2
 unfoldable pub fileSizeCheck : ℕ → Checked
 fileSizeCheck size =
-    cond (eqb size 0 || not (eqb (size % 43) 0)) (failed FileLength 0)
+    cond (eqb size 0 || not (eqb (size % 43) 0)) (failed FileForm 0)
     (cond (ltb 64 (size / 43)) (failed TooManyLines 0) Passed)
 
 -- the number of numbers in memory: 10
@@ -53,7 +53,7 @@ unterminated = 1_000_000_000_000_000_001
 -- column j of line i, which counts from 0: 1, 3, 4
 unfoldable pub columnCheck : List ℕ → ℕ → ℕ → Checked
 columnCheck t i j =
-    cond (eqb (field t i j) unterminated) (failed LineFeed (i + 1))
+    cond (eqb (field t i j) unterminated) (failed FileForm (i + 1))
     (cond (eqb (field t i j) malformed) (failed Notation (i + 1))
     (cond (within j (field t i (j - 1)) (field t i j)) Passed (failed Limit (i + 1))))
 

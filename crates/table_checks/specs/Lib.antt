@@ -3,5 +3,6 @@ pub mod Columns
 pub mod Frames
 pub mod Refusal
 pub mod Checks
+pub mod Returns
 pub mod Steps
 pub mod laws

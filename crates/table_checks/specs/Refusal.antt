@@ -1,14 +1,13 @@
 -- The numbers of the causes (document 01, "Where a call is turned back").
 use Prim.Native.Nat.{ℕ}
 use Rattle.table_checks.specs.declared.Cause.{Cause}
-use Rattle.table_checks.specs.declared.Cause.the-variants.{FileLength, LineFeed, TooManyLines, Notation, Limit, Duplicate, Hyperperiod, Releases, OutputArea, RowsLength}
+use Rattle.table_checks.specs.declared.Cause.the-variants.{FileForm, TooManyLines, Notation, Limit, Duplicate, Hyperperiod, Releases, OutputArea, RowsLength}
 use Rattle.table_checks.specs.declared.Checked.{Checked}
 use Rattle.table_checks.specs.declared.Checked.the-variants.{Passed, Failed}
 
 -- "Number"
 unfoldable pub numberOf : Cause → ℕ
-numberOf FileLength = 1
-numberOf LineFeed = 1
+numberOf FileForm = 1
 numberOf TooManyLines = 2
 numberOf Notation = 3
 numberOf Limit = 4
@@ -18,15 +17,19 @@ numberOf Releases = 7
 numberOf OutputArea = 8
 numberOf RowsLength = 10
 
--- number and place of a check that failed, 0 and 0 where it passed
+-- a check that failed
+abbrev pub failed : Cause → ℕ → Checked
+failed cause place = Failed (record { cause = cause; place = place })
+
+-- "Returned": number and place
 pub record Returned : Type 0 where
   pub number : ℕ
   pub place : ℕ
 
-unfoldable pub checkReturns : Checked → Returned
-checkReturns Passed = record { number = 0; place = 0 }
-checkReturns (Failed r) = record { number = numberOf (r .cause); place = r .place }
+abbrev pub returned : ℕ → ℕ → Returned
+returned number place = record { number = number; place = place }
 
--- a check that failed
-abbrev pub failed : Cause → ℕ → Checked
-failed cause place = Failed (record { cause = cause; place = place })
+-- what a check returns, 0 and 0 where it passed
+unfoldable pub checkReturns : Checked → Returned
+checkReturns Passed = returned 0 0
+checkReturns (Failed r) = returned (numberOf (r .cause)) (r .place)

@@ -5,3 +5,4 @@ pub mod Rank
 pub mod Lengths
 pub mod Sizes
 pub mod Accepted
+pub mod Returns

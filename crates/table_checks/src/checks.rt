@@ -18,8 +18,9 @@ ghost use Rattle.arith.specs.Lists.{sum};
 ghost use Rattle.bus_model.specs.Pattern.{ofNode, hyperperiod};
 ghost use Rattle.table_checks.specs.Columns.{between, isIdentifier, within};
 ghost use Rattle.table_checks.specs.Frames.{framesOf};
-ghost use Rattle.table_checks.specs.Refusal.{failed};
-ghost use Rattle.table_checks.specs.Checks.{fileSizeCheck, rowsSizeCheck, columnCheck, columnsCheck, isSameFrame, standsEarlier, lineCheck, linesCheck, nodeCheck, nodesCheck, tableCheck};
+ghost use Rattle.table_checks.specs.Refusal.{failed, checkReturns};
+ghost use Rattle.table_checks.specs.Checks.{fileSizeCheck, rowsSizeCheck, columnCheck, columnsCheck, isSameFrame, standsEarlier, lineCheck, linesCheck, nodeCheck, nodesCheck, tableCheck, rowsCheck};
+ghost use Rattle.table_checks.specs.Returns.{fileSizeReturns, rowsReturns};
 ghost use Rattle.table_checks.specs.Steps.{Periods};
 
 // A node's hyperperiod is at most this, and so many releases are in one.
@@ -38,12 +39,13 @@ fn fail(cause: Cause, place: u32) -> Checked
 // The check of a file's length.
 pub fn check_length(size: usize) -> Checked
     ensures { λ r. ⌜ r ≡ fileSizeCheck size ⌝ }
+    ensures in_numbers { λ r. ⌜ checkReturns r ≡ fileSizeReturns size ⌝ }
 {
     if size == 0 {
-        return fail(Cause::FileLength, 0);
+        return fail(Cause::FileForm, 0);
     }
     if size % LINE != 0 {
-        return fail(Cause::FileLength, 0);
+        return fail(Cause::FileForm, 0);
     }
     if MOST_LINES < size / LINE {
         return fail(Cause::TooManyLines, 0);
@@ -116,7 +118,7 @@ fn column(t: &[u64], i: usize, j: usize) -> Checked
     let line = (i + 1) as u32;
     let v = t[ROW * i + j];
     if v == UNTERMINATED {
-        return fail(Cause::LineFeed, line);
+        return fail(Cause::FileForm, line);
     }
     if v == MALFORMED {
         return fail(Cause::Notation, line);
@@ -286,7 +288,19 @@ fn nodes(t: &[u64]) -> Checked
     Checked::Passed
 }
 
-// The check of a table.
+// The check of a table of any size.
+pub fn check_fields(t: &[u64]) -> Checked
+    ensures { λ r. ⌜ r ≡ rowsCheck (now (t .entry)) ⌝ }
+    ensures in_numbers { λ r. ⌜ checkReturns r ≡ rowsReturns (now (t .entry)) ⌝ }
+{
+    let sized = rows_size(t.len());
+    let Checked::Passed = sized else {
+        return sized;
+    };
+    table(t)
+}
+
+// The check of a table whose size is right.
 pub fn table(t: &[u64]) -> Checked
     requires { ⌜ length (now t) ≤ 448 ⌝ }
     ensures { λ r. ⌜ r ≡ tableCheck (now (t .entry)) ⌝ }

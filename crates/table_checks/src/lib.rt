@@ -3,8 +3,8 @@
 mod checks;
 mod frames;
 
+pub use checks::check_fields;
 pub use checks::check_length;
-pub use checks::table;
 pub use frames::frame;
 pub use frames::largest_length;
 pub use frames::priority;
@@ -12,8 +12,9 @@ ghost use mathlib.Core.Path.{_≡_};
 ghost use Prim.Native.Nat.{_≤_};
 ghost use mathlib.Core.List.{_++_};
 ghost use lib.ListN.{length, drop};
-ghost use Rattle.table_checks.specs.Refusal.{numberOf};
+ghost use Rattle.table_checks.specs.Refusal.{numberOf, checkReturns};
 ghost use Rattle.table_checks.specs.Checks.{rowsCheck};
+ghost use Rattle.table_checks.specs.Returns.{rowsReturns};
 
 // The numbers of a row, the characters of a line with its line feed, and the most lines of a table.
 pub const ROW: usize = 7;
@@ -33,10 +34,8 @@ pub const UNTERMINATED: u64 = 1_000_000_000_000_000_001;
 
 // Why a table is turned back.
 pub enum Cause {
-    // The file's length is 0 or no multiple of a line's.
-    FileLength,
-    // A line's last character is no line feed.
-    LineFeed,
+    // The file's length is 0 or no multiple of a line's, or a line's last character is no line feed.
+    FileForm,
     TooManyLines,
     // A column breaks the notation.
     Notation,
@@ -71,8 +70,7 @@ pub fn number(cause: Cause) -> u32
     ensures { λ r. ⌜ r ≡ numberOf cause ⌝ }
 {
     match cause {
-        Cause::FileLength => 1,
-        Cause::LineFeed => 1,
+        Cause::FileForm => 1,
         Cause::TooManyLines => 2,
         Cause::Notation => 3,
         Cause::Limit => 4,
@@ -87,6 +85,7 @@ pub fn number(cause: Cause) -> u32
 // Checks rows in memory.
 pub fn check(rows: &[u32]) -> Checked
     ensures { λ r. ⌜ r ≡ rowsCheck (now (rows .entry)) ⌝ }
+    ensures in_numbers { λ r. ⌜ checkReturns r ≡ rowsReturns (now (rows .entry)) ⌝ }
 {
     let size = rows.len();
     let sized = checks::rows_size(size);

@@ -33,6 +33,11 @@ pub cond-no : {A : Type 0} (b : Bool) (x y : A) → ¬ T b → cond b x y ≡ y
 cond-no true x y t = absurd (t tt)
 cond-no false x y t = refl
 
+-- A function of the choice is the choice of its values.
+pub cond-map : {A B : Type 0} (f : A → B) (b : Bool) (x y : A) → f (cond b x y) ≡ cond b (f x) (f y)
+cond-map f true x y = refl
+cond-map f false x y = refl
+
 -- What holds of the first where the test passes, and of the second where it fails, holds of the choice.
 pub cond-cases : {A : Type 0} (P : A → Type 0) (b : Bool) {x y : A} → (T b → P x) → (¬ T b → P y) → P (cond b x y)
 cond-cases P true first second = first tt

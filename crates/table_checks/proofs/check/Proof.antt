@@ -8,6 +8,7 @@ use lib.ListN.{length, take, length-take}
 use lib.Seq.{take-append-seam}
 use Rattle.table_checks.specs.Checks.{tableCheck, rowsCheck}
 use Rattle.table_checks.specs.laws.Sizes.{rows-size}
+use Rattle.table_checks.specs.laws.Returns.{rows-told}
 use Rattle.table_checks.proofs.check.Statement.{statement}
 use Rattle.table_checks.proofs.check.Tie as tie
 
@@ -26,7 +27,8 @@ enum-told-2 c = search needs
 
 returns : tie.Need-returns
 unfolding rowsCheck
-returns c = rw (← c .before .before .rows-size .ensures, c .enum-told2 .given .1)
+returns c =
+    rows-told (c .before .before .before .before .args .rows .now) (rw (← c .before .before .rows-size .ensures, c .enum-told2 .given .1))
 
 slice-aggregate-widen : tie.Need-slice-aggregate-widen
 slice-aggregate-widen c = search needs
@@ -49,8 +51,9 @@ returns-2 c =
     let at-widen = c .before .before .before in
     let at-told = at-widen .before .before in
     let rows : List ℕ = at-told .before .before .before .before .args .rows .now in
-    rw (← at-told .before .before .rows-size .ensures, at-told .enum-told .given .1)
-    (c .table .ensures ∙ ap tableCheck (ap (take (length rows)) (at-widen .widen .ensures) ∙ take-append-seam rows _))
+    rows-told rows
+    (rw (← at-told .before .before .rows-size .ensures, at-told .enum-told .given .1)
+    (c .table .ensures ∙ ap tableCheck (ap (take (length rows)) (at-widen .widen .ensures) ∙ take-append-seam rows _)))
 
 pub check-spec : {M : Type 1} → statement M
 check-spec =

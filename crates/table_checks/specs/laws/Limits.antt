@@ -11,7 +11,7 @@ use lib.ListN.{length}
 use lib.Dec.{leb, eqb}
 use Rattle.arith.specs.laws.Tests.{by-test, and-both}
 use Rattle.table_checks.specs.declared.Cause.{Cause}
-use Rattle.table_checks.specs.declared.Cause.the-variants.{LineFeed, Notation, Limit}
+use Rattle.table_checks.specs.declared.Cause.the-variants.{FileForm, Notation, Limit}
 use Rattle.table_checks.specs.declared.Checked.the-variants.{Passed}
 use Rattle.table_checks.specs.Columns.{field, between, isIdentifier, within}
 use Rattle.table_checks.specs.Refusal.{failed}
@@ -41,7 +41,7 @@ not-passed e = let z : _≡_ {A = ℕ} 0 1 = cc in absurd (omega arith)
 column-within : (t : List ℕ) (i j : ℕ) → columnCheck t i j ≡ Passed → within j (field t i (j - 1)) (field t i j) ≡ true
 unfolding columnCheck
 column-within t i j e =
-    by-test (eqb (field t i j) unterminated) (λ u. not-passed {cause = LineFeed} {place = i + 1} (simp u at e))
+    by-test (eqb (field t i j) unterminated) (λ u. not-passed {cause = FileForm} {place = i + 1} (simp u at e))
     (λ u. by-test (eqb (field t i j) malformed) (λ m. not-passed {cause = Notation} {place = i + 1} (simp (u, m) at e))
     (λ m. by-test (within j (field t i (j - 1)) (field t i j)) (λ w. w)
     (λ w. not-passed {cause = Limit} {place = i + 1} (simp (u, m, w) at e))))

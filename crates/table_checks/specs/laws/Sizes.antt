@@ -5,7 +5,7 @@ use native.Mathlib.Omega.{arith}
 use borrow.Author.Tests.{eqb-true, eqb-false, ltb-false, eq-eqb, ne-eqb, le-ltb}
 use lib.Dec.{ltb, eqb}
 use Rattle.arith.specs.laws.Tests.{by-test}
-use Rattle.table_checks.specs.declared.Cause.the-variants.{FileLength, TooManyLines, RowsLength}
+use Rattle.table_checks.specs.declared.Cause.the-variants.{FileForm, TooManyLines, RowsLength}
 use Rattle.table_checks.specs.declared.Checked.the-variants.{Passed}
 use Rattle.table_checks.specs.Checks.{fileSizeCheck, rowsSizeCheck}
 use Rattle.table_checks.specs.laws.Limits.{not-passed}
@@ -20,11 +20,11 @@ pub record FileSize (size : ℕ) : Type 0 where
 pub file-size : (size : ℕ) → fileSizeCheck size ≡ Passed → FileSize size
 unfolding fileSizeCheck
 file-size size e =
-    by-test (eqb size 0) (λ a. not-passed {cause = FileLength} {place = 0} (simp a at e))
+    by-test (eqb size 0) (λ a. not-passed {cause = FileForm} {place = 0} (simp a at e))
     (λ a. by-test (eqb (size % 43) 0)
     (λ b. by-test (ltb 64 (size / 43)) (λ c. not-passed {cause = TooManyLines} {place = 0} (simp (a, b, c) at e))
     (λ c. let n = eqb-false size 0 a in record { some = omega arith; whole = eqb-true _ _ b; most = ltb-false _ _ c }))
-    (λ b. not-passed {cause = FileLength} {place = 0} (simp (a, b) at e)))
+    (λ b. not-passed {cause = FileForm} {place = 0} (simp (a, b) at e)))
 
 pub file-sized : (size : ℕ) → FileSize size → fileSizeCheck size ≡ Passed
 unfolding fileSizeCheck

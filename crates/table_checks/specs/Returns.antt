@@ -1,0 +1,27 @@
+-- What the checks return, in numbers (document 01, "Where a call is turned back"): number and place, 0 and 0 where none fails.
+use Prim.Native.Nat.{ℕ, _/_, _%_}
+use mathlib.Core.Bool.{cond, not, _||_}
+use mathlib.Core.List.{List}
+use lib.ListN.{length}
+use lib.Dec.{ltb, eqb}
+use Rattle.table_checks.specs.Frames.{framesOf}
+use Rattle.table_checks.specs.Refusal.{Returned, returned, checkReturns}
+use Rattle.table_checks.specs.Checks.{linesCheck, nodesCheck}
+
+-- the first of two that fails
+abbrev pub firstReturned : Returned → Returned → Returned
+firstReturned a b = cond (eqb (a .number) 0) b a
+
+-- a file's length: 1, then 2
+unfoldable pub fileSizeReturns : ℕ → Returned
+fileSizeReturns size =
+    cond (eqb size 0 || not (eqb (size % 43) 0)) (returned 1 0) (cond (ltb 64 (size / 43)) (returned 2 0) (returned 0 0))
+
+-- the number of numbers in memory: 10
+unfoldable pub rowsSizeReturns : ℕ → Returned
+rowsSizeReturns size = cond (eqb size 0 || (not (eqb (size % 7) 0) || ltb 448 size)) (returned 10 0) (returned 0 0)
+
+-- rows in memory: their size, then line by line, then the nodes
+unfoldable pub rowsReturns : List ℕ → Returned
+rowsReturns rows =
+    firstReturned (rowsSizeReturns (length rows)) (firstReturned (checkReturns (linesCheck rows)) (checkReturns (nodesCheck (framesOf rows))))

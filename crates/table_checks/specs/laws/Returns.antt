@@ -1,0 +1,109 @@
+-- Numbers and places: those of each cause, that they settle what a check found, and those of the checks.
+use Prim.Native.Nat.{ℕ, _-_, _≤_}
+use mathlib.Core.Path.{_≡_, refl, sym, ap, ap₂, _∙_}
+use mathlib.Core.Bool.{cond}
+use mathlib.Core.List.{List, [], _∷_, map}
+use native.Mathlib.Omega.{arith}
+use borrow.Author.Tests.{ne-eqb}
+use lib.Dec.{eqb}
+use lib.ListN.{length, getD}
+use Rattle.arith.specs.laws.Tests.{cond-map}
+use Rattle.table_checks.specs.declared.Cause.{Cause}
+use Rattle.table_checks.specs.declared.Cause.the-variants.{FileForm, TooManyLines, Notation, Limit, Duplicate, Hyperperiod, Releases, OutputArea, RowsLength}
+use Rattle.table_checks.specs.declared.Checked.{Checked}
+use Rattle.table_checks.specs.declared.Checked.the-variants.{Passed, Failed}
+use Rattle.table_checks.specs.Frames.{framesOf}
+use Rattle.table_checks.specs.Refusal.{numberOf, failed, Returned, returned, checkReturns}
+use Rattle.table_checks.specs.Checks.{first, fileSizeCheck, rowsSizeCheck, linesCheck, nodesCheck, tableCheck, rowsCheck}
+use Rattle.table_checks.specs.Returns.{firstReturned, fileSizeReturns, rowsSizeReturns, rowsReturns}
+
+-- ---- the causes
+
+-- by their numbers, from 1 on; none has 9
+abbrev causes : List Cause
+causes = FileForm ∷ TooManyLines ∷ Notation ∷ Limit ∷ Duplicate ∷ Hyperperiod ∷ Releases ∷ OutputArea ∷ RowsLength ∷ []
+
+-- Each is returned with its number and its place.
+pub causes-returned : (place : ℕ) → map (λ cause. checkReturns (failed cause place)) causes ≡ map (λ number. returned number place) (1 ∷ 2 ∷ 3 ∷ 4 ∷ 5 ∷ 6 ∷ 7 ∷ 8 ∷ 10 ∷ [])
+unfolding numberOf checkReturns
+causes-returned place = refl
+
+-- The numbers are 1 to 10.
+pub number-range : (cause : Cause) → (1 ≤ numberOf cause) × (numberOf cause ≤ 10)
+unfolding numberOf
+number-range FileForm = omega arith
+number-range TooManyLines = omega arith
+number-range Notation = omega arith
+number-range Limit = omega arith
+number-range Duplicate = omega arith
+number-range Hyperperiod = omega arith
+number-range Releases = omega arith
+number-range OutputArea = omega arith
+number-range RowsLength = omega arith
+
+number-some : (cause : Cause) → numberOf cause ≡ 0 → ⊥
+number-some cause e = let r = number-range cause in omega arith
+
+-- the cause with a number
+causeOf : ℕ → Cause
+causeOf number = getD causes (number - 1) RowsLength
+
+cause-back : (cause : Cause) → causeOf (numberOf cause) ≡ cause
+unfolding causeOf numberOf
+cause-back FileForm = refl
+cause-back TooManyLines = refl
+cause-back Notation = refl
+cause-back Limit = refl
+cause-back Duplicate = refl
+cause-back Hyperperiod = refl
+cause-back Releases = refl
+cause-back OutputArea = refl
+cause-back RowsLength = refl
+
+-- No two causes have one number.
+pub number-settles : (a b : Cause) → numberOf a ≡ numberOf b → a ≡ b
+number-settles a b e = sym (cause-back a) ∙ ap causeOf e ∙ cause-back b
+
+-- ---- a check
+
+-- the check that returns number and place
+checkOf : Returned → Checked
+checkOf r = cond (eqb (r .number) 0) Passed (failed (causeOf (r .number)) (r .place))
+
+check-back : (c : Checked) → checkOf (checkReturns c) ≡ c
+unfolding checkOf checkReturns
+check-back Passed = refl
+check-back (Failed r) = rw (ne-eqb _ _ (number-some (r .cause)), cause-back (r .cause))
+
+-- Checks that return the same found the same.
+pub check-settles : (a b : Checked) → checkReturns a ≡ checkReturns b → a ≡ b
+check-settles a b e = sym (check-back a) ∙ ap checkOf e ∙ check-back b
+
+first-returned : (a b : Checked) → checkReturns (first a b) ≡ firstReturned (checkReturns a) (checkReturns b)
+unfolding checkReturns
+first-returned Passed b = refl
+first-returned (Failed r) b = rw (ne-eqb _ _ (number-some (r .cause)))
+
+-- ---- the checks
+
+file-size-returned : (size : ℕ) → checkReturns (fileSizeCheck size) ≡ fileSizeReturns size
+unfolding numberOf checkReturns fileSizeCheck fileSizeReturns
+file-size-returned size = simp (cond-map checkReturns)
+
+rows-size-returned : (size : ℕ) → checkReturns (rowsSizeCheck size) ≡ rowsSizeReturns size
+unfolding numberOf checkReturns rowsSizeCheck rowsSizeReturns
+rows-size-returned size = simp (cond-map checkReturns)
+
+rows-returned : (rows : List ℕ) → checkReturns (rowsCheck rows) ≡ rowsReturns rows
+unfolding rowsCheck tableCheck rowsReturns
+rows-returned rows =
+    first-returned (rowsSizeCheck (length rows)) (tableCheck rows)
+    ∙ ap₂ firstReturned (rows-size-returned (length rows)) (first-returned (linesCheck rows) (nodesCheck (framesOf rows)))
+
+-- ---- what the code answers
+
+pub size-told : (size : ℕ) {c : Checked} → c ≡ fileSizeCheck size → (c ≡ fileSizeCheck size) × (checkReturns c ≡ fileSizeReturns size)
+size-told size e = (e, ap checkReturns e ∙ file-size-returned size)
+
+pub rows-told : (rows : List ℕ) {c : Checked} → c ≡ rowsCheck rows → (c ≡ rowsCheck rows) × (checkReturns c ≡ rowsReturns rows)
+rows-told rows e = (e, ap checkReturns e ∙ rows-returned rows)
