@@ -3,3 +3,4 @@ pub mod Storable
 pub mod Layout
 pub mod RoundTrip
 pub mod Areas
+pub mod Returns

@@ -11,9 +11,10 @@ ghost use mathlib.Core.Path.{_≡_};
 ghost use Prim.Native.Nat.{ℕ, _<_, _≤_, _^_};
 ghost use mathlib.Core.List.{_++_};
 ghost use lib.ListN.{length, getD, drop};
+ghost use Rattle.table_checks.specs.Refusal.{checkReturns};
 ghost use Rattle.table_checks.specs.Checks.{fileSizeCheck, tableCheck, rowsCheck};
 ghost use Rattle.frame_table.specs.Text.{fieldsOf, textOf};
-ghost use Rattle.frame_table.specs.Table.{readCheck, answerFor, areaAfter};
+ghost use Rattle.frame_table.specs.Table.{readCheck, answerFor, areaAfter, answerReturns, returnsFor};
 ghost use Rattle.frame_table.specs.Steps.{Storable};
 
 // What an operation with an output area answers: how many elements of it were written, or why none was.
@@ -26,6 +27,7 @@ pub enum Answer {
 pub fn read(file: &[u8], rows: &mut [u32]) -> Answer
     ensures { λ r. ⌜ r ≡ answerFor (readCheck (now (file .entry))) (fieldsOf (now (file .entry))) (now (rows .entry)) ⌝ }
     ensures { λ r. ⌜ now (rows .exit) ≡ areaAfter r (fieldsOf (now (file .entry))) (now (rows .entry)) ⌝ }
+    ensures in_numbers { λ r. ⌜ answerReturns r ≡ returnsFor (checkReturns (readCheck (now (file .entry)))) (fieldsOf (now (file .entry))) (now (rows .entry)) ⌝ }
 {
     let sized = table_checks::check_length(file.len());
     match sized {
@@ -44,7 +46,7 @@ fn read_lines(file: &[u8], rows: &mut [u32]) -> Answer
     let mut fields = [0u64; MOST_NUMBERS];
     text::read_fields(file, lines, &mut fields);
     let size = ROW * lines;
-    let checked = table_checks::table(&fields[..size]);
+    let checked = table_checks::check_fields(&fields[..size]);
     store(checked, &fields[..size], rows)
 }
 
@@ -70,6 +72,7 @@ fn store(checked: Checked, fields: &[u64], rows: &mut [u32]) -> Answer
 pub fn write(rows: &[u32], file: &mut [u8]) -> Answer
     ensures { λ r. ⌜ r ≡ answerFor (rowsCheck (now (rows .entry))) (textOf (now (rows .entry))) (now (file .entry)) ⌝ }
     ensures { λ r. ⌜ now (file .exit) ≡ areaAfter r (textOf (now (rows .entry))) (now (file .entry)) ⌝ }
+    ensures in_numbers { λ r. ⌜ answerReturns r ≡ returnsFor (checkReturns (rowsCheck (now (rows .entry)))) (textOf (now (rows .entry))) (now (file .entry)) ⌝ }
 {
     let checked = table_checks::check(rows);
     match checked {

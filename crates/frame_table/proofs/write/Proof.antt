@@ -6,12 +6,13 @@ use Rattle.table_checks.specs.Checks.{rowsCheck}
 use Rattle.frame_table.specs.Text.{textOf}
 use Rattle.frame_table.specs.laws.Layout.{length-text}
 use Rattle.frame_table.specs.laws.Areas.{area-refused, area-short, area-written}
+use Rattle.frame_table.specs.laws.Returns.{answer-told}
 use Rattle.frame_table.proofs.write.Statement.{statement}
 use Rattle.frame_table.proofs.write.Tie as tie
 
 -- the rows passed
 passed : (c : tie.After-enum-told) → rowsCheck (c .before .before .before .before .before .args .rows .now) ≡ Passed
-passed c = sym (c .before .before .check .ensures) ∙ c .enum-told .given .1
+passed c = sym (c .before .before .check .ensures .0) ∙ c .enum-told .given .1
 
 check-requires : tie.Need-check-requires
 check-requires c κs = search needs
@@ -30,7 +31,7 @@ no-room-requires c κs = search needs
 
 returns : tie.Need-returns
 returns c =
-    area-short _ _ _ _ _ (length-text _) (passed (c .before .before)) (c .before .if1 .taken) (c .no-room .ensures)
+    answer-told _ _ _ (area-short _ _ _ _ _ (length-text _) (passed (c .before .before)) (c .before .if1 .taken) (c .no-room .ensures))
 
 write-lines-requires : tie.Need-write-lines-requires
 write-lines-requires c κs = search needs
@@ -39,7 +40,7 @@ mul-t7 : tie.Need-mul-t7
 mul-t7 c = search needs
 
 returns-2 : tie.Need-returns-2
-returns-2 c = area-refused _ _ _ _ _ (sym (c .before .before .before .check .ensures) ∙ c .before .checked .given .1) refl
+returns-2 c = answer-told _ _ _ (area-refused _ _ _ _ _ (sym (c .before .before .before .check .ensures .0) ∙ c .before .checked .given .1) refl)
 
 same-length : tie.Need-same-length
 same-length c = search needs
@@ -49,7 +50,7 @@ unfolding textOf
 returns-3 c =
     let at-if1 = c .before .before .before .before in
     let rows = at-if1 .before .before .before .before .before .before .args .rows .now in
-    area-written _ _ _ _ _ (length-text rows) (passed (at-if1 .before)) (at-if1 .if1 .left) (c .before .before .write-lines .ensures)
+    answer-told _ _ _ (area-written _ _ _ _ _ (length-text rows) (passed (at-if1 .before)) (at-if1 .if1 .left) (c .before .before .write-lines .ensures))
 
 pub write-spec : {M : Type 1} → statement M
 write-spec =

@@ -11,8 +11,11 @@ use Rattle.arith.specs.laws.Lines.{Lines, length-lines}
 use Rattle.decimal.specs.Decimal.{writeColumn}
 use Rattle.decimal.specs.Laws.{length-write}
 use Rattle.table_checks.specs.Columns.{field, widthOf, startOf}
+use Rattle.table_checks.specs.declared.Checked.the-variants.{Passed}
+use Rattle.table_checks.specs.Checks.{fileSizeCheck}
 use Rattle.table_checks.specs.laws.Limits.{by-column}
-use Rattle.frame_table.specs.Text.{fieldAt, fieldsFrom, columnsFrom, lineOf, linesFrom, textOf}
+use Rattle.table_checks.specs.laws.Sizes.{RowsSize, file-size}
+use Rattle.frame_table.specs.Text.{fieldAt, fieldsFrom, fieldsOf, columnsFrom, lineOf, linesFrom, textOf}
 
 -- ---- a column
 
@@ -87,6 +90,14 @@ length-text rows = length-lines (table-lines rows) (length rows / 7) 0
 pub length-fields : (file : List ℕ) (n k : ℕ) → length (fieldsFrom file n k) ≡ n
 length-fields file zero k = refl
 length-fields file (suc n) k = ap suc (length-fields file n (k + 1))
+
+-- There are as many in a file whose size is right as a table can have.
+pub fields-size : (file : List ℕ) → fileSizeCheck (length file) ≡ Passed → RowsSize (length (fieldsOf file))
+unfolding fieldsOf
+fields-size file e =
+    let s = file-size (length file) e in
+    let size = length-fields file (7 * (length file / 43)) 0 in
+    record { some = omega (arith, s .some, s .whole); whole = omega arith; most = omega (arith, s .most) }
 
 fields-at : (file : List ℕ) (n k f : ℕ) → f < n → getD (fieldsFrom file n k) f 0 ≡ fieldAt file ((k + f) / 7) ((k + f) % 7)
 fields-at file zero k f l = absurd (omega arith)

@@ -21,11 +21,11 @@ use Rattle.table_checks.specs.Columns.{field, widthOf, startOf}
 use Rattle.table_checks.specs.Checks.{unterminated, tableCheck, rowsCheck}
 use Rattle.table_checks.specs.laws.First.{first-passed}
 use Rattle.table_checks.specs.laws.Limits.{Limits, identified-max, by-column, field-small, lines-each}
-use Rattle.table_checks.specs.laws.Sizes.{FileSize, RowsSize, file-size, file-sized, rows-size, rows-sized}
+use Rattle.table_checks.specs.laws.Sizes.{FileSize, file-size, file-sized, rows-size, sized-check}
 use Rattle.frame_table.specs.Text.{fieldOf, columnAt, terminated, fieldAt, fieldsFrom, fieldsOf, linesFrom, textOf}
 use Rattle.frame_table.specs.Table.{readCheck}
 use Rattle.frame_table.specs.laws.Storable.{storable}
-use Rattle.frame_table.specs.laws.Layout.{start-next, end-most, line-column, line-feed, table-lines, length-fields, field-at, field-in}
+use Rattle.frame_table.specs.laws.Layout.{start-next, end-most, line-column, line-feed, table-lines, length-fields, fields-size, field-at, field-in}
 
 -- ---- what stands in the text of rows
 
@@ -143,7 +143,7 @@ read-text rows e =
 
 -- The table of a file is written back as the file.
 pub text-read : (file : List ℕ) → readCheck file ≡ Passed → (rowsCheck (fieldsOf file) ≡ Passed) × (textOf (fieldsOf file) ≡ file)
-unfolding rowsCheck readCheck textOf fieldsOf
+unfolding readCheck textOf fieldsOf
 text-read file e =
     let both = first-passed _ _ e in
     let s = file-size (length file) (both .0) in
@@ -153,5 +153,4 @@ text-read file e =
     let lines : length t / 7 ≡ n = omega arith in
     let small : (i j : ℕ) → i < n → j < 7 → fieldAt file i j < 2 ^ 32
     = λ i j h l. rw (field-in file n i j h l) at (storable t (omega arith) Passed (sym (both .1)) (7 * i + j) (omega arith)) in
-    let fits : RowsSize (length t) = record { some = omega (arith, s .some); whole = omega arith; most = omega (arith, s .most) } in
-    (rw (rows-sized _ fits) (both .1), rw lines (fields-text file n (omega (arith, s .whole)) small))
+    (sized-check t (fields-size file (both .0)) ∙ both .1, rw lines (fields-text file n (omega (arith, s .whole)) small))

@@ -20,7 +20,7 @@ use Rattle.table_checks.specs.Returns.{firstReturned, fileSizeReturns, r
 -- ---- the causes
 
 -- by their numbers, from 1 on; none has 9
-abbrev causes : List Cause
+abbrev pub causes : List Cause
 causes = FileForm ∷ TooManyLines ∷ Notation ∷ Limit ∷ Duplicate ∷ Hyperperiod ∷ Releases ∷ OutputArea ∷ RowsLength ∷ []
 
 -- Each is returned with its number and its place.
@@ -41,14 +41,14 @@ number-range Releases = omega arith
 number-range OutputArea = omega arith
 number-range RowsLength = omega arith
 
-number-some : (cause : Cause) → numberOf cause ≡ 0 → ⊥
+pub number-some : (cause : Cause) → numberOf cause ≡ 0 → ⊥
 number-some cause e = let r = number-range cause in omega arith
 
 -- the cause with a number
-causeOf : ℕ → Cause
+pub causeOf : ℕ → Cause
 causeOf number = getD causes (number - 1) RowsLength
 
-cause-back : (cause : Cause) → causeOf (numberOf cause) ≡ cause
+pub cause-back : (cause : Cause) → causeOf (numberOf cause) ≡ cause
 unfolding causeOf numberOf
 cause-back FileForm = refl
 cause-back TooManyLines = refl

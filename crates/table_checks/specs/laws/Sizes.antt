@@ -1,13 +1,15 @@
 -- What is known of a size that passed its check.
 use Prim.Native.Nat.{ℕ, _/_, _%_, _≤_, _<_}
 use mathlib.Core.Path.{_≡_}
+use mathlib.Core.List.{List}
 use native.Mathlib.Omega.{arith}
 use borrow.Author.Tests.{eqb-true, eqb-false, ltb-false, eq-eqb, ne-eqb, le-ltb}
 use lib.Dec.{ltb, eqb}
+use lib.ListN.{length}
 use Rattle.arith.specs.laws.Tests.{by-test}
 use Rattle.table_checks.specs.declared.Cause.the-variants.{FileForm, TooManyLines, RowsLength}
 use Rattle.table_checks.specs.declared.Checked.the-variants.{Passed}
-use Rattle.table_checks.specs.Checks.{fileSizeCheck, rowsSizeCheck}
+use Rattle.table_checks.specs.Checks.{fileSizeCheck, rowsSizeCheck, tableCheck, rowsCheck}
 use Rattle.table_checks.specs.laws.Limits.{not-passed}
 
 -- ---- a file's
@@ -53,3 +55,8 @@ unfolding rowsSizeCheck
 rows-sized size s =
     let n : size ≡ 0 → ⊥ = omega (arith, s .some) in
     simp (ne-eqb _ _ n, eq-eqb _ _ (s .whole), le-ltb _ _ (s .most))
+
+-- Where the size is right, the table's own check is left.
+pub sized-check : (t : List ℕ) → RowsSize (length t) → rowsCheck t ≡ tableCheck t
+unfolding rowsCheck
+sized-check t s = rw (rows-sized (length t) s)
