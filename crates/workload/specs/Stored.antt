@@ -20,6 +20,10 @@ storedAt t i =
 unfoldable pub stored : List ℕ → List Frame
 stored t = map (storedAt t) (range 0 (length t / 6))
 
+-- what was put as the inverse of frame i, 0 where there is none
+abbrev pub inverseAt : List ℕ → ℕ → ℕ
+inverseAt t i = getD t (6 * i + 5) 0
+
 -- with frame g put at place i, and v as its inverse
 unfoldable pub putAt : List ℕ → ℕ → Frame → ℕ → List ℕ
 putAt t i g v =

@@ -5,7 +5,7 @@ ghost use mathlib.Core.Path.{_≡_};
 ghost use Prim.Native.Nat.{ℕ, _+_, _*_, _≤_, _<_, _^_};
 ghost use lib.ListN.{length};
 ghost use Rattle.bus_model.specs.Frame.{row};
-ghost use Rattle.workload.specs.Stored.{stored, putAt};
+ghost use Rattle.workload.specs.Stored.{stored, inverseAt, putAt};
 
 // So many numbers has a frame.
 pub const FRAME: usize = 6;
@@ -49,8 +49,10 @@ pub fn frame_at(frames: &[u32], i: usize) -> Frame
     }
 }
 
-// The inverse of frame i, 0 where there is none.
-pub fn inverse_at(frames: &[u32], i: usize) -> u32 {
+// The inverse of frame i, as it was put there, 0 where there is none.
+pub fn inverse_at(frames: &[u32], i: usize) -> u32
+    ensures { λ r. ⌜ r ≡ inverseAt (now (frames .entry)) i ⌝ }
+{
     if frames.len() / FRAME <= i {
         return 0;
     }
