@@ -1,4 +1,5 @@
 -- What judging a row and computing its precise bound answer; below `laws` what is proved of it.
 pub mod Refusal
 pub mod Judge
+pub mod Returns
 pub mod laws

@@ -1,3 +1,4 @@
 -- What is proved of these definitions.
 pub mod Stored
 pub mod Judged
+pub mod Returns

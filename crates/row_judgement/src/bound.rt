@@ -12,15 +12,18 @@ ghost use Prim.Native.Nat.{_≤_, _<_};
 ghost use lib.ListN.{length, take};
 ghost use Rattle.bus_model.specs.Frame.{row};
 ghost use Rattle.table_checks.specs.Frames.{framesOf};
-ghost use Rattle.table_checks.specs.Checks.{Accepted};
+ghost use Rattle.table_checks.specs.Refusal.{checkReturns};
+ghost use Rattle.table_checks.specs.Checks.{rowsCheck, Accepted};
 ghost use Rattle.workload.specs.Stored.{stored};
 ghost use Rattle.delay_search.specs.Ready.{Ready};
 ghost use Rattle.workload.specs.Grouped.{FineTable};
 ghost use Rattle.row_judgement.specs.Judge.{boundFrame, boundRow};
+ghost use Rattle.row_judgement.specs.Returns.{boundedReturns, boundReturns};
 
 // The precise bound of a row.
 pub fn precise_bound(rows: &[u32], row: u64) -> Bounded
     ensures { λ r. ⌜ r ≡ boundRow (now (rows .entry)) row ⌝ }
+    ensures in_numbers { λ r. ⌜ boundedReturns r ≡ boundReturns (checkReturns (rowsCheck (now (rows .entry)))) (now (rows .entry)) row ⌝ }
 {
     let checked = table_checks::check(rows);
     match checked {

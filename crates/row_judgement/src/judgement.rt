@@ -19,19 +19,21 @@ ghost use Rattle.bus_model.specs.Bus.{MeetsClaim};
 ghost use Rattle.bus_model.specs.declared.Judgement.{Judgement};
 ghost use Rattle.bus_model.specs.Judgement.{verdict, judge, MarginSign};
 ghost use Rattle.table_checks.specs.Frames.{framesOf};
-ghost use Rattle.table_checks.specs.Checks.{Accepted};
+ghost use Rattle.table_checks.specs.Refusal.{checkReturns};
+ghost use Rattle.table_checks.specs.Checks.{rowsCheck, Accepted};
 ghost use Rattle.workload.specs.Stored.{stored};
 ghost use Rattle.delay_search.specs.Ready.{Ready};
 ghost use Rattle.workload.specs.Grouped.{FineTable, InTable};
 ghost use Rattle.row_judgement.specs.declared.Judged.the-variants.{Verdict};
 ghost use Rattle.row_judgement.specs.Judge.{claimOf, judgeRow, certified};
+ghost use Rattle.row_judgement.specs.Returns.{judgedReturns, judgeReturns};
 
 // Judges the claim of a row. Where it certifies the frame, no instance of it is late, in any schedule. The margin is below zero
 // exactly for verdicts 3 and 12.
 pub fn judge(rows: &[u32], row: u64) -> Judged
     ensures { λ r. ⌜ r ≡ judgeRow (now (rows .entry)) row ⌝ }
     ensures never_late { λ r. ⌜ (T (certified r) → MeetsClaim (framesOf (now (rows .entry))) row (claimOf (now (rows .entry)) row)) ⌝ }
-    ensures margin_sign { λ r. ⌜ ((j : Judgement) → r ≡ Verdict j → MarginSign j) ⌝ }
+    ensures in_numbers { λ r. ⌜ judgedReturns r ≡ judgeReturns (checkReturns (rowsCheck (now (rows .entry)))) (now (rows .entry)) row ⌝ }
 {
     let checked = table_checks::check(rows);
     match checked {

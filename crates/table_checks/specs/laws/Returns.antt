@@ -45,7 +45,7 @@ pub number-some : (cause : Cause) → numberOf cause ≡ 0 → ⊥
 number-some cause e = let r = number-range cause in omega arith
 
 -- the cause with a number
-pub causeOf : ℕ → Cause
+unfoldable pub causeOf : ℕ → Cause
 causeOf number = getD causes (number - 1) RowsLength
 
 pub cause-back : (cause : Cause) → causeOf (numberOf cause) ≡ cause

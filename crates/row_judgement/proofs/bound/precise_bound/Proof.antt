@@ -5,6 +5,7 @@ use borrow.Author.Tests.{lt-leb, le-leb}
 use Rattle.table_checks.specs.Checks.{Accepted}
 use Rattle.row_judgement.specs.Judge.{boundRow, boundChecked}
 use Rattle.row_judgement.specs.laws.Judged.{row-inside}
+use Rattle.row_judgement.specs.laws.Returns.{bounded-told}
 use Rattle.row_judgement.proofs.bound.precise_bound.Statement.{statement}
 use Rattle.row_judgement.proofs.bound.precise_bound.Tie as tie
 
@@ -25,11 +26,13 @@ start c = c .before .before
 
 -- the table passed
 passed : (c : tie.After-enum-told) → Accepted (start (c .before .before) .args .rows .now)
-passed c = sym (c .before .before .check .ensures) ∙ c .enum-told .given .1
+passed c = sym (c .before .before .check .ensures .0) ∙ c .enum-told .given .1
 
 returns : tie.Need-returns
 unfolding boundRow boundChecked
-returns c = rw (passed (c .before), le-leb _ _ (c .if1 .taken))
+returns c =
+    let s = start (c .before .before .before) in
+    bounded-told (s .args .rows .now) (s .args .row) (rw (passed (c .before), le-leb _ _ (c .if1 .taken)))
 
 bound-row-requires : tie.Need-bound-row-requires
 bound-row-requires c κs =
@@ -38,11 +41,15 @@ bound-row-requires c κs =
 
 returns-2 : tie.Need-returns-2
 unfolding boundRow boundChecked
-returns-2 c = rw (sym (c .before .before .before .before .check .ensures) ∙ c .before .before .checked .given .1, c .of-table .ensures)
+returns-2 c =
+    let s = start (c .before .before .before .before) in
+    bounded-told (s .args .rows .now) (s .args .row) (rw (sym (c .before .before .before .before .check .ensures .0) ∙ c .before .before .checked .given .1, c .of-table .ensures))
 
 returns-3 : tie.Need-returns-3
 unfolding boundRow boundChecked
-returns-3 c = rw (passed (c .before .before), lt-leb _ _ (c .before .if1 .left)) (c .bound-row .ensures)
+returns-3 c =
+    let s = start (c .before .before .before .before) in
+    bounded-told (s .args .rows .now) (s .args .row) (rw (passed (c .before .before), lt-leb _ _ (c .before .if1 .left)) (c .bound-row .ensures))
 
 pub precise-bound-spec : {M : Type 1} → statement M
 precise-bound-spec =

@@ -6,7 +6,8 @@ use borrow.Author.Tests.{lt-leb, le-leb}
 use Rattle.table_checks.specs.Checks.{Accepted}
 use Rattle.row_judgement.specs.declared.Judged.the-variants.{Verdict}
 use Rattle.row_judgement.specs.Judge.{judgeRow, judgeChecked}
-use Rattle.row_judgement.specs.laws.Judged.{row-inside, answered}
+use Rattle.row_judgement.specs.laws.Judged.{row-inside}
+use Rattle.row_judgement.specs.laws.Returns.{judged-told}
 use Rattle.row_judgement.proofs.judgement.judge.Statement.{statement}
 use Rattle.row_judgement.proofs.judgement.judge.Tie as tie
 
@@ -27,13 +28,13 @@ start c = c .before .before
 
 -- the table passed
 passed : (c : tie.After-enum-told) → Accepted (start (c .before .before) .args .rows .now)
-passed c = sym (c .before .before .check .ensures) ∙ c .enum-told .given .1
+passed c = sym (c .before .before .check .ensures .0) ∙ c .enum-told .given .1
 
 returns : tie.Need-returns
 unfolding judgeRow judgeChecked
 returns c =
     let s = start (c .before .before .before) in
-    answered (s .args .rows .now) (s .args .row) (rw (passed (c .before), le-leb _ _ (c .if1 .taken)))
+    judged-told (s .args .rows .now) (s .args .row) (rw (passed (c .before), le-leb _ _ (c .if1 .taken)))
 
 judge-row-requires : tie.Need-judge-row-requires
 judge-row-requires c κs =
@@ -44,13 +45,13 @@ returns-2 : tie.Need-returns-2
 unfolding judgeRow judgeChecked
 returns-2 c =
     let s = start (c .before .before .before .before) in
-    answered (s .args .rows .now) (s .args .row) (rw (sym (c .before .before .before .before .check .ensures) ∙ c .before .before .checked .given .1, c .of-table .ensures))
+    judged-told (s .args .rows .now) (s .args .row) (rw (sym (c .before .before .before .before .check .ensures .0) ∙ c .before .before .checked .given .1, c .of-table .ensures))
 
 returns-3 : tie.Need-returns-3
 unfolding judgeRow judgeChecked
 returns-3 c =
     let s = start (c .before .before .before .before) in
-    answered (s .args .rows .now) (s .args .row) (ap Verdict (c .judge-row .ensures) ∙ rw (passed (c .before .before), lt-leb _ _ (c .before .if1 .left)))
+    judged-told (s .args .rows .now) (s .args .row) (rw (passed (c .before .before), lt-leb _ _ (c .before .if1 .left), c .judge-row .ensures))
 
 pub judge-spec : {M : Type 1} → statement M
 judge-spec =
