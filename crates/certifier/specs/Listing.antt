@@ -1,4 +1,4 @@
--- The listing of a table: a line a row, in table order (document 01, "The listing").
+-- The listing of a table: a line a row, in table order, or the line of a refusal (document 01, "The listing").
 use Prim.Native.Nat.{ℕ, zero, suc, _+_, _/_}
 use mathlib.Core.List.{List, [], _∷_, _++_}
 use lib.ListN.{length}
@@ -27,3 +27,7 @@ linesFrom rows (suc n) i = lineOf rows i ++ linesFrom rows n (i + 1)
 -- all lines
 unfoldable pub listingOf : List ℕ → List ℕ
 listingOf rows = linesFrom rows (length rows / 7) 0
+
+-- of a refused table: number (3), place (6), and a line feed
+unfoldable pub refusalLine : ℕ → ℕ → List ℕ
+refusalLine number place = writeColumn 3 number ++ (writeColumn 6 place ++ (10 ∷ []))

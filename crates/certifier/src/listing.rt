@@ -1,20 +1,24 @@
 // The listing of a table: a line a row, in table order.
 use bus_model::Judgement;
 use frame_table::Answer;
-use table_checks::Cause;
-use table_checks::Refusal;
+use frame_table::no_room;
+use row_judgement::Refusal;
 ghost use mathlib.Core.Path.{_≡_};
 ghost use Prim.Native.Nat.{_*_, _/_, _<_, _≤_};
 ghost use mathlib.Core.List.{_++_};
 ghost use lib.ListN.{length, drop};
+ghost use Rattle.table_checks.specs.Refusal.{returned, checkReturns};
 ghost use Rattle.table_checks.specs.Checks.{Accepted};
 ghost use Rattle.table_checks.specs.declared.Checked.the-variants.{Passed};
 ghost use Rattle.frame_table.specs.Text.{fieldsOf};
-ghost use Rattle.frame_table.specs.Table.{readCheck, answerFor, areaAfter};
-ghost use Rattle.certifier.specs.Listing.{listingLine, lineOf, linesFrom, listingOf};
+ghost use Rattle.frame_table.specs.Table.{readCheck, answerFor, areaAfter, answerReturns, returnsFor};
+ghost use Rattle.row_judgement.specs.Refusal.{numberOf};
+ghost use Rattle.certifier.specs.Listing.{listingLine, lineOf, linesFrom, listingOf, refusalLine};
 
-// The characters of a line with its line feed.
+// The characters of a line with its line feed, and of the line of a refusal.
 pub const LINE: usize = 31;
+
+pub const REFUSAL_LINE: usize = 10;
 
 const LINE_FEED: u8 = 10;
 
@@ -22,6 +26,7 @@ const LINE_FEED: u8 = 10;
 pub fn list(file: &[u8], out: &mut [u8]) -> Answer
     ensures { λ r. ⌜ r ≡ answerFor (readCheck (now (file .entry))) (listingOf (fieldsOf (now (file .entry)))) (now (out .entry)) ⌝ }
     ensures { λ r. ⌜ now (out .exit) ≡ areaAfter r (listingOf (fieldsOf (now (file .entry)))) (now (out .entry)) ⌝ }
+    ensures in_numbers { λ r. ⌜ answerReturns r ≡ returnsFor (checkReturns (readCheck (now (file .entry)))) (listingOf (fieldsOf (now (file .entry)))) (now (out .entry)) ⌝ }
 {
     let mut rows = [0u32; table_checks::MOST_NUMBERS];
     let answer = frame_table::read(file, &mut rows);
@@ -39,10 +44,7 @@ fn list_rows(rows: &[u32], out: &mut [u8]) -> Answer
 {
     let lines = rows.len() / table_checks::ROW;
     if out.len() < LINE * lines {
-        return Answer::Refused(Refusal {
-            cause: Cause::OutputArea,
-            place: 0,
-        });
+        return no_room();
     }
     write_lines(rows, lines, out);
     Answer::Done(LINE * lines)
@@ -84,4 +86,20 @@ fn write_line(identifier: u32, judgement: Judgement, line: &mut [u8])
     decimal::write(&mut line[13..21], judgement.bound as u64);
     decimal::write_signed(&mut line[21..30], judgement.margin);
     line[LINE - 1] = LINE_FEED;
+}
+
+// Writes the line of a refusal: number and place, and a line feed.
+pub fn write_refusal(refusal: Refusal, out: &mut [u8]) -> Answer
+    ensures { λ r. ⌜ r ≡ answerFor Passed (refusalLine (numberOf (refusal .cause)) (refusal .place)) (now (out .entry)) ⌝ }
+    ensures { λ r. ⌜ now (out .exit) ≡ areaAfter r (refusalLine (numberOf (refusal .cause)) (refusal .place)) (now (out .entry)) ⌝ }
+    ensures in_numbers { λ r. ⌜ answerReturns r ≡ returnsFor (returned 0 0) (refusalLine (numberOf (refusal .cause)) (refusal .place)) (now (out .entry)) ⌝ }
+{
+    if out.len() < REFUSAL_LINE {
+        return no_room();
+    }
+    let cause = refusal.cause;
+    decimal::write(&mut out[0..3], row_judgement::number(cause) as u64);
+    decimal::write(&mut out[3..9], refusal.place as u64);
+    out[REFUSAL_LINE - 1] = LINE_FEED;
+    Answer::Done(REFUSAL_LINE)
 }

@@ -88,8 +88,8 @@ pub fn write(rows: &[u32], file: &mut [u8]) -> Answer
     }
 }
 
-// The output area is shorter than the result.
-fn no_room() -> Answer
+// The answer where the output area is shorter than the result.
+pub fn no_room() -> Answer
     ensures { λ r. ⌜ r ≡ Answer.Refused (record { cause = Cause.OutputArea; place = 0 }) ⌝ }
 {
     Answer::Refused(Refusal {

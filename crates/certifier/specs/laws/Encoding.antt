@@ -16,21 +16,16 @@ use Rattle.bus_model.specs.declared.Judgement.{Judgement}
 use Rattle.bus_model.specs.Frame.{row}
 use Rattle.bus_model.specs.Pattern.{ofNode, hyperperiod, patternReleases}
 use Rattle.bus_model.specs.Judgement.{verdict, lacksWindow, tooManyScenarios}
-use Rattle.table_checks.specs.declared.Cause.{Cause as TableCause}
-use Rattle.table_checks.specs.declared.Cause.the-variants.{FileLength, LineFeed, TooManyLines, Notation, Limit, Duplicate, Hyperperiod, Releases, OutputArea, RowsLength}
 use Rattle.table_checks.specs.declared.Checked.{Checked}
 use Rattle.table_checks.specs.declared.Checked.the-variants.{Passed, Failed}
 use Rattle.table_checks.specs.Columns.{field, within}
 use Rattle.table_checks.specs.Frames.{framesOf}
-use Rattle.table_checks.specs.Refusal.{numberOf as tableNumberOf}
 use Rattle.table_checks.specs.Checks.{first, firstOf, fileSizeCheck, rowsSizeCheck, malformed, unterminated, columnCheck, columnsCheck, standsEarlier, lineCheck, linesCheck, nodeCheck, nodesCheck, tableCheck, rowsCheck}
 use Rattle.table_checks.specs.laws.Accepted.{accepted-size}
 use Rattle.table_checks.specs.laws.Sizes.{file-size, rows-size}
 use Rattle.frame_table.specs.Text.{fieldsOf}
 use Rattle.frame_table.specs.Table.{readCheck}
 use Rattle.frame_table.specs.laws.Layout.{length-fields}
-use Rattle.row_judgement.specs.declared.Cause.{Cause}
-use Rattle.row_judgement.specs.declared.Cause.the-variants.{Table, NoSuchRow, NoWindow as NoWindowCause, TooManyScenarios}
 use Rattle.row_judgement.specs.declared.Refusal.{Refusal}
 use Rattle.row_judgement.specs.declared.Judged.{Judged}
 use Rattle.row_judgement.specs.declared.Judged.the-variants.{Verdict, NotJudged}
@@ -38,32 +33,12 @@ use Rattle.row_judgement.specs.declared.Bounded.{Bounded}
 use Rattle.row_judgement.specs.declared.Bounded.the-variants.{Bound, NotBounded}
 use Rattle.row_judgement.specs.Refusal.{numberOf}
 use Rattle.row_judgement.specs.Judge.{noRow, judgeChecked, judgeRow, boundFrame, boundChecked, boundRow}
+use Rattle.row_judgement.specs.laws.Returns.{number-range}
 use Rattle.certifier.specs.Encode.{judgeRead, judgeFile, boundRead, boundFile, encodeRefusal, encodeJudged, encodeBounded}
 use Rattle.certifier.specs.Steps.{Encodable}
 use Rattle.certifier.specs.laws.Small.{judged-encodable}
 
 -- ---- the parts
-
--- The numbers of causes are 1 to 12.
-table-number-range : (cause : TableCause) → (1 ≤ tableNumberOf cause) × (tableNumberOf cause ≤ 12)
-unfolding tableNumberOf
-table-number-range FileLength = omega arith
-table-number-range LineFeed = omega arith
-table-number-range TooManyLines = omega arith
-table-number-range Notation = omega arith
-table-number-range Limit = omega arith
-table-number-range Duplicate = omega arith
-table-number-range Hyperperiod = omega arith
-table-number-range Releases = omega arith
-table-number-range OutputArea = omega arith
-table-number-range RowsLength = omega arith
-
-pub number-range : (cause : Cause) → (1 ≤ numberOf cause) × (numberOf cause ≤ 12)
-unfolding numberOf
-number-range (Table cause) = table-number-range cause
-number-range NoSuchRow = omega arith
-number-range NoWindowCause = omega arith
-number-range TooManyScenarios = omega arith
 
 pub verdict-max : (outcome : Outcome) → verdict outcome ≤ 12
 unfolding verdict

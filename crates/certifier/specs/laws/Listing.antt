@@ -1,10 +1,10 @@
 -- The lines of the listing: how long they are, and a line written column by column.
-use Prim.Native.Nat.{ℕ, _*_, _/_}
+use Prim.Native.Nat.{ℕ, _*_, _/_, _≤_}
 use mathlib.Core.Path.{_≡_, refl, _∙_}
-use mathlib.Core.List.{List, append-assoc}
+use mathlib.Core.List.{List, _++_, append-assoc}
 use native.Mathlib.Omega.{arith}
 use lib.IntN.{ℤ}
-use lib.ListN.{length, set, length-append}
+use lib.ListN.{length, set, drop, length-append}
 use borrow.Rule.Slice.PartMut.{midOf, putMid}
 use Rattle.arith.specs.laws.Overwriting.{begun-none, begun-filled, begun-element, begun-all}
 use Rattle.arith.specs.laws.Lines.{Lines, length-lines}
@@ -12,7 +12,7 @@ use Rattle.decimal.specs.Decimal.{writeColumn, writeSigned}
 use Rattle.decimal.specs.Laws.{length-write, length-signed}
 use Rattle.bus_model.specs.declared.Judgement.{Judgement}
 use Rattle.bus_model.specs.Judgement.{verdict}
-use Rattle.certifier.specs.Listing.{listingLine, lineOf, linesFrom, listingOf}
+use Rattle.certifier.specs.Listing.{listingLine, lineOf, linesFrom, listingOf, refusalLine}
 
 length-line : (identifier : ℕ) (j : Judgement) → length (listingLine identifier j) ≡ 31
 unfolding listingLine
@@ -41,3 +41,20 @@ line-written identifier v m j line a b c d size verdict-is margin-is p q r s =
     let three = begun-filled _ line _ 13 two (λ w. writeColumn w (j .bound)) (λ w. length-write w (j .bound)) c 8 (omega arith) r in
     let four = begun-filled _ line _ 21 three (λ w. writeSigned w m) (λ w. length-signed w m) d 9 (omega arith) s in
     begun-all _ line _ 31 (begun-element _ line _ 30 four 10 (omega arith)) size ∙ simp (append-assoc, verdict-is, margin-is)
+
+-- ---- the line of a refusal
+
+pub length-refusal : (number place : ℕ) → length (refusalLine number place) ≡ 10
+unfolding refusalLine
+length-refusal number place = simp (length-append, length-write)
+
+-- The two columns and the line feed, one behind the other, are the line, and what stood behind it stays.
+pub refusal-written : (number n place : ℕ) (out a b : List ℕ) → 10 ≤ length out → n ≡ number
+    → a ≡ writeColumn (length (midOf 0 3 out)) n
+    → b ≡ writeColumn (length (midOf 3 6 (putMid 0 3 out a))) place
+    → set (putMid 3 6 (putMid 0 3 out a) b) 9 10 ≡ refusalLine number place ++ drop 10 out
+unfolding refusalLine
+refusal-written number n place out a b room number-is p q =
+    let one = begun-filled _ out _ 0 (begun-none out) (λ w. writeColumn w n) (λ w. length-write w n) a 3 (omega arith) p in
+    let two = begun-filled _ out _ 3 one (λ w. writeColumn w place) (λ w. length-write w place) b 6 (omega arith) q in
+    begun-element _ out _ 9 two 10 (omega arith) .is ∙ simp (append-assoc, number-is)

@@ -30,7 +30,7 @@ enum-known-answer-2 c = search needs
 
 -- what was read is the table
 table : (c : tie.After-known-told2) → ReadRows (c .before .before .before .before .before .before .before .args .table .now) (c .before .before .before .before .read .last .1 .0) (c .before .answer2 .given .0 .0)
-table c = let r = c .before .before .before .before .read in read-rows _ _ _ refl (r .ensures .0) _ _ (r .ensures .1) (c .before .answer2 .given .1)
+table c = let r = c .before .before .before .before .read in read-rows _ _ _ refl (r .ensures .0) _ _ (r .ensures .1 .0) (c .before .answer2 .given .1)
 
 array-share-prefix-rows : tie.Need-array-share-prefix-rows
 array-share-prefix-rows c = table c .room

@@ -30,7 +30,7 @@ enum-known-answer-2 c = search needs
 
 -- what was read is the table
 table : (c : tie.After-known-told2) → ReadRows (c .before .before .before .before .before .before .before .args .table .now) (c .before .before .before .before .read .last .1 .0) (c .before .answer2 .given .0 .0)
-table c = let r = c .before .before .before .before .read in read-rows _ _ _ refl (r .ensures .0) _ _ (r .ensures .1) (c .before .answer2 .given .1)
+table c = let r = c .before .before .before .before .read in read-rows _ _ _ refl (r .ensures .0) _ _ (r .ensures .1 .0) (c .before .answer2 .given .1)
 
 array-share-prefix-rows : tie.Need-array-share-prefix-rows
 array-share-prefix-rows c = table c .room
@@ -57,7 +57,7 @@ returns-2 c =
     let t = table (c .before .before .before) in
     let a = c .before .before .before .before .before .before .before .before .before .before .args in
     kept _ (c .encode-bounded .ok) ∙ c .encode-bounded .ensures
-    ∙ ap encodeBounded (c .before .precise-bound .ensures ∙ rw (t .passed) (ap (λ (rows : List ℕ). boundRow rows (a .row)) (t .rows)))
+    ∙ ap encodeBounded (c .before .precise-bound .ensures .0 ∙ rw (t .passed) (ap (λ (rows : List ℕ). boundRow rows (a .row)) (t .rows)))
 
 pub certifier-precise-bound-spec : {M : Type 1} → statement M
 certifier-precise-bound-spec =

@@ -12,10 +12,13 @@ use Rattle.certifier.proofs.listing.list_rows.Tie as tie
 mul-if1 : tie.Need-mul-if1
 mul-if1 c = search needs
 
+no-room-requires : tie.Need-no-room-requires
+no-room-requires c κs = search needs
+
 returns : tie.Need-returns
 returns c =
-    let start = c .before .before .before in
-    area-short Passed (listingOf (start .args .rows .now)) (start .args .out .now) _ _ (length-listing (start .args .rows .now)) refl (c .if1 .taken) refl
+    let start = c .before .before .before .before in
+    area-short Passed (listingOf (start .args .rows .now)) (start .args .out .now) _ _ (length-listing (start .args .rows .now)) refl (c .before .if1 .taken) (c .no-room .ensures)
 
 write-lines-requires : tie.Need-write-lines-requires
 write-lines-requires c κs = search needs
@@ -35,4 +38,4 @@ returns-2 c =
 
 pub list-rows-spec : {M : Type 1} → statement M
 list-rows-spec =
-    tie.close (tie.spec mul-if1 returns write-lines-requires mul-t4 same-length returns-2)
+    tie.close (tie.spec mul-if1 no-room-requires returns write-lines-requires mul-t4 same-length returns-2)
