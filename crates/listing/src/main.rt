@@ -112,14 +112,9 @@ fn print_length(size: usize) {
     }
 }
 
-// Number (3), place (6), and a line feed.
+// Prints the line of a refusal.
 fn print_refusal(refusal: Refusal) {
-    let cause = refusal.cause;
-    let mut number = [0u8; 3];
-    decimal::write(&mut number, table_checks::number(cause) as u64);
-    io::write_all(1, &number);
-    let mut place = [0u8; 6];
-    decimal::write(&mut place, refusal.place as u64);
-    io::write_all(1, &place);
-    io::write_all(1, b"\n");
+    let mut line = [0u8; certifier::REFUSAL_LINE];
+    certifier::write_refusal(certifier::of_table(refusal), &mut line);
+    io::write_all(1, &line);
 }
