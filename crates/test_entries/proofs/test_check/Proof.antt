@@ -24,12 +24,12 @@ encode-refusal-requires c κs = search needs
 
 returns : tie.Need-returns
 unfolding encodeChecked
-returns c = rw (sym (c .before .before .check .ensures) ∙ c .enum-told .given .1)
+returns c = rw (sym (c .before .before .check .ensures .0) ∙ c .enum-told .given .1)
 
 returns-2 : tie.Need-returns-2
 unfolding encodeChecked
 returns-2 c =
-    rw (sym (c .before .before .before .before .before .check .ensures) ∙ c .before .before .before .checked .given .1)
+    rw (sym (c .before .before .before .before .before .check .ensures .0) ∙ c .before .before .before .checked .given .1)
     (kept _ (c .encode-refusal .ok) ∙ c .encode-refusal .ensures ∙ ap encodeRefusal (c .before .of-table .ensures))
 
 pub test-check-spec : {M : Type 1} → statement M

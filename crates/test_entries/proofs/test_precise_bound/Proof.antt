@@ -13,7 +13,7 @@ encode-bounded-requires : tie.Need-encode-bounded-requires
 encode-bounded-requires c κs = search needs
 
 returns : tie.Need-returns
-returns c = kept _ (c .encode-bounded .ok) ∙ c .encode-bounded .ensures ∙ ap encodeBounded (c .before .precise-bound .ensures)
+returns c = kept _ (c .encode-bounded .ok) ∙ c .encode-bounded .ensures ∙ ap encodeBounded (c .before .precise-bound .ensures .0)
 
 pub test-precise-bound-spec : {M : Type 1} → statement M
 test-precise-bound-spec =

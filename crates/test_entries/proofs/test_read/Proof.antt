@@ -19,7 +19,7 @@ same-length c = search needs
 returns : tie.Need-returns
 returns c =
     let both = c .before .before .before .read .ensures in
-    named _ _ (both .0) (kept _ (c .encode-answer .ok) ∙ c .encode-answer .ensures) (both .1)
+    named _ _ (both .0) (kept _ (c .encode-answer .ok) ∙ c .encode-answer .ensures) (both .1 .0)
 
 pub test-read-spec : {M : Type 1} → statement M
 test-read-spec = tie.close (tie.spec read-requires encode-answer-requires same-length returns)
