@@ -1,4 +1,5 @@
-// The judgement of a row of a frame table, and its precise bound. Both take any input, and check their table themselves.
+// The judgement of a row of a frame table, and its precise bound. Both take any input, and check their table themselves;
+// judge_row takes an accepted table, for the listing, which judges all its rows.
 mod bound;
 mod frames;
 mod judgement;
