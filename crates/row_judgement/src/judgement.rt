@@ -33,6 +33,7 @@ ghost use Rattle.row_judgement.specs.Returns.{judgedReturns, judgeReturn
 pub fn judge(rows: &[u32], row: u64) -> Judged
     ensures { λ r. ⌜ r ≡ judgeRow (now (rows .entry)) row ⌝ }
     ensures never_late { λ r. ⌜ (T (certified r) → MeetsClaim (framesOf (now (rows .entry))) row (claimOf (now (rows .entry)) row)) ⌝ }
+    ensures margin_sign { λ r. ⌜ ((j : Judgement) → r ≡ Verdict j → MarginSign j) ⌝ }
     ensures in_numbers { λ r. ⌜ judgedReturns r ≡ judgeReturns (checkReturns (rowsCheck (now (rows .entry)))) (now (rows .entry)) row ⌝ }
 {
     let checked = table_checks::check(rows);

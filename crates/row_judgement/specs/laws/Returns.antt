@@ -7,8 +7,10 @@ use native.Mathlib.Omega.{arith}
 use borrow.Author.Tests.{eq-eqb, ne-eqb}
 use lib.Dec.{T, eqb}
 use Rattle.arith.specs.laws.Tests.{cond-map}
+use Rattle.bus_model.specs.declared.Judgement.{Judgement}
 use Rattle.bus_model.specs.Frame.{row}
 use Rattle.bus_model.specs.Bus.{MeetsClaim}
+use Rattle.bus_model.specs.Judgement.{MarginSign}
 use Rattle.bus_model.specs.theory.Finding.{Whole, judge-whole, judgementBy, judgement-back, judge-finds}
 use Rattle.table_checks.specs.declared.Checked.{Checked}
 use Rattle.table_checks.specs.declared.Checked.the-variants.{Passed, Failed}
@@ -93,10 +95,10 @@ judge-returned Passed rows r = cond-map judgedReturns (noRow rows r) _ _ ∙ rw 
 judge-returned (Failed f) rows r = rw (ne-eqb _ _ (table-number-some (f .cause)))
 
 -- What the code answers is told in numbers too.
-pub judged-told : (rows : List ℕ) (r : ℕ) {j : Judged} → j ≡ judgeRow rows r
-    → (j ≡ judgeRow rows r) × ((T (certified j) → MeetsClaim (framesOf rows) r (claimOf rows r)) × (judgedReturns j ≡ judgeReturns (checkReturns (rowsCheck rows)) rows r))
+pub judged-told : (rows : List ℕ) (r : ℕ) {answer : Judged} → answer ≡ judgeRow rows r
+    → (answer ≡ judgeRow rows r) × ((T (certified answer) → MeetsClaim (framesOf rows) r (claimOf rows r)) × (((j : Judgement) → answer ≡ Verdict j → MarginSign j) × (judgedReturns answer ≡ judgeReturns (checkReturns (rowsCheck rows)) rows r)))
 unfolding judgeRow
-judged-told rows r e = let (is, never-late) = answered rows r e in (is, (never-late, ap judgedReturns e ∙ judge-returned (rowsCheck rows) rows r))
+judged-told rows r e = let (is, (never-late, sign)) = answered rows r e in (is, (never-late, (sign, ap judgedReturns e ∙ judge-returned (rowsCheck rows) rows r)))
 
 -- ---- the precise bound alone
 

@@ -51,7 +51,7 @@ returns-3 : tie.Need-returns-3
 unfolding judgeRow judgeChecked
 returns-3 c =
     let s = start (c .before .before .before .before) in
-    judged-told (s .args .rows .now) (s .args .row) (rw (passed (c .before .before), lt-leb _ _ (c .before .if1 .left), c .judge-row .ensures))
+    judged-told (s .args .rows .now) (s .args .row) (ap Verdict (c .judge-row .ensures) ∙ rw (passed (c .before .before), lt-leb _ _ (c .before .if1 .left)))
 
 pub judge-spec : {M : Type 1} → statement M
 judge-spec =
