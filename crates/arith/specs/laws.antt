@@ -7,6 +7,7 @@ pub mod Sums
 pub mod Combinations
 pub mod Least
 pub mod Walks
+pub mod Gathering
 pub mod Releases
 pub mod Multiples
 pub mod Signed

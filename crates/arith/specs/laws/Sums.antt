@@ -38,6 +38,12 @@ module _ {A : Type 0} where
   term-le-sum f {x} {xs = y ∷ ys} (here e) = rw e (omega arith)
   term-le-sum f {x} {xs = y ∷ ys} (there m) = omega (arith, term-le-sum f m)
 
+  -- Where no term is above b, the sum is at most b for each element.
+  pub sum-bound : (f : A → ℕ) (b : ℕ) (xs : List A) → ((x : A) → Mem x xs → f x ≤ b) → sum f xs ≤ b * length xs
+  unfolding sum
+  sum-bound f b [] le = omega arith
+  sum-bound f b (x ∷ xs) le = omega (arith, le x (here refl), sum-bound f b xs (λ y m. le y (there m)))
+
   -- The sum over what is kept: what is not kept counts 0.
   pub sum-keep : (p : A → Bool) (f : A → ℕ) (xs : List A) → sum f (keep p xs) ≡ sum (λ x. cond (p x) (f x) 0) xs
   unfolding sum keep

@@ -2,20 +2,20 @@
 use Prim.Native.Nat.{ℕ, _+_, _-_, _*_, _≤_, _<_, max}
 use mathlib.Core.Path.{_≡_, refl, sym, ap, subst, _∙_}
 use mathlib.Core.Bool.{Bool, true, false, cond, _&&_}
-use mathlib.Core.List.{List, _∷_, _++_, append-nil}
+use mathlib.Core.List.{List, _∷_, _++_}
 use native.Mathlib.Omega.{arith}
-use native.Mathlib.Nat.{le-trans}
-use native.Mathlib.Numerals.{add-one}
+use native.Mathlib.Nat.{le-trans, sub-zero}
 use lib.Dec.{eqb, leb}
 use lib.ListN.{length, getD, take, drop, set, length-set}
-use lib.Seq.{take-suc-set, getD-set-same, getD-set-other}
+use lib.Seq.{getD-set-same, getD-set-other}
 use borrow.Author.Count.{below-more}
 use borrow.Rule.Slice.PartMut.{midOf, postOf, putMid, mid-len, same-len-mid}
 use Rattle.arith.specs.Lists.{greatest, keep, range}
 use Rattle.arith.specs.Least.{least}
 use Rattle.arith.specs.laws.Members.{of-keep, fold-keep, map-keep, keep-keep, list-places, part-before, part-written, getD-within}
 use Rattle.arith.specs.laws.Sums.{greatest-le}
-use Rattle.arith.specs.laws.Walks.{CountUp, count-start, count-more, count-end, keep-more, keep-less, Down, down-start, down-more}
+use Rattle.arith.specs.laws.Walks.{Down, down-start, down-more}
+use Rattle.arith.specs.laws.Gathering.{Gathered, gathered-all}
 use Rattle.bus_model.specs.declared.Frame.{Frame}
 use Rattle.bus_model.specs.declared.Choice.{Choice}
 use Rattle.bus_model.specs.declared.Choice.the-variants.{Fixed, Any}
@@ -64,7 +64,7 @@ blocking-small fs accepted k =
 -- ---- the rows of a node
 
 -- whether a frame is of the node and ahead of k
-abbrev isMember : Frame → ℕ → Frame → Bool
+abbrev pub isMember : Frame → ℕ → Frame → Bool
 isMember k node g = eqb (g .node) node && leb (g .priority) (k .priority)
 
 -- whether that in row i is
@@ -78,51 +78,16 @@ rows-frames fs k node =
     map-keep (row fs) (isMember k node) (range 0 (length fs))
     ∙ rw (list-places noFrame fs) (sym (keep-keep (isAhead k) (λ g. eqb (g .node) node) fs))
 
--- the rows found before row i stand at the start of the area
-pub record Gathered (fs : List Frame) (k : Frame) (node : ℕ) (area : List ℕ) (count i : ℕ) : Type 0 where
-  pub size : length area ≡ 64
-  pub short : length fs ≤ 64
-  pub few : count ≤ i
-  pub found : CountUp (keep (rowBelongs fs k node)) _++_ (length fs) (keep (rowBelongs fs k node) (range 0 (length fs))) (take count area) i
+-- those found before row i stand at the start of the area
+abbrev pub RowsGathered : List Frame → Frame → ℕ → List ℕ → ℕ → ℕ → Type 0
+RowsGathered fs k node area count i = Gathered (rowBelongs fs k node) 0 (length fs) 64 area count i
 
-module _ {fs : List Frame} {k : Frame} {node : ℕ} {area : List ℕ} where
-  -- Before the first row there are none.
-  pub gathered-none : length fs ≤ 64 → length area ≡ 64 → Gathered fs k node area 0 0
-  gathered-none short size = record { size = size; short = short; few = omega arith; found = count-start _ _ _ _ refl }
-
-  module _ {count i : ℕ} (s : Gathered fs k node area count i) where
-    -- There is room for one more.
-    pub gathered-room : i < length fs → count < 64
-    gathered-room l = omega (arith, s .few, s .short)
-
-    module _ (l : i < length fs) (g : Frame) (b : Bool) (is : g ≡ row fs i) (test : b ≡ isMember k node g) where
-      tested : b ≡ rowBelongs fs k node i
-      tested = test ∙ ap (isMember k node) is
-
-      -- A row that belongs is put there.
-      pub gathered-put : {area′ : List ℕ} {count′ : ℕ} → b ≡ true → area′ ≡ set area count i → count′ ≡ count + 1 → Gathered fs k node area′ count′ (i + 1)
-      gathered-put t put more = rw (put, more) (record {
-        size = length-set area count i ∙ s .size;
-        short = s .short;
-        few = omega (arith, s .few);
-        found = count-more _ _ _ _ (s .found) l (keep-more _ (take count area) i {next = take (count + 1) (set area count i)} (sym tested ∙ t) (rw add-one (take-suc-set area count i (omega (arith, s .size, gathered-room l)))));
-      })
-
-      -- Any other is passed over.
-      pub gathered-skip : {area′ : List ℕ} {count′ : ℕ} → b ≡ false → area′ ≡ area → count′ ≡ count → Gathered fs k node area′ count′ (i + 1)
-      gathered-skip f same still = rw (same, still) (record {
-        size = s .size;
-        short = s .short;
-        few = omega (arith, s .few);
-        found = count-more _ _ _ _ (s .found) l (keep-less _ (take count area) i (sym tested ∙ f));
-      })
-
-    -- At the end all are found.
-    pub gathered-all : length fs ≤ i → (framesIn fs (take count area) ≡ ofNode (ahead fs k) node) × (count ≤ 64)
-    unfolding keep
-    gathered-all over =
-        let all = count-end _ _ _ _ (s .found) over in
-        (ap (framesIn fs) (sym (append-nil (take count area)) ∙ all) ∙ rows-frames fs k node, omega (arith, s .few, s .short, s .found .inside))
+-- At the end all are found.
+pub rows-gathered : (fs : List Frame) (k : Frame) (node : ℕ) {area : List ℕ} {count i : ℕ} → RowsGathered fs k node area count i → length fs ≤ i
+    → (framesIn fs (take count area) ≡ ofNode (ahead fs k) node) × (count ≤ 64)
+rows-gathered fs k node g over =
+    let (all, counted, few) = gathered-all g over in
+    (ap (framesIn fs) (rw sub-zero at all) ∙ rows-frames fs k node, few)
 
 -- ---- the least common multiple of the periods of a node's frames
 

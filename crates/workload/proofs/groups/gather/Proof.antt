@@ -1,17 +1,18 @@
 -- `workload::groups::gather` meets its contract: the invariant has the rows found and those still to come.
 use borrow.Author.Needs.{needs}
 use Prim.Native.Nat.{_-_, _<_}
-use mathlib.Core.Path.{_≡_}
+use mathlib.Core.Path.{_≡_, ap, _∙_}
 use mathlib.Core.Logic.{⊎-elim}
 use native.Mathlib.Omega.{arith}
 use lib.ListN.{length}
 use Rattle.workload.specs.Stored.{stored}
-use Rattle.workload.specs.laws.Groups.{Gathered, gathered-none, gathered-room, gathered-put, gathered-skip, gathered-all}
+use Rattle.arith.specs.laws.Gathering.{gathered-none, gathered-put, gathered-skip}
+use Rattle.workload.specs.laws.Groups.{isMember, RowsGathered, rows-gathered}
 use Rattle.workload.proofs.groups.gather.Statement.{statement}
 use Rattle.workload.proofs.groups.gather.Tie as tie
 
 abbrev Inv-loop : tie.InvT-loop
-Inv-loop frames k node area₀ all found₀ i₀ area found i = Gathered (stored frames) k node area found i × (all ≡ length (stored frames))
+Inv-loop frames k node area₀ all found₀ i₀ area found i = RowsGathered (stored frames) k node area found i × (all ≡ length (stored frames))
 
 abbrev μ-loop : tie.MeasureT-loop
 μ-loop frames k node area₀ all found₀ i₀ area found i = all - i
@@ -20,7 +21,7 @@ count-requires : tie.Need-count-requires Inv-loop μ-loop
 count-requires c κs = search needs
 
 loop-holds : tie.Need-loop-holds Inv-loop μ-loop
-loop-holds c = let s = c .before .before .before in (gathered-none (s .pre .0) (s .pre .1), c .count .ensures)
+loop-holds c = let s = c .before .before .before in (gathered-none (s .pre .1) (omega arith) (omega (arith, s .pre .0)), c .count .ensures)
 
 frame-at-requires : tie.Need-frame-at-requires Inv-loop μ-loop
 frame-at-requires c κs = search needs
@@ -29,12 +30,12 @@ belongs-requires : tie.Need-belongs-requires Inv-loop μ-loop
 belongs-requires c κs = search needs
 
 cast-area : tie.Need-cast-area Inv-loop μ-loop
-cast-area c = let l = c .before .before .before .before .loop in omega (arith, l .inv .0 .short, l .inv .1, c .before .before .before .loop-test .taken)
+cast-area c = let (g, all) = c .before .before .before .before .loop .inv in search needs
 
 slice-write-area : tie.Need-slice-write-area Inv-loop μ-loop
 slice-write-area c =
     let (s, all) = c .before .before .before .before .loop .inv in
-    omega (arith, s .size, gathered-room s (omega (arith, all, c .before .before .before .loop-test .taken)))
+    omega (arith, s .whole, s .room, all, c .before .before .before .loop-test .taken)
 
 add-found : tie.Need-add-found Inv-loop μ-loop
 add-found c = search needs
@@ -49,11 +50,12 @@ loop-again : tie.Need-loop-again Inv-loop μ-loop
 loop-again c =
     let b = c .before in
     let e = b .before in
-    let (i, all) = e .before .before .loop .inv in
-    let inside : e .before .before .loop .i < length (stored (c .before .before .before .before .before .before .before .before .args .frames .now)) = omega (arith, all, e .before .loop-test .taken) in (
+    let (g, all) = e .before .before .loop .inv in
+    let a = e .before .before .before .before .before .before .args in
+    let test = b .belongs .ensures ∙ ap (isMember (a .k) (a .node)) (e .frame-at .ensures) in (
       ⊎-elim
-          (λ w. gathered-put i inside _ _ (e .frame-at .ensures) (b .belongs .ensures) (w .0 .taken) (w .1) (w .2))
-          (λ w. gathered-skip i inside _ _ (e .frame-at .ensures) (b .belongs .ensures) (w .0 .left) (w .1) (w .2))
+          (λ w. gathered-put g (omega (arith, all, e .before .loop-test .taken)) _ test (w .0 .taken) (w .1) (w .2))
+          (λ w. gathered-skip g (omega (arith, all, e .before .loop-test .taken)) _ test (w .0 .left) (w .1) (w .2))
           (c .if1 .came),
       all,
     )
@@ -62,7 +64,9 @@ same-length : tie.Need-same-length Inv-loop μ-loop
 same-length c = search needs
 
 returns : tie.Need-returns Inv-loop μ-loop
-returns c = let (s, all) = c .before .loop .inv in gathered-all s (omega (arith, all, c .loop-test .left))
+returns c =
+    let (g, all) = c .before .loop .inv in
+    rows-gathered _ _ _ g (omega (arith, all, c .loop-test .left))
 
 pub gather-spec : {M : Type 1} → statement M
 gather-spec =

@@ -1,0 +1,46 @@
+-- The numbers of a range that pass a test, put at the start of an area by a loop, one behind the other.
+use Prim.Native.Nat.{ℕ, _+_, _-_, _≤_, _<_}
+use mathlib.Core.Path.{_≡_, refl, sym, ap, _∙_}
+use mathlib.Core.Bool.{Bool, true, false}
+use mathlib.Core.List.{List, _++_, append-nil}
+use native.Mathlib.Numerals.{add-one}
+use native.Mathlib.Omega.{arith}
+use lib.ListN.{length, set, take, length-set}
+use lib.Seq.{take-suc-set, length-take-le}
+use Rattle.arith.specs.Lists.{keep, range}
+use Rattle.arith.specs.laws.Walks.{CountUp, count-more, count-end, keep-more, keep-less}
+
+-- Of the numbers from s to e - 1 those below n that pass are the first `count` elements of an area, which has room for the others.
+pub record Gathered (p : ℕ → Bool) (s e size : ℕ) (area : List ℕ) (count n : ℕ) : Type 0 where
+  pub whole : length area ≡ size
+  pub room : count + (e - n) ≤ size
+  pub found : CountUp (keep p) _++_ e (keep p (range s (e - s))) (take count area) n
+
+module _ {p : ℕ → Bool} {s e size : ℕ} {area : List ℕ} where
+  -- Before the first number there are none.
+  pub gathered-none : length area ≡ size → s ≤ e → e - s ≤ size → Gathered p s e size area 0 s
+  gathered-none whole inside room = record { whole = whole; room = omega arith; found = record { inside = inside; is = refl } }
+
+  module _ {count n : ℕ} (g : Gathered p s e size area count n) where
+    module _ (l : n < e) (b : Bool) (test : b ≡ p n) where
+      -- A number that passes is put there.
+      pub gathered-put : {area′ : List ℕ} {count′ : ℕ} → b ≡ true → area′ ≡ set area count n → count′ ≡ count + 1 → Gathered p s e size area′ count′ (n + 1)
+      gathered-put t put more = rw (put, more) (record {
+        whole = length-set area count n ∙ g .whole;
+        room = omega (arith, g .room);
+        found = count-more _ _ _ _ (g .found) l (keep-more _ (take count area) n {next = take (count + 1) (set area count n)} (sym test ∙ t) (rw add-one (take-suc-set area count n (omega (arith, g .whole, g .room)))));
+      })
+
+      -- Any other is passed over.
+      pub gathered-skip : {area′ : List ℕ} {count′ : ℕ} → b ≡ false → area′ ≡ area → count′ ≡ count → Gathered p s e size area′ count′ (n + 1)
+      gathered-skip f same still = rw (same, still) (record {
+        whole = g .whole;
+        room = omega (arith, g .room);
+        found = count-more _ _ _ _ (g .found) l (keep-less _ (take count area) n (sym test ∙ f));
+      })
+
+    -- At the end all are there.
+    pub gathered-all : e ≤ n → (take count area ≡ keep p (range s (e - s))) × (count ≡ length (keep p (range s (e - s)))) × (count ≤ size)
+    gathered-all over =
+        let all : take count area ≡ keep p (range s (e - s)) = sym (append-nil (take count area)) ∙ (unfold keep in count-end _ _ _ _ (g .found) over) in
+        (all, sym (length-take-le count area (omega (arith, g .whole, g .room))) ∙ ap length all, omega (arith, g .room))
