@@ -215,7 +215,7 @@ fn joined(h: u64, node: u64, frame_node: u64, period: u64) -> u64
 }
 
 // The node's hyperperiod, or 1000001 where it is greater than that.
-fn bounded_hyperperiod(t: &[u64], node: u64) -> u64
+pub fn bounded_hyperperiod(t: &[u64], node: u64) -> u64
     requires { ⌜ Periods (now t) ⌝ }
     ensures { λ r. ⌜ r ≡ min (hyperperiod (ofNode (framesOf (now (t .entry))) node)) 1000001 ⌝ }
 {

@@ -12,9 +12,10 @@ ghost use mathlib.Core.Path.{_≡_};
 ghost use Prim.Native.Nat.{_≤_};
 ghost use mathlib.Core.List.{_++_};
 ghost use lib.ListN.{length, drop};
-ghost use Rattle.table_checks.specs.Refusal.{numberOf, checkReturns};
-ghost use Rattle.table_checks.specs.Checks.{rowsCheck};
-ghost use Rattle.table_checks.specs.Returns.{rowsReturns};
+ghost use Rattle.bus_model.specs.Pattern.{ofNode, hyperperiod};
+ghost use Rattle.table_checks.specs.Frames.{framesOf};
+ghost use Rattle.table_checks.specs.Refusal.{numberOf};
+ghost use Rattle.table_checks.specs.Checks.{rowsCheck, Accepted};
 
 // The numbers of a row, the characters of a line with its line feed, and the most lines of a table.
 pub const ROW: usize = 7;
@@ -95,6 +96,18 @@ pub fn check(rows: &[u32]) -> Checked
     let mut fields = [0u64; MOST_NUMBERS];
     widen(rows, &mut fields);
     checks::table(&fields[..size])
+}
+
+// The hyperperiod of a node of an accepted table.
+pub fn hyperperiod(rows: &[u32], node: u64) -> u64
+    requires { ⌜ Accepted (now rows) ⌝ }
+    requires { ⌜ (1 ≤ node) × (node ≤ 16) ⌝ }
+    ensures { λ r. ⌜ r ≡ hyperperiod (ofNode (framesOf (now (rows .entry))) node) ⌝ }
+{
+    let size = rows.len();
+    let mut fields = [0u64; MOST_NUMBERS];
+    widen(rows, &mut fields);
+    checks::bounded_hyperperiod(&fields[..size], node)
 }
 
 // Copies rows to the start of wider fields.

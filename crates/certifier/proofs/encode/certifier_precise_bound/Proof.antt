@@ -6,7 +6,7 @@ use borrow.Author.Needs.{needs}
 use Rattle.arith.specs.laws.Signed.{kept}
 use Rattle.row_judgement.specs.Judge.{boundRow}
 use Rattle.certifier.specs.Encode.{boundFile, boundRead, encodeBounded, encodeRefusal}
-use Rattle.certifier.specs.laws.Reading.{ReadRows, read-refused, read-rows}
+use Rattle.frame_table.specs.laws.Reading.{ReadRows, read-refused, read-rows}
 use Rattle.certifier.proofs.encode.certifier_precise_bound.Statement.{statement}
 use Rattle.certifier.proofs.encode.certifier_precise_bound.Tie as tie
 

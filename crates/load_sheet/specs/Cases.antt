@@ -1,0 +1,59 @@
+-- Two sheets, worked out by hand.
+use Prim.Native.Nat.{ℕ}
+use mathlib.Core.Path.{_≡_, refl}
+use mathlib.Core.List.{List, [], _∷_, _++_}
+use Rattle.arith.specs.Lists.{sum, greatest, keep, exists, range}
+use Rattle.arith.specs.Multiples.{euclid, gcd, lcm, lcmOf}
+use Rattle.decimal.specs.Decimal.{writeColumn}
+use Rattle.bus_model.specs.Pattern.{ofNode, hyperperiod}
+use Rattle.table_checks.specs.Frames.{priorityOf, largestLength, frameAt, framesOf}
+use Rattle.load_sheet.specs.declared.Load.{Load}
+use Rattle.load_sheet.specs.Load.{workIn, dividend, loadOf}
+use Rattle.load_sheet.specs.Sheet.{hasFrames, nodesOf, nodeLoad, nodeLine, linesOf, lastLine, greatestQuotient, sheetWith, sheetOf}
+
+-- what computing a sheet unfolds
+unfoldable everything : ℕ
+unfolding sum greatest keep exists range euclid gcd lcm lcmOf writeColumn ofNode hyperperiod priorityOf largestLength frameAt framesOf workIn dividend loadOf hasFrames nodesOf nodeLoad nodeLine linesOf lastLine greatestQuotient sheetWith sheetOf
+everything = 0
+
+load : ℕ → ℕ → ℕ → Load
+load quotient remainder divisor = record { quotient = quotient; remainder = remainder; divisor = divisor }
+
+-- Document 01's table: node 1 sends 135 + 55 + 135 ticks in 1000, node 2 sends 65.
+picker : List ℕ
+picker =
+    1 ∷ 16 ∷ 11 ∷ 8 ∷ 1000 ∷ 0 ∷ 300
+    ∷ 1 ∷ 32 ∷ 11 ∷ 0 ∷ 1000 ∷ 200 ∷ 189
+    ∷ 1 ∷ 48 ∷ 11 ∷ 8 ∷ 1000 ∷ 300 ∷ 198
+    ∷ 2 ∷ 64 ∷ 11 ∷ 1 ∷ 1000 ∷ 0 ∷ 200
+    ∷ []
+
+picker-sheet : sheetOf picker ≡ nodeLine 1 (load 3250 0 1000) ++ (nodeLine 2 (load 650 0 1000) ++ lastLine 2 3250)
+unfolding picker load everything
+picker-sheet = refl
+
+-- Its first line is "  1      3250       0    1000" and a line feed.
+first-line : nodeLine 1 (load 3250 0 1000) ≡
+    32 ∷ 32 ∷ 49
+    ∷ 32 ∷ 32 ∷ 32 ∷ 32 ∷ 32 ∷ 32 ∷ 51 ∷ 50 ∷ 53 ∷ 48
+    ∷ 32 ∷ 32 ∷ 32 ∷ 32 ∷ 32 ∷ 32 ∷ 32 ∷ 48
+    ∷ 32 ∷ 32 ∷ 32 ∷ 32 ∷ 49 ∷ 48 ∷ 48 ∷ 48
+    ∷ 10 ∷ []
+unfolding load nodeLine writeColumn
+first-line = refl
+
+-- Node 1: 160 ticks in 1000000, and 1600000 = 1 × 1000000 + 600000.
+-- Node 5: 80 ticks in 7, and 800000 = 114285 × 7 + 5.
+-- Node 16: periods 3 and 7, lengths 55 and 65, so 7 × 55 + 3 × 65 = 580 in 21 ticks, and 5800000 = 276190 × 21 + 10.
+remainders : List ℕ
+remainders =
+    16 ∷ 1 ∷ 11 ∷ 0 ∷ 3 ∷ 0 ∷ 100
+    ∷ 5 ∷ 2 ∷ 29 ∷ 0 ∷ 7 ∷ 0 ∷ 100
+    ∷ 16 ∷ 3 ∷ 11 ∷ 1 ∷ 7 ∷ 0 ∷ 100
+    ∷ 1 ∷ 4 ∷ 29 ∷ 8 ∷ 1000000 ∷ 0 ∷ 100
+    ∷ []
+
+remainders-sheet : sheetOf remainders
+    ≡ nodeLine 1 (load 1 600000 1000000) ++ (nodeLine 5 (load 114285 5 7) ++ (nodeLine 16 (load 276190 10 21) ++ lastLine 3 276190))
+unfolding remainders load everything
+remainders-sheet = refl

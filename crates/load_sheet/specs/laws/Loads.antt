@@ -1,0 +1,94 @@
+-- A node's frames and their work, as loops over the rows of a table find them.
+use Prim.Native.Nat.{ℕ, _+_, _-_, _*_, _/_, _%_, _≤_, _<_}
+use mathlib.Core.Path.{_≡_, refl, sym, ap, subst, _∙_}
+use mathlib.Core.Bool.{true, false, cond, _||_}
+use mathlib.Core.List.{List, _∷_}
+use mathlib.Core.Logic.{_≢_}
+use native.Mathlib.Numerals.{add-one}
+use native.Mathlib.Omega.{arith}
+use borrow.Author.Tests.{eq-eqb, ne-eqb}
+use lib.Dec.{eqb}
+use lib.ListN.{length, drop, drop-of-length-le}
+use lib.Seq.{drop-cons}
+use Rattle.arith.specs.Lists.{sum, keep, exists}
+use Rattle.arith.specs.laws.Sums.{sum-keep}
+use Rattle.arith.specs.laws.Walks.{Down, down-start, down-more}
+use Rattle.bus_model.specs.declared.Frame.{Frame}
+use Rattle.bus_model.specs.Frame.{noFrame, row}
+use Rattle.bus_model.specs.Pattern.{ofNode, hyperperiod}
+use Rattle.bus_model.specs.theory.Frames.{node-pos}
+use Rattle.table_checks.specs.Columns.{field}
+use Rattle.table_checks.specs.Frames.{frameAt, framesOf}
+use Rattle.table_checks.specs.Checks.{Accepted}
+use Rattle.table_checks.specs.laws.Lengths.{length-bounds}
+use Rattle.table_checks.specs.laws.Accepted.{length-frames, frame-row, accepted-limits, accepted-pattern, accepted-valid}
+use Rattle.load_sheet.specs.declared.Load.{Load}
+use Rattle.load_sheet.specs.Load.{workIn, dividend, loadOf}
+use Rattle.load_sheet.specs.Sheet.{hasFrames}
+
+-- The frames of an accepted table have a period, and are short.
+pub frame-limits : (rows : List ℕ) → Accepted rows → (i : ℕ) → i < length rows / 7 → (1 ≤ row (framesOf rows) i .period) × (row (framesOf rows) i .length ≤ 400)
+unfolding frameAt
+frame-limits rows accepted i l =
+    let m = accepted-limits rows accepted i l in
+    let short = length-bounds (field rows i 2) (field rows i 3) (m .payload-max) .1 in
+    rw (frame-row rows i l) (m .period-min, omega arith)
+
+-- A node's hyperperiod is not 0, and small.
+pub divisor-limits : (rows : List ℕ) → Accepted rows → (j : ℕ) → 1 ≤ j → j ≤ 16 → (1 ≤ hyperperiod (ofNode (framesOf rows) j)) × (hyperperiod (ofNode (framesOf rows) j) ≤ 1000000)
+divisor-limits rows accepted j low high = (node-pos (accepted-valid rows accepted) j, accepted-pattern rows accepted j low high .0)
+
+-- The load by its work and its divisor.
+pub load-is : (gs : List Frame) (h w : ℕ) → h ≡ hyperperiod gs → w ≡ workIn h gs
+    → _≡_ {A = Load} (record { quotient = w * 10000 / h; remainder = w * 10000 % h; divisor = h }) (loadOf gs)
+unfolding loadOf dividend
+load-is gs h w divisor work = rw (work, divisor)
+
+-- ---- whether a node has frames: a loop stops at the first
+
+module _ (fs : List Frame) (j : ℕ) where
+  -- the frames from place i on decide
+  abbrev pub Decides : ℕ → Type 0
+  Decides i = hasFrames (drop i fs) j ≡ hasFrames fs j
+
+  next : (i : ℕ) → i < length fs → hasFrames (drop i fs) j ≡ (eqb (row fs i .node) j || hasFrames (drop (i + 1) fs) j)
+  unfolding hasFrames exists
+  next i l = rw (drop-cons fs i noFrame l, add-one i)
+
+  module _ (i : ℕ) (g : Frame) (l : i < length fs) (is : g ≡ row fs i) (decides : Decides i) where
+    -- One of the node's is found.
+    pub found-here : g .node ≡ j → true ≡ hasFrames fs j
+    found-here e = sym (next i l ∙ rw (← is, eq-eqb (g .node) j e)) ∙ decides
+
+    -- Any other is passed over.
+    pub found-later : g .node ≢ j → Decides (i + 1)
+    found-later e = sym (next i l ∙ rw (← is, ne-eqb (g .node) j e)) ∙ decides
+
+  -- At the end there is none.
+  pub found-none : (i : ℕ) → length fs ≤ i → Decides i → false ≡ hasFrames fs j
+  unfolding hasFrames exists
+  found-none i over decides = rw (drop-of-length-le fs {i = i} over) at decides
+
+-- ---- the work of a node's frames in h ticks
+
+abbrev pub workOf : ℕ → ℕ → List Frame → ℕ
+workOf h j gs = workIn h (ofNode gs j)
+
+-- of a frame
+abbrev frameWork : ℕ → ℕ → Frame → ℕ
+frameWork h j g = cond (eqb (g .node) j) (g .length * (h / g .period)) 0
+
+work-cons : (h j : ℕ) (g : Frame) (gs : List Frame) → workOf h j (g ∷ gs) ≡ frameWork h j g + workOf h j gs
+unfolding ofNode sum workIn
+work-cons h j g gs = sum-keep _ _ (g ∷ gs) ∙ ap (λ (s : ℕ). frameWork h j g + s) (sym (sum-keep _ _ gs))
+
+module _ (rows : List ℕ) (h j : ℕ) where
+  -- A loop down through the rows starts at 0.
+  pub work-none : Down (workOf h j) (framesOf rows) 0 (length rows / 7)
+  unfolding sum ofNode keep workIn
+  work-none = subst (Down (workOf h j) (framesOf rows) 0) (length-frames rows) (down-start (workOf h j) (framesOf rows) refl)
+
+  -- It takes one frame more.
+  pub work-more : {i s r : ℕ} {g : Frame} → Down (workOf h j) (framesOf rows) s i → 0 < i → g ≡ row (framesOf rows) (i - 1) → r ≡ frameWork h j g
+      → Down (workOf h j) (framesOf rows) (r + s) (i - 1)
+  work-more {s = s} d pos is e = down-more (workOf h j) (framesOf rows) (λ g acc. frameWork h j g + acc) (work-cons h j) noFrame d pos is (ap (λ (x : ℕ). x + s) e)

@@ -1,0 +1,20 @@
+// The load sheet of a table: each node's bus load, and the greatest of them.
+mod loads;
+mod sheet;
+
+pub use sheet::write;
+
+// The characters of a node's line, and of the last line, with the line feed.
+pub const LINE: usize = 30;
+
+pub const LAST_LINE: usize = 14;
+
+// The characters of the longest sheet.
+pub const LONGEST: usize = 494;
+
+// A node's load: its work × 10000, divided by its hyperperiod.
+pub struct Load {
+    pub quotient: u64,
+    pub remainder: u64,
+    pub divisor: u64,
+}
