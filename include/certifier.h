@@ -5,7 +5,9 @@
  * Each call takes the whole file's bytes, checks it, and answers one number.
  *
  * Memory: a call reads `table_len` bytes from `table` and keeps nothing; `table` may be null only if the length
- * is 0. It allocates nothing and needs less than 64 KiB of stack.
+ * is 0. Where an output area is lent, a call writes its result at the start of it and leaves every byte behind that;
+ * where it is turned back, it leaves them all. The area must not overlap the table, and may be null only if its
+ * length is 0. A call allocates nothing and needs less than 64 KiB of stack.
  * Threads: there is no state between calls, so any number of threads may call at once.
  */
 #ifndef CERTIFIER_H
@@ -29,6 +31,17 @@ int64_t certifier_judge(const uint8_t *table, size_t table_len, uint64_t row);
  */
 int64_t certifier_precise_bound(const uint8_t *table, size_t table_len, uint64_t row);
 
+/*
+ * Writes the load sheet of the table to `out`: a line for each node that has frames, nodes rising, with node (3),
+ * quotient (10), remainder (8) and divisor (8), and a last line with the number of nodes (3) and the greatest
+ * quotient (10); each line ends in a line feed. A node's load is work * 10000 / hyperperiod.
+ * Answers how many bytes were written, or, where the call is turned back, minus (number * 10000 + place).
+ */
+int64_t certifier_load_sheet(const uint8_t *table, size_t table_len, uint8_t *out, size_t out_len);
+
+/* The bytes of the longest load sheet. */
+#define CERTIFIER_LOAD_SHEET_MOST 494
+
 /* What a claim is found to be. In the first two cases the frame is certified: it is never late. */
 enum certifier_verdict {
     CERTIFIER_BY_APPROXIMATE_BOUND = 1,
@@ -47,6 +60,7 @@ enum certifier_refusal {
     CERTIFIER_DUPLICATE = 5,     /* the later line */
     CERTIFIER_HYPERPERIOD = 6,   /* the node */
     CERTIFIER_RELEASES = 7,      /* the node */
+    CERTIFIER_OUTPUT_AREA = 8,   /* 0; of calls with an output area only */
     CERTIFIER_NO_SUCH_ROW = 9,   /* 0 */
     CERTIFIER_BOUND_NO_WINDOW = 11, /* the row; of certifier_precise_bound only */
     CERTIFIER_BOUND_TOO_MANY_SCENARIOS = 12 /* the row; of certifier_precise_bound only */

@@ -5,8 +5,10 @@ use lib.IntN.{ℤ, pos, _+ℤ_, negℤ}
 use Rattle.bus_model.specs.Judgement.{verdict}
 use Rattle.table_checks.specs.declared.Checked.{Checked}
 use Rattle.table_checks.specs.declared.Checked.the-variants.{Passed, Failed}
+use Rattle.frame_table.specs.declared.Answer.{Answer}
+use Rattle.frame_table.specs.declared.Answer.the-variants.{Done, Refused}
 use Rattle.frame_table.specs.Text.{fieldsOf}
-use Rattle.frame_table.specs.Table.{readCheck}
+use Rattle.frame_table.specs.Table.{readCheck, answerFor}
 use Rattle.row_judgement.specs.declared.Refusal.{Refusal}
 use Rattle.row_judgement.specs.declared.Judged.{Judged}
 use Rattle.row_judgement.specs.declared.Judged.the-variants.{Verdict, NotJudged}
@@ -14,6 +16,7 @@ use Rattle.row_judgement.specs.declared.Bounded.{Bounded}
 use Rattle.row_judgement.specs.declared.Bounded.the-variants.{Bound, NotBounded}
 use Rattle.row_judgement.specs.Refusal.{numberOf, ofTable}
 use Rattle.row_judgement.specs.Judge.{judgeRow, boundRow}
+use Rattle.load_sheet.specs.Sheet.{sheetOf}
 
 -- ---- the table as bytes: the checks on files, then those on rows
 
@@ -31,6 +34,9 @@ boundRead Passed file r = boundRow (fieldsOf file) r
 unfoldable pub boundFile : List ℕ → ℕ → Bounded
 boundFile file r = boundRead (readCheck file) file r
 
+abbrev pub sheetAnswer : List ℕ → List ℕ → Answer
+sheetAnswer file out = answerFor (readCheck file) (sheetOf (fieldsOf file)) out
+
 -- ---- as a number
 
 -- minus (number × 10000 + place)
@@ -46,3 +52,8 @@ encodeJudged (NotJudged f) = encodeRefusal f
 unfoldable pub encodeBounded : Bounded → ℤ
 encodeBounded (Bound b) = pos b
 encodeBounded (NotBounded f) = encodeRefusal f
+
+-- how many elements were written
+unfoldable pub encodeAnswer : Answer → ℤ
+encodeAnswer (Done n) = pos n
+encodeAnswer (Refused f) = encodeRefusal (ofTable f)

@@ -1,4 +1,4 @@
-// The entries for C: a table as bytes and a row, and one signed number as the answer.
+// The entries for C: a table as bytes, and one signed number as the answer.
 use bus_model::Judgement;
 use frame_table::Answer;
 use row_judgement::Bounded;
@@ -13,8 +13,11 @@ ghost use Prim.Native.Nat.{ℕ, _+_, _*_, _≤_};
 ghost use lib.IntN.{pos, _+ℤ_};
 ghost use Rattle.row_judgement.specs.declared.Judged.the-variants.{Verdict};
 ghost use Rattle.row_judgement.specs.Judge.{judgeRow};
-ghost use Rattle.certifier.specs.Encode.{judgeFile, boundFile, encodeRefusal, encodeJudged, encodeBounded};
-ghost use Rattle.certifier.specs.Steps.{Encodable};
+ghost use Rattle.frame_table.specs.Text.{fieldsOf};
+ghost use Rattle.frame_table.specs.Table.{areaAfter};
+ghost use Rattle.load_sheet.specs.Sheet.{sheetOf};
+ghost use Rattle.certifier.specs.Encode.{judgeFile, boundFile, sheetAnswer, encodeRefusal, encodeJudged, encodeBounded, encodeAnswer};
+ghost use Rattle.certifier.specs.Steps.{Encodable, Countable};
 
 // Judges the claim of a row of the table.
 #[no_mangle]
@@ -40,6 +43,15 @@ pub extern "C" fn certifier_precise_bound(table: &[u8], row: u64) -> i64
         Answer::Refused(refusal) => encode_refusal(of_table(refusal)),
         Answer::Done(n) => encode_bounded(precise_bound(&rows[..n], row)),
     }
+}
+
+// Writes the load sheet of the table, and answers its length. A refusal leaves the output as it is.
+#[no_mangle]
+pub extern "C" fn certifier_load_sheet(table: &[u8], out: &mut [u8]) -> i64
+    ensures { λ r. ⌜ r ≡ encodeAnswer (sheetAnswer (now (table .entry)) (now (out .entry))) ⌝ }
+    ensures { λ _. ⌜ now (out .exit) ≡ areaAfter (sheetAnswer (now (table .entry)) (now (out .entry))) (sheetOf (fieldsOf (now (table .entry)))) (now (out .entry)) ⌝ }
+{
+    encode_answer(load_sheet::write(table, out))
 }
 
 // Judges the claim of a row of rows in memory.
@@ -76,6 +88,17 @@ pub fn encode_bounded(bounded: Bounded) -> i64
     match bounded {
         Bounded::Bound(bound) => bound as i64,
         Bounded::NotBounded(refusal) => encode_refusal(refusal),
+    }
+}
+
+// How many elements were written, or the refusal.
+pub fn encode_answer(answer: Answer) -> i64
+    requires { ⌜ Countable answer ⌝ }
+    ensures { λ r. ⌜ r ≡ encodeAnswer answer ⌝ }
+{
+    match answer {
+        Answer::Done(n) => n as i64,
+        Answer::Refused(refusal) => encode_refusal(of_table(refusal)),
     }
 }
 

@@ -1,11 +1,13 @@
 // The operations on frame tables: the precise bound of a row, its judgement, the listing of all rows, and
-// the entries for C. Each takes any input, and checks its table itself. The encode functions give the numbers that
-// the entries answer.
+// the entries for C, that of the load sheet among them. Each takes any input, and checks its table itself. The encode
+// functions give the numbers that the entries answer.
 mod encode;
 mod listing;
 
 pub use encode::certifier_judge;
+pub use encode::certifier_load_sheet;
 pub use encode::certifier_precise_bound;
+pub use encode::encode_answer;
 pub use encode::encode_bounded;
 pub use encode::encode_judgement_of;
 pub use encode::encode_refusal;

@@ -1,12 +1,11 @@
 -- What the operations with an output area answer, and one signed number for each answer.
-use Prim.Native.Nat.{ℕ, _≤_}
+use Prim.Native.Nat.{ℕ}
 use mathlib.Core.List.{List}
 use lib.IntN.{ℤ, pos}
 use Rattle.table_checks.specs.declared.Checked.{Checked}
 use Rattle.table_checks.specs.declared.Checked.the-variants.{Passed, Failed}
 use Rattle.table_checks.specs.Checks.{rowsCheck}
 use Rattle.frame_table.specs.declared.Answer.{Answer}
-use Rattle.frame_table.specs.declared.Answer.the-variants.{Done, Refused}
 use Rattle.frame_table.specs.Text.{fieldsOf, textOf}
 use Rattle.frame_table.specs.Table.{readCheck, answerFor}
 use Rattle.row_judgement.specs.Refusal.{ofTable}
@@ -30,13 +29,3 @@ listAnswer file out = answerFor (readCheck file) (listingOf (fieldsOf file)) out
 unfoldable pub encodeChecked : Checked → ℤ
 encodeChecked Passed = pos 0
 encodeChecked (Failed f) = encodeRefusal (ofTable f)
-
--- how many elements were written
-unfoldable pub encodeAnswer : Answer → ℤ
-encodeAnswer (Done n) = pos n
-encodeAnswer (Refused f) = encodeRefusal (ofTable f)
-
--- these are no more than the longest file has, so that they fit
-abbrev pub Countable : Answer → Type 0
-Countable (Done n) = n ≤ 2752
-Countable (Refused f) = Unit {0}

@@ -1,16 +1,15 @@
 // Entries for a test program in another language, for the operations that have no entry for C. Each answers one signed
 // number: how many elements were written, 0 for a check that passed, a judgement or a bound as certifier encodes it, or
 // minus (number × 10000 + place) for a refusal.
-use frame_table::Answer;
 use table_checks::Checked;
 ghost use mathlib.Core.Path.{_≡_};
 ghost use Rattle.table_checks.specs.Checks.{rowsCheck};
 ghost use Rattle.frame_table.specs.Text.{fieldsOf, textOf};
 ghost use Rattle.frame_table.specs.Table.{areaAfter};
 ghost use Rattle.row_judgement.specs.Judge.{judgeRow, boundRow};
-ghost use Rattle.certifier.specs.Encode.{encodeJudged, encodeBounded};
+ghost use Rattle.certifier.specs.Encode.{encodeJudged, encodeBounded, encodeAnswer};
 ghost use Rattle.certifier.specs.Listing.{listingOf};
-ghost use Rattle.test_entries.specs.Encode.{readAnswer, writeAnswer, listAnswer, encodeChecked, encodeAnswer, Countable};
+ghost use Rattle.test_entries.specs.Encode.{readAnswer, writeAnswer, listAnswer, encodeChecked};
 
 // Checks rows in memory.
 #[no_mangle]
@@ -30,7 +29,7 @@ pub extern "C" fn test_read(file: &[u8], rows: &mut [u32]) -> i64
     ensures { λ r. ⌜ r ≡ encodeAnswer (readAnswer (now (file .entry)) (now (rows .entry))) ⌝ }
     ensures { λ _. ⌜ now (rows .exit) ≡ areaAfter (readAnswer (now (file .entry)) (now (rows .entry))) (fieldsOf (now (file .entry))) (now (rows .entry)) ⌝ }
 {
-    encode_answer(frame_table::read(file, rows))
+    certifier::encode_answer(frame_table::read(file, rows))
 }
 
 // Writes rows to a file.
@@ -39,7 +38,7 @@ pub extern "C" fn test_write(rows: &[u32], file: &mut [u8]) -> i64
     ensures { λ r. ⌜ r ≡ encodeAnswer (writeAnswer (now (rows .entry)) (now (file .entry))) ⌝ }
     ensures { λ _. ⌜ now (file .exit) ≡ areaAfter (writeAnswer (now (rows .entry)) (now (file .entry))) (textOf (now (rows .entry))) (now (file .entry)) ⌝ }
 {
-    encode_answer(frame_table::write(rows, file))
+    certifier::encode_answer(frame_table::write(rows, file))
 }
 
 // Lists the judgements of the table in a file.
@@ -48,7 +47,7 @@ pub extern "C" fn test_list(file: &[u8], out: &mut [u8]) -> i64
     ensures { λ r. ⌜ r ≡ encodeAnswer (listAnswer (now (file .entry)) (now (out .entry))) ⌝ }
     ensures { λ _. ⌜ now (out .exit) ≡ areaAfter (listAnswer (now (file .entry)) (now (out .entry))) (listingOf (fieldsOf (now (file .entry)))) (now (out .entry)) ⌝ }
 {
-    encode_answer(certifier::list(file, out))
+    certifier::encode_answer(certifier::list(file, out))
 }
 
 // Judges the claim of a row of rows in memory.
@@ -65,14 +64,4 @@ pub extern "C" fn test_precise_bound(rows: &[u32], row: u64) -> i64
     ensures { λ r. ⌜ r ≡ encodeBounded (boundRow (now (rows .entry)) row) ⌝ }
 {
     certifier::encode_bounded(certifier::precise_bound(rows, row))
-}
-
-fn encode_answer(answer: Answer) -> i64
-    requires { ⌜ Countable answer ⌝ }
-    ensures { λ r. ⌜ r ≡ encodeAnswer answer ⌝ }
-{
-    match answer {
-        Answer::Done(n) => n as i64,
-        Answer::Refused(refusal) => certifier::encode_refusal(certifier::of_table(refusal)),
-    }
 }

@@ -2,8 +2,9 @@
 use mathlib.Core.Path.{sym, subst, _∙_}
 use borrow.Author.Needs.{needs}
 use Rattle.arith.specs.laws.Signed.{kept}
-use Rattle.test_entries.specs.Encode.{Countable}
-use Rattle.test_entries.specs.Laws.{list-countable, named}
+use Rattle.certifier.specs.Steps.{Countable}
+use Rattle.certifier.specs.laws.Answers.{named}
+use Rattle.test_entries.specs.Laws.{list-countable}
 use Rattle.test_entries.proofs.test_list.Statement.{statement}
 use Rattle.test_entries.proofs.test_list.Tie as tie
 

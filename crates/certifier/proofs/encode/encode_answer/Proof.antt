@@ -1,19 +1,19 @@
--- The count is small and is read as signed as it stands; a refusal is encoded as certifier does.
-use Prim.Native.Nat.{_≤_}
+-- The count is small and is read as signed as it stands; a refusal is encoded by its own function.
+use Prim.Native.Nat.{_^_, _<_}
 use mathlib.Core.Path.{ap, subst, _∙_}
 use native.Mathlib.Omega.{arith}
 use borrow.Author.Needs.{needs}
 use Rattle.arith.specs.laws.Signed.{toZ-pos, kept}
-use Rattle.certifier.specs.Encode.{encodeRefusal}
-use Rattle.test_entries.specs.Encode.{Countable, encodeAnswer}
-use Rattle.test_entries.proofs.encode_answer.Statement.{statement}
-use Rattle.test_entries.proofs.encode_answer.Tie as tie
+use Rattle.certifier.specs.Encode.{encodeRefusal, encodeAnswer}
+use Rattle.certifier.specs.Steps.{Countable}
+use Rattle.certifier.proofs.encode.encode_answer.Statement.{statement}
+use Rattle.certifier.proofs.encode.encode_answer.Tie as tie
 
 enum-known-answer : tie.Need-enum-known-answer
 enum-known-answer c = search needs
 
 -- the count is small
-small : (c : tie.After-known-told) → c .before .answer .given .0 .0 ≤ 2752
+small : (c : tie.After-known-told) → c .before .answer .given .0 .0 < 2 ^ 63
 small c = subst Countable (c .before .answer .given .1) (c .before .before .before .pre)
 
 cast-result : tie.Need-cast-result
