@@ -1,8 +1,8 @@
--- `listing::read_rest` meets its contract: each turn uses up one of those left.
+-- `console::read_rest` meets its contract: each turn uses up one of those left.
 use borrow.Author.Needs.{needs}
 use Prim.Native.Nat.{_^_, _≤_}
-use Rattle.listing.proofs.read_rest.Statement.{statement}
-use Rattle.listing.proofs.read_rest.Tie as tie
+use Rattle.console.proofs.read_rest.Statement.{statement}
+use Rattle.console.proofs.read_rest.Tie as tie
 
 abbrev Inv-loop : tie.InvT-loop
 Inv-loop size total₀ turns₀ total turns = turns ≤ 2 ^ 62

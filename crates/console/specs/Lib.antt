@@ -1,0 +1,2 @@
+-- What reading hands on.
+pub mod Steps

@@ -1,0 +1,70 @@
+// Works on the frame table on standard input, as the command says that is the program's first argument. Another command is a
+// variant of Command, a line in `read_command`, an arm in `main` with a function of its own, and a line of the usage text.
+use console::BUFFER;
+
+enum Command {
+    LoadSheet,
+    Unknown,
+}
+
+fn main() {
+    let command = read_command();
+    match command {
+        Command::LoadSheet => load_sheet(),
+        Command::Unknown => explain(),
+    }
+}
+
+// The command that the program is called with.
+fn read_command() -> Command {
+    if is_called(b"load-sheet", 0) {
+        return Command::LoadSheet;
+    }
+    Command::Unknown
+}
+
+// Says how the program is used.
+fn explain() {
+    io::write_all(
+        2,
+        b"usage: vinguaru COMMAND < TABLE\ncommands:\n  load-sheet   each node's bus load, and the greatest of them\n",
+    );
+}
+
+// Whether the first argument is the word, and so many more follow it.
+fn is_called(word: &[u8], more: u8) -> bool {
+    if os::arg_count() != 2 + more as usize {
+        return false;
+    }
+    let mut space = io::buffer();
+    let n = os::arg(1, &mut space);
+    is_word(&space[..n], word)
+}
+
+// Whether two words are the same.
+fn is_word(a: &[u8], b: &[u8]) -> bool {
+    if a.len() != b.len() {
+        return false;
+    }
+    let mut i = 0;
+    while i < a.len() {
+        if a[i] != b[i] {
+            return false;
+        }
+        i += 1;
+    }
+    true
+}
+
+// Prints the load sheet of the table, or its refusal.
+fn load_sheet() {
+    let mut file = [0u8; BUFFER];
+    let table = console::read_table(b"vinguaru", &mut file);
+    if !table.held {
+        return;
+    }
+    let size = table.size;
+    let mut sheet = [0u8; load_sheet::LONGEST];
+    let answer = load_sheet::write(&file[..size], &mut sheet);
+    console::print_answer(b"vinguaru", answer, &sheet);
+}
