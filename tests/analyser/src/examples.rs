@@ -1,10 +1,12 @@
-//! The examples of document 01.
+//! The examples of document 01, and load sheets worked out by hand.
 
 use crate::bounds::View;
 use crate::judgement::{judge, precise_bound, LIMITS};
 use crate::listing::{bound_number, judge_number, list};
-use crate::table::{Refusal, Row, CLAIM};
-use crate::{judge_cases, table_cases};
+use crate::load_sheet::{load_sheet, Load};
+use crate::random::Random;
+use crate::table::{Refusal, Row, CLAIM, NODE, PERIOD};
+use crate::{bounds, judge_cases, table, table_cases};
 
 const FILE: &str = "  1        16 11 8    1000       0     300
   1        32 11 0    1000     200     189
@@ -60,4 +62,59 @@ fn numbers_for_c() {
 fn cases_hold() {
     assert!(table_cases::all().len() >= 300);
     assert!(judge_cases::all().len() >= 500);
+}
+
+/// Node 1 sends 135 + 55 + 135 ticks in 1000, 325 × 10000 / 1000 = 3250; node 2 sends 65.
+#[test]
+fn load_sheet_of_the_whole_case() {
+    let sheet = "  1      3250       0    1000
+  2       650       0    1000
+  2      3250
+";
+    assert_eq!(load_sheet(FILE.as_bytes()), sheet);
+    assert_eq!(load_sheet(b""), "  1     0\n");
+}
+
+/// Node 1: 160 in 1000000, and 1600000 = 1 × 1000000 + 600000. Node 5: 80 in 7, and
+/// 800000 = 114285 × 7 + 5. Node 16: periods 3 and 7, in 21 ticks 7 × 55 + 3 × 65 = 580, and
+/// 5800000 = 276190 × 21 + 10.
+#[test]
+fn load_sheet_with_remainders() {
+    let file = " 16         1 11 0       3       0     100
+  5         2 29 0       7       0     100
+ 16         3 11 1       7       0     100
+  1         4 29 8 1000000       0     100
+";
+    let sheet = "  1         1  600000 1000000
+  5    114285       5       7
+ 16    276190      10      21
+  3    276190
+";
+    assert_eq!(load_sheet(file.as_bytes()), sheet);
+}
+
+/// The greatest quotient: 64 frames of 160 ticks at each tick, 64 × 160 × 10000.
+#[test]
+fn greatest_load() {
+    let row = |line| [7, line, 29, 8, 1, 0, 1];
+    let rows: Vec<Row> = (0..64).map(row).collect();
+    let sheet = "  7 102400000       0       1\n  1 102400000\n";
+    assert_eq!(load_sheet(&table::file_of(&rows)), sheet);
+}
+
+/// A node's work is what it queues in its hyperperiod, counted tick by tick.
+#[test]
+fn load_by_ticks() {
+    let mut random = Random::new(1);
+    for _ in 0..500 {
+        let mut row = || [1, 0, 11, random.below(9) as u32, random.between(1, 12) as u32, 0, 1];
+        let rows = [row(), row(), row()];
+        let queued = |tick: u64| rows.iter().filter(move |row| tick % u64::from(row[PERIOD]) == 0);
+        let end = (1..).find(|tick| queued(*tick).count() == rows.len()).expect("a hyperperiod");
+        let work: u64 = (0..end).flat_map(queued).map(bounds::length).sum();
+        let load = Load::new(&rows, rows[0][NODE]);
+        assert_eq!(load.divisor, end);
+        assert_eq!(load.quotient * end + load.remainder, work * 10_000);
+        assert!(load.remainder < end);
+    }
 }

@@ -1,4 +1,4 @@
-//! An analyser of CAN frame tables beside the certifier, by document 01.
+//! An analyser of CAN frame tables beside the certifier, by documents 01 and 02.
 
 pub mod bounds;
 pub mod cases;
@@ -9,6 +9,7 @@ pub mod judgement;
 pub mod listing;
 pub mod literal;
 pub mod literal_bus;
+pub mod load_sheet;
 pub mod random;
 pub mod self_check;
 pub mod simulator;

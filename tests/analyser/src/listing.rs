@@ -7,7 +7,7 @@ use crate::table::{self, Refusal, Row, IDENTIFIER};
 pub fn list(file: &[u8]) -> String {
     let rows = table::parse(file);
     let list = rows.map(|rows| list_rows_by(Search::Pruned, &rows));
-    list.unwrap_or_else(|refusal| format!("{}\n", refusal_columns(refusal)))
+    list.unwrap_or_else(refusal_line)
 }
 
 /// A line for each of accepted rows, by one search or the other.
@@ -23,6 +23,11 @@ pub fn list_rows_by(search: Search, rows: &[Row]) -> String {
 pub fn judgement_columns(judgement: Judgement) -> String {
     let verdict = judgement.verdict as u32;
     format!("{verdict:>3}{:>8}{:>9}", judgement.bound, judgement.margin)
+}
+
+/// The one line of a refused table.
+pub fn refusal_line(refusal: Refusal) -> String {
+    format!("{}\n", refusal_columns(refusal))
 }
 
 /// Number and place.

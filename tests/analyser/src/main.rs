@@ -1,11 +1,14 @@
 //! The analyser's commands.
 
-use analyser::{cases, judge_cases, judgement, listing, self_check, table, table_cases};
+use analyser::{
+    cases, judge_cases, judgement, listing, load_sheet, self_check, table, table_cases,
+};
 use std::io::{self, Read, Write};
 use std::process::ExitCode;
 
 const USAGE: &str = "usage:
   analyser list < table
+  analyser load-sheet < table
   analyser judge ROW < table
   analyser precise ROW < table
   analyser self-check SEED COUNT
@@ -29,6 +32,7 @@ fn main() -> ExitCode {
 fn run(words: &[&str]) -> io::Result<bool> {
     match words {
         ["list"] => print(listing::list(&input()?).as_bytes()),
+        ["load-sheet"] => print(load_sheet::load_sheet(&input()?).as_bytes()),
         ["judge", row] => {
             let judged = judgement::judge_file(&input()?, number(row)?);
             print(format!("{}\n", listing::judge_number(judged)).as_bytes())

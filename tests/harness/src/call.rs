@@ -1,5 +1,6 @@
 //! Calls of the library: an operation and its input.
 
+use analyser::load_sheet::sheet_of;
 use analyser::table::{self, Row, FIELDS, LINE};
 use std::fmt;
 
@@ -13,6 +14,7 @@ pub enum Operation {
     BoundFile,
     Read,
     List,
+    LoadSheet,
     JudgeRows,
     BoundRows,
     Check,
@@ -20,9 +22,9 @@ pub enum Operation {
 }
 
 impl Operation {
-    pub const ALL: [Operation; 8] = {
+    pub const ALL: [Operation; 9] = {
         use Operation::*;
-        [JudgeFile, BoundFile, Read, List, JudgeRows, BoundRows, Check, Write]
+        [JudgeFile, BoundFile, Read, List, LoadSheet, JudgeRows, BoundRows, Check, Write]
     };
 
     /// Whether the answer is a judgement, unless it is a refusal.
@@ -38,6 +40,7 @@ impl fmt::Display for Operation {
             Operation::BoundFile => "bound file",
             Operation::Read => "read",
             Operation::List => "list",
+            Operation::LoadSheet => "load sheet",
             Operation::JudgeRows => "judge rows",
             Operation::BoundRows => "bound rows",
             Operation::Check => "check",
@@ -54,6 +57,7 @@ pub enum OnFile {
     PreciseBound(u64),
     Read(usize),
     List(usize),
+    LoadSheet(usize),
 }
 
 /// An operation on rows in memory, likewise.
@@ -85,6 +89,7 @@ impl Call {
             Call::File(_, OnFile::PreciseBound(_)) => Operation::BoundFile,
             Call::File(_, OnFile::Read(_)) => Operation::Read,
             Call::File(_, OnFile::List(_)) => Operation::List,
+            Call::File(_, OnFile::LoadSheet(_)) => Operation::LoadSheet,
             Call::Rows(_, OnRows::Judge(_)) => Operation::JudgeRows,
             Call::Rows(_, OnRows::PreciseBound(_)) => Operation::BoundRows,
             Call::Rows(_, OnRows::Check) => Operation::Check,
@@ -122,14 +127,19 @@ impl Call {
 
     /// The size of the area lent, and what the result takes of it.
     pub fn room(&self) -> Option<(usize, usize)> {
-        let (size, in_a_line) = match self {
-            Call::File(_, OnFile::Read(size)) => (size, FIELDS),
-            Call::File(_, OnFile::List(size)) => (size, LISTED),
-            Call::Rows(_, OnRows::Write(size)) => (size, LINE),
-            _ => return None,
-        };
-        Some((*size, in_a_line * self.lines()))
+        match self {
+            Call::File(_, OnFile::Read(size)) => Some((*size, FIELDS * self.lines())),
+            Call::File(_, OnFile::List(size)) => Some((*size, LISTED * self.lines())),
+            Call::File(file, OnFile::LoadSheet(size)) => Some((*size, sheet_size(file))),
+            Call::Rows(_, OnRows::Write(size)) => Some((*size, LINE * self.lines())),
+            _ => None,
+        }
     }
+}
+
+/// What the load sheet of a file takes; nothing, if the file is refused.
+pub fn sheet_size(file: &[u8]) -> usize {
+    table::parse(file).map_or(0, |rows| sheet_of(&rows).len())
 }
 
 impl fmt::Display for Call {

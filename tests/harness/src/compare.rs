@@ -5,6 +5,7 @@ use crate::lent::{filled, Element, Lent};
 use crate::{library, yardstick};
 use analyser::judgement::{judge, judge_file, precise_bound, Search};
 use analyser::listing::{bound_number, judge_number, list_rows_by, refusal_number};
+use analyser::load_sheet::sheet_of;
 use analyser::random::Random;
 use analyser::table::{self, Refusal, Row, FIELDS, LINE};
 
@@ -38,7 +39,11 @@ fn compare_file(random: &mut Random, file: &[u8], operation: OnFile) -> Result<i
                 Ok(rows) => Ok(listing(&rows)?),
                 Err(refusal) => Err(refusal),
             };
-            with_area(random, file, size, |area| list_into(listed, area), library::list)
+            with_area(random, file, size, |area| text_into(listed, area), library::list)
+        }
+        OnFile::LoadSheet(size) => {
+            let sheet = table::parse(file).map(|rows| sheet_of(&rows));
+            with_area(random, file, size, |area| text_into(sheet, area), library::load_sheet)
         }
     }
 }
@@ -78,9 +83,9 @@ fn listing(rows: &[Row]) -> Result<String, String> {
     }
 }
 
-/// The listing of accepted rows; an area too short comes last.
-fn list_into(listed: Result<String, Refusal>, area: &mut [u8]) -> i64 {
-    match listed {
+/// A text of accepted rows; an area too short comes last.
+fn text_into(text: Result<String, Refusal>, area: &mut [u8]) -> i64 {
+    match text {
         Err(refusal) => refusal_number(refusal),
         Ok(text) if text.len() > area.len() => refusal_number(Refusal { number: 8, place: 0 }),
         Ok(text) => {

@@ -1,6 +1,6 @@
 //! Random inputs: each is settled by the seed and its number.
 
-use crate::call::{Call, OnFile, OnRows, LISTED};
+use crate::call::{sheet_size, Call, OnFile, OnRows, LISTED};
 use crate::damage::{damage_file, damage_rows, damage_words, file_of};
 use crate::tables::{self, claim_all, is_cheap};
 use analyser::random::Random;
@@ -18,6 +18,7 @@ enum Task {
     Judge(u64),
     PreciseBound(u64),
     List,
+    LoadSheet,
     /// Reading, checking or writing.
     Copy,
 }
@@ -51,6 +52,7 @@ fn on_file(random: &mut Random, file: Vec<u8>, task: Task) -> Call {
         Task::Judge(row) => OnFile::Judge(row),
         Task::PreciseBound(row) => OnFile::PreciseBound(row),
         Task::List => OnFile::List(area(random, lines * LISTED)),
+        Task::LoadSheet => OnFile::LoadSheet(area(random, sheet_size(&file))),
         Task::Copy => OnFile::Read(area(random, lines * FIELDS)),
     };
     Call::File(file, operation)
@@ -61,7 +63,7 @@ fn on_rows(random: &mut Random, words: Vec<u32>, task: Task) -> Call {
     let operation = match task {
         Task::Judge(row) => OnRows::Judge(row),
         Task::PreciseBound(row) => OnRows::PreciseBound(row),
-        Task::List => OnRows::Check,
+        Task::List | Task::LoadSheet => OnRows::Check,
         Task::Copy => OnRows::Write(area(random, lines * LINE)),
     };
     Call::Rows(words, operation)
@@ -69,10 +71,11 @@ fn on_rows(random: &mut Random, words: Vec<u32>, task: Task) -> Call {
 
 fn task(random: &mut Random, row: usize, lines: usize) -> Task {
     let row = row_number(random, row as u64, lines as u64);
-    match random.below(12) {
+    match random.below(14) {
         0..=4 => Task::Judge(row),
         5..=6 => Task::PreciseBound(row),
         7..=8 => Task::List,
+        9..=10 => Task::LoadSheet,
         _ => Task::Copy,
     }
 }
@@ -82,7 +85,7 @@ fn affordable(task: Task, rows: &[Row], cheap: Option<usize>) -> Task {
     let asked = match task {
         Task::Judge(row) | Task::PreciseBound(row) => rows_at(rows, row),
         Task::List => 0..rows.len(),
-        Task::Copy => 0..0,
+        Task::LoadSheet | Task::Copy => 0..0,
     };
     let mut asked = asked.filter(|row| Some(*row) != cheap);
     if asked.all(|row| is_cheap(rows, row)) {

@@ -5,6 +5,7 @@ use crate::lent::Lent;
 extern "C" {
     fn certifier_judge(table: *const u8, len: usize, row: u64) -> i64;
     fn certifier_precise_bound(table: *const u8, len: usize, row: u64) -> i64;
+    fn certifier_load_sheet(table: *const u8, len: usize, out: *mut u8, out_len: usize) -> i64;
     fn test_read(file: *const u8, len: usize, rows: *mut u32, rows_len: usize) -> i64;
     fn test_check(rows: *const u32, rows_len: usize) -> i64;
     fn test_write(rows: *const u32, rows_len: usize, file: *mut u8, file_len: usize) -> i64;
@@ -17,11 +18,16 @@ extern "C" {
 // else refers to, with guards on both sides, or the length is 0.
 
 pub fn judge(file: &mut Lent<u8>, row: u64) -> i64 {
-    unsafe { certifier_judge(table_address(file), file.len(), row) }
+    unsafe { certifier_judge(address_or_null(file), file.len(), row) }
 }
 
 pub fn precise_bound(file: &mut Lent<u8>, row: u64) -> i64 {
-    unsafe { certifier_precise_bound(table_address(file), file.len(), row) }
+    unsafe { certifier_precise_bound(address_or_null(file), file.len(), row) }
+}
+
+pub fn load_sheet(file: &mut Lent<u8>, out: &mut Lent<u8>) -> i64 {
+    let (table, area) = (address_or_null(file), address_or_null(out));
+    unsafe { certifier_load_sheet(table, file.len(), area, out.len()) }
 }
 
 pub fn read(file: &mut Lent<u8>, rows: &mut Lent<u32>) -> i64 {
@@ -49,10 +55,10 @@ pub fn precise_bound_rows(rows: &mut Lent<u32>, row: u64) -> i64 {
 }
 
 /// The entries for C take null for no bytes.
-fn table_address(file: &mut Lent<u8>) -> *const u8 {
-    if file.len() == 0 {
-        std::ptr::null()
+fn address_or_null(bytes: &mut Lent<u8>) -> *mut u8 {
+    if bytes.len() == 0 {
+        std::ptr::null_mut()
     } else {
-        file.address()
+        bytes.address()
     }
 }

@@ -40,7 +40,7 @@ fn possible(operation: Operation) -> Vec<Outcome> {
     let refusals: &[u32] = match operation {
         JudgeFile => &[1, 2, 3, 4, 5, 6, 7, 9],
         BoundFile => &[1, 2, 3, 4, 5, 6, 7, 9, 11, 12],
-        Read | List => &[1, 2, 3, 4, 5, 6, 7, 8],
+        Read | List | LoadSheet => &[1, 2, 3, 4, 5, 6, 7, 8],
         JudgeRows => &[4, 5, 6, 7, 9, 10],
         BoundRows => &[4, 5, 6, 7, 9, 10, 11, 12],
         Check => &[4, 5, 6, 7, 10],
