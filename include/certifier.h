@@ -1,5 +1,5 @@
 /*
- * The picker bus certifier for C: judges the claims of a frame table.
+ * The picker bus certifier for C: judges the claims of a frame table, and writes its load sheet.
  *
  * A table is a file of 1 to 64 lines, each 42 characters and a line feed. Rows count from 0, lines from 1.
  * Each call takes the whole file's bytes, checks it, and answers one number.
@@ -34,7 +34,8 @@ int64_t certifier_precise_bound(const uint8_t *table, size_t table_len, uint64_t
 /*
  * Writes the load sheet of the table to `out`: a line for each node that has frames, nodes rising, with node (3),
  * quotient (10), remainder (8) and divisor (8), and a last line with the number of nodes (3) and the greatest
- * quotient (10); each line ends in a line feed. A node's load is work * 10000 / hyperperiod.
+ * quotient (10); each line ends in a line feed. The dividend is work * 10000, the divisor the node's hyperperiod, and
+ * work is the sum over the node's frames of largest length * (hyperperiod / period).
  * Answers how many bytes were written, or, where the call is turned back, minus (number * 10000 + place).
  */
 int64_t certifier_load_sheet(const uint8_t *table, size_t table_len, uint8_t *out, size_t out_len);

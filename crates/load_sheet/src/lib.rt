@@ -4,11 +4,6 @@ mod sheet;
 
 pub use sheet::write;
 
-// The characters of a node's line, and of the last line, with the line feed.
-pub const LINE: usize = 30;
-
-pub const LAST_LINE: usize = 14;
-
 // The characters of the longest sheet.
 pub const LONGEST: usize = 494;
 

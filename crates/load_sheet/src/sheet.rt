@@ -1,6 +1,4 @@
 // The sheet: a line for each node that has frames, nodes rising, and a last line.
-use crate::LAST_LINE;
-use crate::LINE;
 use crate::Load;
 use crate::loads::has_frames;
 use crate::loads::node_load;
@@ -20,6 +18,11 @@ ghost use Rattle.load_sheet.specs.Sheet.{nodesOf, nodeLine, linesOf, las
 ghost use Rattle.load_sheet.specs.Steps.{Nodes};
 
 const NODES: usize = 16;
+
+// The characters of a node's line, and of the last line, with the line feed.
+const LINE: usize = 30;
+
+const LAST_LINE: usize = 14;
 
 const LINE_FEED: u8 = 10;
 

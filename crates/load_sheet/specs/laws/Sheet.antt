@@ -7,17 +7,16 @@
 --     most-above, most-met      which is that of a line, and no line's is greater
 use Prim.Native.Nat.{ℕ, zero, suc, _+_, _-_, _*_, _/_, _^_, _≤_, _<_}
 use mathlib.Core.Path.{_≡_, refl}
-use mathlib.Core.Bool.{Bool, true, false, cond}
-use mathlib.Core.List.{List, [], _∷_, _++_, append-assoc, List·Memᴰ as Mem, List·Memᴰ·head as here, List·Memᴰ·tail as there}
+use mathlib.Core.List.{List, [], _∷_, _++_, append-assoc, List·Memᴰ as Mem}
 use native.Mathlib.Nat.{div-add-mod, div-le-of-le-mul, div-le-self, mod-lt, mul-le-mul, mul-le-mul-left}
 use native.Mathlib.Decide.{decLt}
 use native.Mathlib.Omega.{arith}
 use lib.Dec.{eqb, eqb-refl, eqb→eq}
 use lib.ListN.{length, getD, take, drop, length-append}
 use lib.Seq.{take-at, drop-at, drop-drop}
-use Rattle.arith.specs.Lists.{sum, keep, range}
+use Rattle.arith.specs.Lists.{keep, range}
 use Rattle.arith.specs.laws.Members.{mem-keep, of-keep, length-keep, exists-mem, of-exists, mem-getD, place-of, mem-range, of-range}
-use Rattle.arith.specs.laws.Sums.{sum-bound, sum-keep, le-greatest, greatest-le, greatest-exceeds}
+use Rattle.arith.specs.laws.Sums.{sum-bound, le-greatest, greatest-le, greatest-exceeds}
 use Rattle.decimal.specs.declared.Column.the-variants.{Value}
 use Rattle.decimal.specs.Decimal.{readColumn, writeColumn}
 use Rattle.decimal.specs.Laws.{length-write, read-write}
@@ -98,13 +97,13 @@ line-place fs (j ∷ js) rest (suc i) l =
     rw (next, append-assoc line (linesOf fs js) rest, ← drop-drop (30 * i) 30 (line ++ (linesOf fs js ++ rest)), drop-at line (linesOf fs js ++ rest) 30 (length-node-line j _))
     (line-place fs js rest i (omega arith))
 
-pub sheet-line : (rows : List ℕ) (i : ℕ) → i < length (nodesOf (framesOf rows))
+sheet-line : (rows : List ℕ) (i : ℕ) → i < length (nodesOf (framesOf rows))
     → take 30 (drop (30 * i) (sheetOf rows)) ≡ nodeLine (getD (nodesOf (framesOf rows)) i 0) (nodeLoad (framesOf rows) (getD (nodesOf (framesOf rows)) i 0))
 unfolding sheetOf sheetWith
 sheet-line rows i l = line-place (framesOf rows) (nodesOf (framesOf rows)) _ i l
 
 -- and behind them stands the last line, with their number.
-pub sheet-last : (rows : List ℕ) → drop (30 * length (nodesOf (framesOf rows))) (sheetOf rows)
+sheet-last : (rows : List ℕ) → drop (30 * length (nodesOf (framesOf rows))) (sheetOf rows)
     ≡ lastLine (length (nodesOf (framesOf rows))) (greatestQuotient (framesOf rows) (nodesOf (framesOf rows)))
 unfolding sheetOf sheetWith
 sheet-last rows = drop-at (linesOf (framesOf rows) (nodesOf (framesOf rows))) _ _ (length-lines (framesOf rows) (nodesOf (framesOf rows)))
@@ -149,19 +148,14 @@ module _ (rows : List ℕ) (accepted : Accepted rows) where
   work-most : (h j : ℕ) → workIn h (ofNode fs j) ≤ 400 * h * 64
   unfolding workIn ofNode
   work-most h j =
-      let few : length fs ≤ 64 = omega (arith, length-frames rows, accepted-size rows accepted .most) in
-      let most = sum-bound (λ g. cond (eqb (g .node) j) (g .length * (h / g .period)) 0) (400 * h) fs term in
-      rw (sum-keep (λ g. eqb (g .node) j) (λ g. g .length * (h / g .period)) fs) (omega (arith, most, mul-le-mul-left (400 * h) few))
+      let few : length (ofNode fs j) ≤ 64 = omega (arith, length-keep (λ g. eqb (g .node) j) fs, length-frames rows, accepted-size rows accepted .most) in
+      omega (arith, sum-bound (λ g. g .length * (h / g .period)) (400 * h) (ofNode fs j) term, mul-le-mul-left (400 * h) few)
     where
-      of-test : (b : Bool) (m : ℕ) → m ≤ 400 * h → cond b m 0 ≤ 400 * h
-      of-test true m le = le
-      of-test false m le = omega arith
-
-      term : (g : Frame) → Mem g fs → cond (eqb (g .node) j) (g .length * (h / g .period)) 0 ≤ 400 * h
+      term : (g : Frame) → Mem g (keep (λ f. eqb (f .node) j) fs) → g .length * (h / g .period) ≤ 400 * h
       term g m =
-          let (i, l, e) = place-of noFrame m in
+          let (i, l, e) = place-of noFrame (of-keep _ fs m .0) in
           let short : g .length ≤ 400 = rw e at (frame-limits rows accepted i (rw (length-frames rows) at l) .1) in
-          of-test (eqb (g .node) j) (g .length * (h / g .period)) (mul-le-mul short (div-le-self h (g .period)))
+          mul-le-mul short (div-le-self h (g .period))
 
   module _ {j : ℕ} (node : Mem j (nodesOf fs)) where
     divisor-is : (1 ≤ hyperperiod (ofNode fs j)) × (hyperperiod (ofNode fs j) ≤ 1000000)

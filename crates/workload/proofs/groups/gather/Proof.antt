@@ -1,12 +1,12 @@
 -- `workload::groups::gather` meets its contract: the invariant has the rows found and those still to come.
 use borrow.Author.Needs.{needs}
-use Prim.Native.Nat.{_-_, _<_}
+use Prim.Native.Nat.{_-_}
 use mathlib.Core.Path.{_≡_, ap, _∙_}
 use mathlib.Core.Logic.{⊎-elim}
 use native.Mathlib.Omega.{arith}
 use lib.ListN.{length}
-use Rattle.workload.specs.Stored.{stored}
 use Rattle.arith.specs.laws.Gathering.{gathered-none, gathered-put, gathered-skip}
+use Rattle.workload.specs.Stored.{stored}
 use Rattle.workload.specs.laws.Groups.{isMember, RowsGathered, rows-gathered}
 use Rattle.workload.proofs.groups.gather.Statement.{statement}
 use Rattle.workload.proofs.groups.gather.Tie as tie
