@@ -125,14 +125,11 @@ pub fn print_answer(program: &[u8], answer: Answer, out: &[u8]) {
     }
 }
 
-// Number (3), place (6), and a line feed.
+// Prints the line of a refusal.
 fn print_refusal(program: &[u8], refusal: Refusal) {
-    let cause = refusal.cause;
-    let mut space = [b'\n'; 10];
-    let line: &mut [u8] = &mut space;
-    decimal::write(&mut line[0..3], table_checks::number(cause) as u64);
-    decimal::write(&mut line[3..9], refusal.place as u64);
-    print(program, line);
+    let mut line = [0u8; certifier::REFUSAL_LINE];
+    certifier::write_refusal(certifier::of_table(refusal), &mut line);
+    print(program, &line);
 }
 
 // Prints text, and says on standard error where it cannot be written.

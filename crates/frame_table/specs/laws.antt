@@ -3,4 +3,5 @@ pub mod Storable
 pub mod Layout
 pub mod RoundTrip
 pub mod Areas
+pub mod Returns
 pub mod Reading

@@ -3,17 +3,17 @@ use crate::Load;
 use crate::loads::has_frames;
 use crate::loads::node_load;
 use frame_table::Answer;
-use table_checks::Cause;
-use table_checks::Refusal;
+use frame_table::no_room;
 ghost use mathlib.Core.Path.{_≡_};
 ghost use Prim.Native.Nat.{_*_, _≤_, max};
 ghost use mathlib.Core.List.{_++_};
 ghost use lib.ListN.{length, take, drop};
 ghost use Rattle.table_checks.specs.declared.Checked.the-variants.{Passed};
 ghost use Rattle.table_checks.specs.Frames.{framesOf};
+ghost use Rattle.table_checks.specs.Refusal.{checkReturns};
 ghost use Rattle.table_checks.specs.Checks.{Accepted};
 ghost use Rattle.frame_table.specs.Text.{fieldsOf};
-ghost use Rattle.frame_table.specs.Table.{readCheck, answerFor, areaAfter};
+ghost use Rattle.frame_table.specs.Table.{readCheck, answerFor, areaAfter, answerReturns, returnsFor};
 ghost use Rattle.load_sheet.specs.Sheet.{nodesOf, nodeLine, linesOf, lastLine, greatestQuotient, sheetOf};
 ghost use Rattle.load_sheet.specs.Steps.{Nodes};
 
@@ -30,6 +30,7 @@ const LINE_FEED: u8 = 10;
 pub fn write(file: &[u8], out: &mut [u8]) -> Answer
     ensures { λ r. ⌜ r ≡ answerFor (readCheck (now (file .entry))) (sheetOf (fieldsOf (now (file .entry)))) (now (out .entry)) ⌝ }
     ensures { λ r. ⌜ now (out .exit) ≡ areaAfter r (sheetOf (fieldsOf (now (file .entry)))) (now (out .entry)) ⌝ }
+    ensures in_numbers { λ r. ⌜ answerReturns r ≡ returnsFor (checkReturns (readCheck (now (file .entry)))) (sheetOf (fieldsOf (now (file .entry)))) (now (out .entry)) ⌝ }
 {
     let mut rows = [0u32; table_checks::MOST_NUMBERS];
     let answer = frame_table::read(file, &mut rows);
@@ -49,10 +50,7 @@ fn write_rows(rows: &[u32], out: &mut [u8]) -> Answer
     let count = find_nodes(rows, &mut nodes);
     let end = LINE * count;
     if out.len() < end + LAST_LINE {
-        return Answer::Refused(Refusal {
-            cause: Cause::OutputArea,
-            place: 0,
-        });
+        return no_room();
     }
     let most = write_lines(rows, &nodes[..count], out);
     let to = end + LAST_LINE;

@@ -14,8 +14,9 @@ ghost use mathlib.Core.List.{_++_};
 ghost use lib.ListN.{length, drop};
 ghost use Rattle.bus_model.specs.Pattern.{ofNode, hyperperiod};
 ghost use Rattle.table_checks.specs.Frames.{framesOf};
-ghost use Rattle.table_checks.specs.Refusal.{numberOf};
+ghost use Rattle.table_checks.specs.Refusal.{numberOf, checkReturns};
 ghost use Rattle.table_checks.specs.Checks.{rowsCheck, Accepted};
+ghost use Rattle.table_checks.specs.Returns.{rowsReturns};
 
 // The numbers of a row, the characters of a line with its line feed, and the most lines of a table.
 pub const ROW: usize = 7;

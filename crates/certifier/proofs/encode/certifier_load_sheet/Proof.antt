@@ -19,7 +19,7 @@ same-length c = search needs
 returns : tie.Need-returns
 returns c =
     let both = c .before .before .before .write .ensures in
-    named _ _ (both .0) (kept _ (c .encode-answer .ok) ∙ c .encode-answer .ensures) (both .1)
+    named _ _ (both .0) (kept _ (c .encode-answer .ok) ∙ c .encode-answer .ensures) (both .1 .0)
 
 pub certifier-load-sheet-spec : {M : Type 1} → statement M
 certifier-load-sheet-spec = tie.close (tie.spec write-requires encode-answer-requires same-length returns)

@@ -3,6 +3,7 @@ use mathlib.Core.Path.{refl}
 use borrow.Author.Needs.{needs}
 use Rattle.frame_table.specs.laws.Areas.{area-refused}
 use Rattle.frame_table.specs.laws.Reading.{ReadRows, read-rows, read-refused}
+use Rattle.frame_table.specs.laws.Returns.{answer-told}
 use Rattle.certifier.proofs.listing.list.Statement.{statement}
 use Rattle.certifier.proofs.listing.list.Tie as tie
 

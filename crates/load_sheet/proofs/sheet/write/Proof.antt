@@ -3,6 +3,7 @@ use mathlib.Core.Path.{refl}
 use borrow.Author.Needs.{needs}
 use Rattle.frame_table.specs.laws.Areas.{area-refused}
 use Rattle.frame_table.specs.laws.Reading.{ReadRows, read-rows, read-refused}
+use Rattle.frame_table.specs.laws.Returns.{answer-told}
 use Rattle.load_sheet.proofs.sheet.write.Statement.{statement}
 use Rattle.load_sheet.proofs.sheet.write.Tie as tie
 
@@ -10,7 +11,7 @@ use Rattle.load_sheet.proofs.sheet.write.Tie as tie
 read : (c : tie.After-known-told) → ReadRows (c .before .before .before .before .before .before .before .before .args .file .now) (c .before .before .before .before .read .last .1 .0) (c .before .answer .given .0 .0)
 read c =
     let both = c .before .before .before .before .read .ensures in
-    read-rows _ _ _ refl (both .0) _ _ (both .1) (c .before .answer .given .1)
+    read-rows _ _ _ refl (both .0) _ _ (both .1 .0) (c .before .answer .given .1)
 
 slice-aggregate-read : tie.Need-slice-aggregate-read
 slice-aggregate-read c = search needs
@@ -36,7 +37,7 @@ write-rows-requires c κs = read (c .before .before) .accepted
 returns : tie.Need-returns
 returns c =
     let at-read = c .before .before .before in
-    area-refused _ _ _ _ _ (read-refused _ _ _ refl (at-read .read .ensures .0) _ (c .enum-told .given .1)) (c .enum-told .given .1)
+    answer-told _ _ _ (area-refused _ _ _ _ _ (read-refused _ _ _ refl (at-read .read .ensures .0) _ (c .enum-told .given .1)) (c .enum-told .given .1))
 
 same-length : tie.Need-same-length
 same-length c = search needs
@@ -44,7 +45,7 @@ same-length c = search needs
 returns-2 : tie.Need-returns-2
 returns-2 c =
     let table = read (c .before .before .before .before .before) in
-    rw (table .passed, ← table .rows) (c .before .before .write-rows .ensures)
+    answer-told _ _ _ (rw (table .passed, ← table .rows) (c .before .before .write-rows .ensures))
 
 pub write-spec : {M : Type 1} → statement M
 write-spec =

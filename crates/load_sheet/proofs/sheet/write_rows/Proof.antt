@@ -22,12 +22,15 @@ mul-end c = search needs
 add-if1 : tie.Need-add-if1
 add-if1 c = search needs
 
+no-room-requires : tie.Need-no-room-requires
+no-room-requires c κs = search needs
+
 returns : tie.Need-returns
 returns c =
-    let at-nodes = c .before .before in
+    let at-nodes = c .before .before .before in
     let start = at-nodes .before .before .before .before in
     area-short Passed (sheetOf (start .args .rows .now)) (start .args .out .now) _ _
-    (length-sheet (start .args .rows .now) _ (at-nodes .find-nodes .ensures .1 .0)) refl (c .if1 .taken) refl
+    (length-sheet (start .args .rows .now) _ (at-nodes .find-nodes .ensures .1 .0)) refl (c .before .if1 .taken) (c .no-room .ensures)
 
 array-share-prefix-nodes : tie.Need-array-share-prefix-nodes
 array-share-prefix-nodes c = search needs
@@ -84,6 +87,7 @@ write-rows-spec =
     find-nodes-requires
     mul-end
     add-if1
+    no-room-requires
     returns
     array-share-prefix-nodes
     slice-aggregate-write-lines

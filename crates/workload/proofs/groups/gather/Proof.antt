@@ -5,8 +5,8 @@ use mathlib.Core.Path.{_≡_, ap, _∙_}
 use mathlib.Core.Logic.{⊎-elim}
 use native.Mathlib.Omega.{arith}
 use lib.ListN.{length}
-use Rattle.arith.specs.laws.Gathering.{gathered-none, gathered-put, gathered-skip}
 use Rattle.workload.specs.Stored.{stored}
+use Rattle.arith.specs.laws.Gathering.{gathered-none, gathered-put, gathered-skip}
 use Rattle.workload.specs.laws.Groups.{isMember, RowsGathered, rows-gathered}
 use Rattle.workload.proofs.groups.gather.Statement.{statement}
 use Rattle.workload.proofs.groups.gather.Tie as tie
