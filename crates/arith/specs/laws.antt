@@ -3,6 +3,7 @@
 pub mod Tests
 pub mod Below
 pub mod Members
+pub mod Maps
 pub mod Sums
 pub mod Combinations
 pub mod Least

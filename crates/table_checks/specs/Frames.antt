@@ -8,9 +8,11 @@ use Rattle.arith.specs.Lists.{range}
 use Rattle.bus_model.specs.declared.Frame.{Frame}
 use Rattle.table_checks.specs.Columns.{field}
 
--- "Rank": kind 11 goes ahead of kind 29; within a kind the smaller identifier goes first
+-- "Rank": the top 11 of a long identifier's 29 bits are compared with a short one; the smaller goes first, and on a tie the short
+-- frame does. Among frames of one kind the smaller identifier goes first. One number for this order: a short identifier stands
+-- just before the first long one that has it as its top 11 bits (laws/Rank.antt).
 unfoldable pub priorityOf : ℕ → ℕ → ℕ
-priorityOf kind identifier = cond (eqb kind 11) identifier (2048 + identifier)
+priorityOf kind identifier = cond (eqb kind 11) (524_288 * identifier) (2 * identifier + 1)
 
 -- "Largest length": kind 11, then kind 29; by payload bytes
 abbrev pub lengths : List (List ℕ)

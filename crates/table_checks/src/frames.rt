@@ -16,9 +16,9 @@ pub fn priority(kind: u32, identifier: u32) -> u64
     ensures { λ r. ⌜ r ≡ priorityOf kind identifier ⌝ }
 {
     if kind == 11 {
-        identifier as u64
+        524288 * identifier as u64
     } else {
-        2048 + identifier as u64
+        2 * identifier as u64 + 1
     }
 }
 

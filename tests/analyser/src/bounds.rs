@@ -10,9 +10,10 @@ pub fn length(row: &Row) -> u64 {
     LENGTHS[usize::from(row[KIND] == 29)][row[PAYLOAD] as usize]
 }
 
-/// Kind 11 goes ahead of kind 29, then the smaller identifier.
-pub fn rank(row: &Row) -> (u32, u32) {
-    (row[KIND], row[IDENTIFIER])
+/// The smaller of the top 11 bits, then kind 11 ahead of kind 29, then the smaller identifier.
+pub fn rank(row: &Row) -> (u32, u32, u32) {
+    let rest = if row[KIND] == 11 { 0 } else { 18 };
+    (row[IDENTIFIER] >> rest, row[KIND], row[IDENTIFIER])
 }
 
 /// A frame seen from an alignment of its node.

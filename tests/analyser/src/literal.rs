@@ -10,11 +10,12 @@ fn length(row: &Row) -> u64 {
     bits + 13 + (bits - 1) / 4
 }
 
+/// Bit by bit: the smaller of the first 11 bits, then the short frame.
 pub fn goes_ahead(row: &Row, of: &Row) -> bool {
-    if row[2] == of[2] {
-        row[1] < of[1]
-    } else {
-        row[2] == 11
+    match (row[2], of[2]) {
+        (11, 29) => row[1] <= of[1] / 262_144,
+        (29, 11) => row[1] / 262_144 < of[1],
+        _ => row[1] < of[1],
     }
 }
 

@@ -1,6 +1,6 @@
 -- What is known of an accepted table: its size, the limits of its numbers, its nodes' patterns,
 -- and that its frames are valid in the sense of the bus model.
-use Prim.Native.Nat.{ℕ, _+_, _-_, _/_, _≤_, _<_}
+use Prim.Native.Nat.{ℕ, _+_, _-_, _*_, _/_, _≤_, _<_}
 use mathlib.Core.Path.{_≡_, sym, ap, subst, _∙_}
 use mathlib.Core.Bool.{true, cond}
 use mathlib.Core.List.{List}
@@ -54,12 +54,12 @@ unfolding priorityOf
 priority-same k i k′ i′ v v′ e =
     elim (identified-cases k i v) [
       | inl a ↦ elim (identified-cases k′ i′ v′) [
-        | inl b ↦ let z : priorityOf 11 i ≡ priorityOf 11 i′ = rw (a .0, b .0) at e in (a .0 ∙ sym (b .0), omega arith)
-        | inr b ↦ let z : priorityOf 11 i ≡ priorityOf 29 i′ = rw (a .0, b .0) at e in absurd (omega (arith, a .1, b .1))
+        | inl b ↦ let z : 524_288 * i ≡ 524_288 * i′ = rw (a .0, b .0) at e in (a .0 ∙ sym (b .0), omega arith)
+        | inr b ↦ let z : 524_288 * i ≡ 2 * i′ + 1 = rw (a .0, b .0) at e in absurd (omega arith)
       ]
       | inr a ↦ elim (identified-cases k′ i′ v′) [
-        | inl b ↦ let z : priorityOf 29 i ≡ priorityOf 11 i′ = rw (a .0, b .0) at e in absurd (omega (arith, a .1, b .1))
-        | inr b ↦ let z : priorityOf 29 i ≡ priorityOf 29 i′ = rw (a .0, b .0) at e in (a .0 ∙ sym (b .0), omega arith)
+        | inl b ↦ let z : 2 * i + 1 ≡ 524_288 * i′ = rw (a .0, b .0) at e in absurd (omega arith)
+        | inr b ↦ let z : 2 * i + 1 ≡ 2 * i′ + 1 = rw (a .0, b .0) at e in (a .0 ∙ sym (b .0), omega arith)
       ]
     ]
 
