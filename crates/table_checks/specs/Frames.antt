@@ -1,5 +1,5 @@
 -- A row as a frame (document 01, "Rank" and "Largest length").
-use Prim.Native.Nat.{ℕ, _+_, _-_, _*_, _/_}
+use Prim.Native.Nat.{ℕ, _+_, _-_, _*_, _/_, _^_}
 use mathlib.Core.Bool.{cond}
 use mathlib.Core.List.{List, [], _∷_, map}
 use lib.ListN.{length, getD}
@@ -8,11 +8,11 @@ use Rattle.arith.specs.Lists.{range}
 use Rattle.bus_model.specs.declared.Frame.{Frame}
 use Rattle.table_checks.specs.Columns.{field}
 
--- "Rank": the top 11 of a long identifier's 29 bits are compared with a short one; the smaller goes first, and on a tie the short
--- frame does. Among frames of one kind the smaller identifier goes first. One number for this order: a short identifier stands
--- just before the first long one that has it as its top 11 bits (laws/Rank.antt).
+-- "Rank" (document 02, 5): the top 11 of a long identifier's 29 bits are compared with a short identifier, and the smaller goes first;
+-- on a tie the short frame does; among frames of one kind the smaller identifier. As one number, the smaller first: a short frame
+-- stands just before the first long one that has its identifier as the top 11 bits (laws/Rank).
 unfoldable pub priorityOf : ℕ → ℕ → ℕ
-priorityOf kind identifier = cond (eqb kind 11) (524_288 * identifier) (2 * identifier + 1)
+priorityOf kind identifier = cond (eqb kind 11) (2 ^ 19 * identifier) (2 * identifier + 1)
 
 -- "Largest length": kind 11, then kind 29; by payload bytes
 abbrev pub lengths : List (List ℕ)

@@ -10,10 +10,16 @@ pub fn length(row: &Row) -> u64 {
     LENGTHS[usize::from(row[KIND] == 29)][row[PAYLOAD] as usize]
 }
 
-/// The smaller of the top 11 bits, then kind 11 ahead of kind 29, then the smaller identifier.
-pub fn rank(row: &Row) -> (u32, u32, u32) {
-    let rest = if row[KIND] == 11 { 0 } else { 18 };
-    (row[IDENTIFIER] >> rest, row[KIND], row[IDENTIFIER])
+/// What a data frame sends while the bus settles which of several goes on, as a number whose first
+/// bit is the first sent: the identifier's first 11 bits; RTR, 0, or in a long frame SRR, 1; IDE, 0
+/// or 1; of a long identifier 18 bits more. 0 is dominant, so the smaller goes first (ISO 11898-1).
+pub fn rank(row: &Row) -> u32 {
+    let identifier = row[IDENTIFIER];
+    let (first, rtr_or_srr, ide, rest) = match row[KIND] {
+        11 => (identifier, 0, 0, 0),
+        _ => (identifier >> 18, 1, 1, identifier % (1 << 18)),
+    };
+    first << 20 | rtr_or_srr << 19 | ide << 18 | rest
 }
 
 /// A frame seen from an alignment of its node.

@@ -32,7 +32,8 @@ pub const LONG_WINDOWS: &[LongWindow] = &[
 ];
 const FULL: [(u32, u32); 3] = [(5, 153), (0, 425), (4, 516)];
 
-/// Every scenario of the last row has a window up to 1000000, the rough bound has none.
+/// Every scenario of the last row has a window up to 1000000, the rough bound has none. The last
+/// row ties with the one before in the first 11 bits, which gives it the last rank.
 pub const NO_ROUGH_WINDOW: [Row; 7] = [
     [1, 1, 11, 5, 269, 0, 500],
     [3, 2, 11, 8, 615, 0, 500],
@@ -40,12 +41,31 @@ pub const NO_ROUGH_WINDOW: [Row; 7] = [
     [2, 4, 11, 8, 808, 123, 500],
     [2, 5, 11, 7, 808, 297, 500],
     [4, 6, 11, 7, 1_000_000, 0, 500],
-    [4, 7, 29, 8, 1_000_000, 0, 1_000_000],
+    [4, 6 << 18, 29, 8, 1_000_000, 0, 1_000_000],
+];
+
+/// A short identifier, a long one, and the kind that goes first. In most the long one's first 11
+/// bits are the short one, one less or one more.
+const RANKS: &[(u32, u32, u32)] = &[
+    (0, 0, 11),
+    (0, 536_870_911, 11),
+    (1, 262_143, 29),
+    (1, 262_144, 11),
+    (5, 5, 29),
+    (5, 1_310_719, 29),
+    (5, 1_310_720, 11),
+    (5, 1_310_721, 11),
+    (5, 1_572_863, 11),
+    (5, 1_572_864, 11),
+    (2047, 536_608_767, 29),
+    (2047, 536_608_768, 11),
+    (2047, 536_870_911, 11),
 ];
 
 pub fn all() -> Vec<Case> {
     let mut cases = Cases { list: Vec::new() };
     cases.document_examples();
+    cases.ranks();
     cases.refusals();
     cases.long_windows();
     cases.scenario_counts();
@@ -124,6 +144,20 @@ impl Cases {
         }
         self.around(0, &[[1, 5, 11, 8, 135, 0, 500]]);
         self.around(0, &[[1, 5, 11, 8, 134, 0, 500]]);
+    }
+
+    /// Of a short and a long frame the first waits for one that began a tick before, the other for
+    /// all of the first.
+    fn ranks(&mut self) {
+        for (short, long, first) in RANKS {
+            let rows = [[1, *short, 11, 8, 1000, 0, 500], [2, *long, 29, 8, 1000, 0, 500]];
+            let exact =
+                |row| View::new(&rows, row).exact(LIMITS.window).expect("a window").response;
+            let wanted = if *first == 11 { [159 + 135, 135 + 160] } else { [160 + 135, 134 + 160] };
+            assert_eq!([0, 1].map(exact), wanted);
+            self.around(0, &rows);
+            self.around(1, &rows);
+        }
     }
 
     /// 10, 4 to 7 and 9, the last behind all others.

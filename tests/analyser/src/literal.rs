@@ -10,13 +10,26 @@ fn length(row: &Row) -> u64 {
     bits + 13 + (bits - 1) / 4
 }
 
-/// Bit by bit: the smaller of the first 11 bits, then the short frame.
-pub fn goes_ahead(row: &Row, of: &Row) -> bool {
-    match (row[2], of[2]) {
-        (11, 29) => row[1] <= of[1] / 262_144,
-        (29, 11) => row[1] / 262_144 < of[1],
-        _ => row[1] < of[1],
+/// The last so many bits of a number, the greatest first.
+fn bits(number: u32, count: u32) -> Vec<u32> {
+    (0..count).rev().map(|place| number / 2_u32.pow(place) % 2).collect()
+}
+
+/// What a data frame sends until no other can have sent the same (ISO 11898-1): a short one its
+/// identifier, RTR 0 and IDE 0; a long one 11 bits of its identifier, SRR 1, IDE 1, the other 18.
+fn on_the_wire(row: &Row) -> Vec<u32> {
+    if row[2] == 11 {
+        return [bits(row[1], 11), vec![0, 0]].concat();
     }
+    let identifier = bits(row[1], 29);
+    [&identifier[..11], &[1, 1], &identifier[11..]].concat()
+}
+
+/// Of two frames that begin at once: at the first bit in which they differ, the one that sends 1
+/// hears the other's 0 and gives way.
+pub fn goes_ahead(row: &Row, of: &Row) -> bool {
+    let mut sent = on_the_wire(row).into_iter().zip(on_the_wire(of));
+    sent.find(|(own, other)| own != other).is_some_and(|(own, _)| own == 0)
 }
 
 /// A frame ahead at some alignment, and whether it is the frame judged.

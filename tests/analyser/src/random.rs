@@ -55,7 +55,7 @@ impl Random {
 
     /// The kinds that a table draws from.
     fn kinds(&mut self) -> &'static [u32] {
-        self.pick(&[&[11][..], &[29], &[11, 29]])
+        self.pick(&[&[11][..], &[29], &[11, 29], &[11, 29]])
     }
 
     /// A frame that still lacks identifier, period and offset.
@@ -154,22 +154,43 @@ pub fn stretched(random: &mut Random, nodes: u64, multiple: u64, base: u64) -> V
 
 /// Gives identifiers and mixes the lines.
 fn finish(random: &mut Random, mut rows: Vec<Row>) -> Vec<Row> {
-    let narrow = random.percent(60);
+    let range = if random.percent(60) { 70 } else { 2048 };
     let mut used = Vec::new();
     for row in &mut rows {
-        let range = match (narrow, row[KIND]) {
-            (true, _) => 70,
-            (false, 11) => 2048,
-            (false, _) => 536_870_912,
-        };
-        row[IDENTIFIER] = random.below(range) as u32;
-        while used.contains(&(row[KIND], row[IDENTIFIER])) {
-            row[IDENTIFIER] = random.below(range) as u32;
+        let mut frame = (row[KIND], identifier(random, row[KIND], range, &used));
+        while used.contains(&frame) {
+            frame.1 = identifier(random, row[KIND], range, &used);
         }
-        used.push((row[KIND], row[IDENTIFIER]));
+        used.push(frame);
+        row[IDENTIFIER] = frame.1;
     }
     random.shuffle(&mut rows);
     rows
+}
+
+/// The first 11 bits of an identifier, which short and long frames compare.
+pub fn first_bits(kind: u32, identifier: u32) -> u32 {
+    if kind == 11 {
+        identifier
+    } else {
+        identifier >> 18
+    }
+}
+
+/// An identifier: half of the time its first 11 bits are those of a frame that has one already, or
+/// one more or less; the other bits of a long one are often the least or greatest.
+fn identifier(random: &mut Random, kind: u32, range: u64, used: &[(u32, u32)]) -> u32 {
+    let mut first = random.below(range) as u32;
+    if !used.is_empty() && random.percent(50) {
+        let (kind, identifier) = random.pick(used);
+        let beside = first_bits(kind, identifier) + random.pick(&[0, 1, 1, 2]);
+        first = beside.clamp(1, 2048) - 1;
+    }
+    if kind == 11 {
+        return first;
+    }
+    let rest = random.below(1 << 18) as u32;
+    first << 18 | random.pick(&[0, 1, (1 << 18) - 1, rest])
 }
 
 /// Sets the claim of a row at, beside or away from its bounds.

@@ -6,7 +6,7 @@ use analyser::judge_cases::{
 };
 use analyser::judgement::LIMITS;
 use analyser::random::{clustered, set_claim, Random};
-use analyser::table::{self, Row, CLAIM, IDENTIFIER, NODE, NODES, OFFSET, PERIOD};
+use analyser::table::{self, Row, CLAIM, IDENTIFIER, KIND, NODE, NODES, OFFSET, PERIOD};
 
 /// The greatest effort for a row of any shape.
 const MOST_EFFORT: u64 = 300_000;
@@ -211,14 +211,19 @@ fn factors(random: &mut Random) -> Vec<u32> {
 }
 
 /// Other nodes, patterns shifted, other identifiers in the same order, lines mixed: bounds stay.
+/// A long frame may tie with the short one before it.
 fn disguised(random: &mut Random, mut rows: Vec<Row>, judged: usize) -> Drawn {
     let mut nodes: Vec<u32> = (1..=NODES).collect();
     random.shuffle(&mut nodes);
     let shift = random.below(1_000_000) as u32;
-    let mut identifier = 0;
+    let mut first = 0;
+    let mut before = 0;
     for row in &mut rows {
-        identifier += random.between(1, 200) as u32;
-        row[IDENTIFIER] = identifier;
+        if !(before == 11 && row[KIND] == 29 && random.percent(50)) {
+            first += random.between(1, 200) as u32;
+        }
+        before = row[KIND];
+        row[IDENTIFIER] = if before == 11 { first } else { first << 18 };
         row[OFFSET] = (row[OFFSET] + shift / row[NODE]) % row[PERIOD];
         row[NODE] = nodes[row[NODE] as usize - 1];
     }

@@ -39,7 +39,7 @@ module _ (r o : Frame → ℕ) (fs : List Frame) where
   pub row-recast : (i : ℕ) → i < length fs → row (map (recast r o) fs) i ≡ recast r o (row fs i)
   row-recast i l = getD-within (map (recast r o) fs) i noFrame (recast r o noFrame) (rw (length-map fs (recast r o)) l) ∙ List·getD-map (recast r o) fs i noFrame
 
-  node-recast : (j : ℕ) → ofNode (map (recast r o) fs) j ≡ map (recast r o) (ofNode fs j)
+  pub node-recast : (j : ℕ) → ofNode (map (recast r o) fs) j ≡ map (recast r o) (ofNode fs j)
   unfolding ofNode
   node-recast j = keep-map (recast r o) _ _ fs (λ g n. refl)
 
@@ -218,7 +218,7 @@ module _ (r : Frame → ℕ) {fs : List Frame} (keeps : KeepsOrder r fs) where
   abbrev ranked : Frame → Frame
   ranked = recast r (λ g. g .offset)
 
-  row-alike : (i : ℕ) → i < length fs → row (map ranked fs) i ≡ ranked (row fs i)
+  pub row-alike : (i : ℕ) → i < length fs → row (map ranked fs) i ≡ ranked (row fs i)
   row-alike = row-recast r (λ g. g .offset) fs
 
   to-ranked : Twin fs (map ranked fs)
@@ -250,11 +250,6 @@ module _ (r : Frame → ℕ) {fs : List Frame} (keeps : KeepsOrder r fs) where
   -- So a row meets its claim in one just where it does in the other.
   pub meets-alike : (k : ℕ) → k < length fs → (claim : ℕ) → MeetsClaim (map ranked fs) k claim ↔ MeetsClaim fs k claim
   meets-alike k l claim = (meets-twin to-ranked k claim l, meets-twin of-ranked k claim (rw (length-map fs ranked) l))
-
-  -- The judgement of each row is the same.
-  pub judge-ranked : (k : ℕ) → k < length fs → judge (map ranked fs) (row (map ranked fs) k) ≡ judge fs (row fs k)
-  unfolding phase
-  judge-ranked k l = rw (row-alike k l) (judge-alike r (λ g. g .offset) (λ g. refl) keeps (mem-getD fs k noFrame l))
 
 -- Numbers that rise with the priorities of a table keep their order.
 pub keeps-rising : (r : ℕ → ℕ) {fs : List Frame} → ((f g : Frame) → Mem f fs → Mem g fs → f .priority < g .priority → r (f .priority) < r (g .priority))

@@ -1,10 +1,9 @@
 -- What is known of an accepted table: its size, the limits of its numbers, its nodes' patterns,
 -- and that its frames are valid in the sense of the bus model.
-use Prim.Native.Nat.{ℕ, _+_, _-_, _*_, _/_, _≤_, _<_}
+use Prim.Native.Nat.{ℕ, _+_, _-_, _/_, _≤_, _<_}
 use mathlib.Core.Path.{_≡_, sym, ap, subst, _∙_}
 use mathlib.Core.Bool.{true, cond}
 use mathlib.Core.List.{List}
-use mathlib.Core.Logic.{inl, inr}
 use native.Mathlib.Nat.{zero-add}
 use native.Mathlib.Omega.{arith}
 use native.Mathlib.Decide.{ℕ-discrete, decLt}
@@ -20,13 +19,14 @@ use Rattle.bus_model.specs.Pattern.{ofNode, hyperperiod, patternReleases}
 use Rattle.bus_model.specs.Valid.{ValidFrame, Valid}
 use Rattle.table_checks.specs.declared.Cause.the-variants.{Duplicate, Hyperperiod, Releases}
 use Rattle.table_checks.specs.declared.Checked.the-variants.{Passed}
-use Rattle.table_checks.specs.Columns.{field, isIdentifier}
-use Rattle.table_checks.specs.Frames.{priorityOf, frameAt, framesOf}
+use Rattle.table_checks.specs.Columns.{field}
+use Rattle.table_checks.specs.Frames.{frameAt, framesOf}
 use Rattle.table_checks.specs.Refusal.{failed}
 use Rattle.table_checks.specs.Checks.{rowsSizeCheck, columnsCheck, isSameFrame, standsEarlier, lineCheck, linesCheck, nodeCheck, nodesCheck, tableCheck, rowsCheck, Accepted}
 use Rattle.table_checks.specs.Steps.{Periods}
 use Rattle.table_checks.specs.laws.First.{first-passed, first-each}
-use Rattle.table_checks.specs.laws.Limits.{Limits, not-passed, lines-each, lines-periods, identified-cases}
+use Rattle.table_checks.specs.laws.Limits.{Limits, not-passed, lines-each, lines-periods}
+use Rattle.table_checks.specs.laws.Rank.{priority-same}
 use Rattle.table_checks.specs.laws.Lengths.{length-bounds}
 use Rattle.table_checks.specs.laws.Sizes.{RowsSize, rows-size}
 
@@ -46,22 +46,6 @@ pub no-row : (t : List ℕ) (i : ℕ) → length t / 7 ≤ i → row (framesOf t
 no-row t i l = getD-beyond (framesOf t) i noFrame (rw (length-frames t) l)
 
 -- ---- no two frames have one priority
-
--- Kinds and identifiers within their limits that give one priority are the same.
-pub priority-same : (kind identifier kind′ identifier′ : ℕ) → isIdentifier kind identifier ≡ true → isIdentifier kind′ identifier′ ≡ true
-    → priorityOf kind identifier ≡ priorityOf kind′ identifier′ → (kind ≡ kind′) × (identifier ≡ identifier′)
-unfolding priorityOf
-priority-same k i k′ i′ v v′ e =
-    elim (identified-cases k i v) [
-      | inl a ↦ elim (identified-cases k′ i′ v′) [
-        | inl b ↦ let z : 524_288 * i ≡ 524_288 * i′ = rw (a .0, b .0) at e in (a .0 ∙ sym (b .0), omega arith)
-        | inr b ↦ let z : 524_288 * i ≡ 2 * i′ + 1 = rw (a .0, b .0) at e in absurd (omega arith)
-      ]
-      | inr a ↦ elim (identified-cases k′ i′ v′) [
-        | inl b ↦ let z : 2 * i + 1 ≡ 524_288 * i′ = rw (a .0, b .0) at e in absurd (omega arith)
-        | inr b ↦ let z : 2 * i + 1 ≡ 2 * i′ + 1 = rw (a .0, b .0) at e in (a .0 ∙ sym (b .0), omega arith)
-      ]
-    ]
 
 -- A line that passed has another kind or identifier than each earlier one.
 line-differs : (t : List ℕ) (i m : ℕ) → lineCheck t i ≡ Passed → m < i → field t m 1 ≡ field t i 1 → field t m 2 ≡ field t i 2 → ⊥

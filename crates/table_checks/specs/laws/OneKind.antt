@@ -1,22 +1,22 @@
 -- A table of one kind keeps its answers under any rank that rises with the identifiers of that kind:
 -- under document 01's, where kind 11 went ahead of kind 29, as under ISO 11898-1's.
 use Prim.Native.Nat.{ℕ, _+_, _/_, _<_}
-use mathlib.Core.Path.{_≡_, refl, sym, _∙_}
+use mathlib.Core.Path.{_≡_, refl, sym, ap, _∙_, fun-ext}
 use mathlib.Core.Bool.{cond}
-use mathlib.Core.Logic.{_↔_, _⊎_, inl, inr}
+use mathlib.Core.Logic.{_⊎_, inl, inr}
 use mathlib.Core.List.{List, map, map-map}
 use native.Mathlib.Omega.{arith}
 use lib.Dec.{eqb}
-use lib.ListN.{length, length-map}
+use lib.ListN.{length}
 use Rattle.arith.specs.Lists.{range}
-use Rattle.arith.specs.laws.Members.{length-range, map-same, of-range}
+use Rattle.arith.specs.laws.Members.{map-same, of-range}
 use Rattle.bus_model.specs.declared.Frame.{Frame}
-use Rattle.bus_model.specs.Frame.{row}
-use Rattle.bus_model.specs.Bus.{MeetsClaim}
-use Rattle.bus_model.specs.Judgement.{judge}
-use Rattle.bus_model.specs.theory.Alike.{recast, KeepsOrder, keeps-rising, judge-ranked, meets-alike}
+use Rattle.bus_model.specs.theory.Alike.{recast, KeepsOrder, keeps-rising}
+use Rattle.bus_model.specs.theory.Answers.{SameAnswers, ranked-answers, answers-through}
+use Rattle.table_checks.specs.declared.Checked.{Checked}
 use Rattle.table_checks.specs.Columns.{field}
 use Rattle.table_checks.specs.Frames.{priorityOf, frameAt, framesOf}
+use Rattle.table_checks.specs.Checks.{firstOf, nodeCheck, nodesCheck}
 
 -- the frames of a table under a rank, given by kind and identifier
 abbrev pub framesBy : (ℕ → ℕ → ℕ) → List ℕ → List Frame
@@ -50,27 +50,12 @@ module _ (t : List ℕ) (kind : ℕ) (all : (i : ℕ) → i < length t / 7 → f
     by-plain : framesBy rank t ≡ map (recast ranks (λ g. g .offset)) plain
     by-plain = map-same (range 0 (length t / 7)) (λ i m. let (low, high) = of-range 0 (length t / 7) m in rw (all i (omega arith))) ∙ sym (map-map _ _ (range 0 (length t / 7)))
 
-    size : length plain ≡ length t / 7
-    size = length-map (range 0 (length t / 7)) _ ∙ length-range 0 (length t / 7)
+    as-plain : SameAnswers (framesBy rank t) plain
+    as-plain = rw by-plain (ranked-answers ranks keeps)
 
-    judge-plain : (k : ℕ) → k < length t / 7 → judge (framesBy rank t) (row (framesBy rank t) k) ≡ judge plain (row plain k)
-    judge-plain k l = rw by-plain (judge-ranked ranks keeps k (rw size l))
-
-    meets-plain : (k : ℕ) → k < length t / 7 → (claim : ℕ) → MeetsClaim (framesBy rank t) k claim ↔ MeetsClaim plain k claim
-    meets-plain k l = rw by-plain (meets-alike ranks keeps k (rw size l))
-
-  -- Two ranks that rise with the identifiers of the kind give the same judgements.
-  pub one-kind : (rank other : ℕ → ℕ → ℕ) → RisesIn kind rank → RisesIn kind other → (k : ℕ) → k < length t / 7
-      → judge (framesBy rank t) (row (framesBy rank t) k) ≡ judge (framesBy other t) (row (framesBy other t) k)
-  one-kind rank other rises rises′ k l = judge-plain rank rises k l ∙ sym (judge-plain other rises′ k l)
-
-  -- And a claim is met under one just where it is under the other.
-  pub one-kind-meets : (rank other : ℕ → ℕ → ℕ) → RisesIn kind rank → RisesIn kind other → (k : ℕ) → k < length t / 7
-      → (claim : ℕ) → MeetsClaim (framesBy rank t) k claim ↔ MeetsClaim (framesBy other t) k claim
-  one-kind-meets rank other rises rises′ k l claim =
-      let here = meets-plain rank rises k l claim in
-      let there = meets-plain other rises′ k l claim in
-      (λ m. there .1 (here .0 m), λ m. here .1 (there .0 m))
+  -- Two ranks that rise with the identifiers of the kind give the same answers.
+  pub one-kind : (rank other : ℕ → ℕ → ℕ) → RisesIn kind rank → RisesIn kind other → SameAnswers (framesBy rank t) (framesBy other t)
+  one-kind rank other rises rises′ = answers-through (as-plain rank rises) (as-plain other rises′)
 
 -- Both ranks rise within each kind.
 pub today-rises : (kind : ℕ) → (kind ≡ 11) ⊎ (kind ≡ 29) → RisesIn kind priorityOf
@@ -82,7 +67,12 @@ pub former-rises : (kind : ℕ) → (kind ≡ 11) ⊎ (kind ≡ 29) → RisesIn 
 former-rises kind (inl e) a b less = rw e (omega arith)
 former-rises kind (inr e) a b less = rw e (omega arith)
 
--- So tables of one kind keep all their answers.
-pub answers-kept : (t : List ℕ) (kind : ℕ) → (kind ≡ 11) ⊎ (kind ≡ 29) → ((i : ℕ) → i < length t / 7 → field t i 2 ≡ kind) → (k : ℕ) → k < length t / 7
-    → judge (framesOf t) (row (framesOf t) k) ≡ judge (framesBy formerRank t) (row (framesBy formerRank t) k)
-answers-kept t kind is all k l = rw (frames-ranked t) (one-kind t kind all priorityOf formerRank (today-rises kind is) (former-rises kind is) k l)
+-- So tables of one kind keep all the answers that they had,
+pub answers-kept : (t : List ℕ) (kind : ℕ) → (kind ≡ 11) ⊎ (kind ≡ 29) → ((i : ℕ) → i < length t / 7 → field t i 2 ≡ kind)
+    → SameAnswers (framesOf t) (framesBy formerRank t)
+answers-kept t kind is all = rw (frames-ranked t) (one-kind t kind all priorityOf formerRank (today-rises kind is) (former-rises kind is))
+
+-- and their nodes pass the same checks.
+pub checks-kept : {fs gs : List Frame} → SameAnswers fs gs → nodesCheck fs ≡ nodesCheck gs
+unfolding nodesCheck nodeCheck
+checks-kept same = ap (λ (check : ℕ → Checked). firstOf check 16 1) (fun-ext (λ j. rw (same .hyper j, same .releases j)))

@@ -1,6 +1,6 @@
--- Which of two frames goes first (document 02, 5: ISO 11898-1's order).
-use Prim.Native.Nat.{ℕ, _/_, _≤_, _<_}
-use mathlib.Core.Path.{_≡_}
+-- Which of two frames goes first: document 02's request 5, sentence by sentence. The smaller priority does.
+use Prim.Native.Nat.{ℕ, _+_, _*_, _/_, _^_, _≤_, _<_}
+use mathlib.Core.Path.{_≡_, sym, _∙_}
 use mathlib.Core.Bool.{true}
 use mathlib.Core.Logic.{_↔_, inl, inr}
 use native.Mathlib.Omega.{arith}
@@ -8,31 +8,46 @@ use Rattle.table_checks.specs.Columns.{isIdentifier}
 use Rattle.table_checks.specs.Frames.{priorityOf}
 use Rattle.table_checks.specs.laws.Limits.{identified-cases}
 
--- the top 11 of a long identifier's 29 bits
+-- "the top 11 of the 29 bits"
 abbrev pub topBits : ℕ → ℕ
-topBits identifier = identifier / 262_144
+topBits identifier = identifier / 2 ^ 18
 
--- A short frame goes before a long one just where its identifier is at most the other's top bits: on a tie the short frame does.
-pub short-first : (short long : ℕ) → (priorityOf 11 short < priorityOf 29 long) ↔ (short ≤ topBits long)
+-- "compares the top 11 of the 29 bits with the short identifier; the smaller goes first": a long frame goes before a short one
+-- just where its top bits are smaller, and a short one before a long one just where they are not.
+pub long-before-short : (long short : ℕ) → (priorityOf 29 long < priorityOf 11 short) ↔ (topBits long < short)
 unfolding priorityOf
-short-first short long = (λ less. omega arith, λ le. omega arith)
+long-before-short long short = (λ before. omega arith, λ smaller. omega arith)
 
--- A long frame goes before a short one just where its top bits are smaller.
-pub long-first : (long short : ℕ) → (priorityOf 29 long < priorityOf 11 short) ↔ (topBits long < short)
+pub short-before-long : (short long : ℕ) → (priorityOf 11 short < priorityOf 29 long) ↔ (short ≤ topBits long)
 unfolding priorityOf
-long-first long short = (λ less. omega arith, λ less. omega arith)
+short-before-long short long = (λ before. omega arith, λ smaller. omega arith)
 
--- Among short frames, and among long ones, the smaller identifier goes first.
-pub shorts : (a b : ℕ) → (priorityOf 11 a < priorityOf 11 b) ↔ (a < b)
-unfolding priorityOf
-shorts a b = (λ less. omega arith, λ less. omega arith)
+-- "on a tie the short frame does"
+pub on-a-tie : (long : ℕ) → priorityOf 11 (topBits long) < priorityOf 29 long
+on-a-tie long = short-before-long (topBits long) long .1 (omega arith)
 
-pub longs : (a b : ℕ) → (priorityOf 29 a < priorityOf 29 b) ↔ (a < b)
+-- "Among long frames the smaller identifier still goes first",
+pub among-long : (a b : ℕ) → (priorityOf 29 a < priorityOf 29 b) ↔ (a < b)
 unfolding priorityOf
-longs a b = (λ less. omega arith, λ less. omega arith)
+among-long a b = (λ before. omega arith, λ smaller. omega arith)
 
--- The number has 30 bits at most.
-pub priority-small : (kind identifier : ℕ) → isIdentifier kind identifier ≡ true → priorityOf kind identifier < 1_073_741_824
+-- and among short ones.
+pub among-short : (a b : ℕ) → (priorityOf 11 a < priorityOf 11 b) ↔ (a < b)
 unfolding priorityOf
-priority-small kind identifier fine =
-    elim (identified-cases kind identifier fine) [ inl a ↦ rw (a .0) (omega (arith, a .1)) | inr a ↦ rw (a .0) (omega (arith, a .1)) ]
+among-short a b = (λ before. omega arith, λ smaller. omega arith)
+
+-- Kinds and identifiers within their limits that give one priority are the same.
+pub priority-same : (kind identifier kind′ identifier′ : ℕ) → isIdentifier kind identifier ≡ true → isIdentifier kind′ identifier′ ≡ true
+    → priorityOf kind identifier ≡ priorityOf kind′ identifier′ → (kind ≡ kind′) × (identifier ≡ identifier′)
+unfolding priorityOf
+priority-same k i k′ i′ v v′ e =
+    elim (identified-cases k i v) [
+      | inl a ↦ elim (identified-cases k′ i′ v′) [
+        | inl b ↦ let z : 2 ^ 19 * i ≡ 2 ^ 19 * i′ = rw (a .0, b .0) at e in (a .0 ∙ sym (b .0), omega arith)
+        | inr b ↦ let z : 2 ^ 19 * i ≡ 2 * i′ + 1 = rw (a .0, b .0) at e in absurd (omega arith)
+      ]
+      | inr a ↦ elim (identified-cases k′ i′ v′) [
+        | inl b ↦ let z : 2 * i + 1 ≡ 2 ^ 19 * i′ = rw (a .0, b .0) at e in absurd (omega arith)
+        | inr b ↦ let z : 2 * i + 1 ≡ 2 * i′ + 1 = rw (a .0, b .0) at e in (a .0 ∙ sym (b .0), omega arith)
+      ]
+    ]
