@@ -11,7 +11,8 @@ const LENGTHS: [[u32; 9]; 2] = [
     [80, 90, 100, 110, 120, 130, 140, 150, 160],
 ];
 
-// The place of a frame in the order in which waiting frames are sent: the smaller goes first.
+// The place of a frame in the order in which waiting frames are sent: the smaller goes first. A short frame comes just before
+// the 2^18 long ones that have its identifier as their top 11 bits.
 pub fn priority(kind: u32, identifier: u32) -> u64
     ensures { λ r. ⌜ r ≡ priorityOf kind identifier ⌝ }
 {

@@ -4,6 +4,7 @@ use crate::answer::{refusal, Judged};
 use crate::call::Call;
 use analyser::bounds::View;
 use analyser::judgement::LIMITS;
+use analyser::random::first_bits;
 use analyser::table::{
     self, Refusal, Row, CLAIM, IDENTIFIER, KIND, MOST_LINES, NODE, NODES, OFFSET, PAYLOAD, PERIOD,
 };
@@ -36,6 +37,11 @@ const ALL: &[(&str, Test, Test)] = &[
         "kind 29",
         |s| s.serves(|row| row[KIND] == 29),
         |s| s.refuses(|row| row[KIND].abs_diff(29) == 1),
+    ),
+    (
+        "long ahead of short",
+        |s| s.serves_both(|first_bits, short| first_bits + 1 == short),
+        |s| s.serves_both(|first_bits, short| first_bits == short),
     ),
     ("payload 8", |s| s.serves(|row| row[PAYLOAD] == 8), |s| s.refuses(|row| row[PAYLOAD] == 9)),
     ("period 1", |s| s.serves(|row| row[PERIOD] == 1), |s| s.refuses(|row| row[PERIOD] == 0)),
@@ -147,6 +153,13 @@ impl<'a> Seen<'a> {
     /// An accepted table has such a row.
     fn serves(&self, test: fn(&Row) -> bool) -> bool {
         self.is_served() && self.rows.iter().any(test)
+    }
+
+    /// An accepted table has such a long and such a short identifier.
+    fn serves_both(&self, test: fn(u32, u32) -> bool) -> bool {
+        let of_kind = |kind| self.rows.iter().filter(move |row| row[KIND] == kind);
+        let mut longs = of_kind(29).map(|row| first_bits(29, row[IDENTIFIER]));
+        self.is_served() && longs.any(|long| of_kind(11).any(|row| test(long, row[IDENTIFIER])))
     }
 
     /// The line turned back for a value is such a row.

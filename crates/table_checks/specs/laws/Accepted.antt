@@ -45,7 +45,7 @@ frame-row t i l = getD-table (frameAt t) 0 (length t / 7) i noFrame l ∙ ap (fr
 pub no-row : (t : List ℕ) (i : ℕ) → length t / 7 ≤ i → row (framesOf t) i ≡ noFrame
 no-row t i l = getD-beyond (framesOf t) i noFrame (rw (length-frames t) l)
 
--- ---- no two frames have one priority
+-- ---- no frame stands twice
 
 -- A line that passed has another kind or identifier than each earlier one.
 line-differs : (t : List ℕ) (i m : ℕ) → lineCheck t i ≡ Passed → m < i → field t m 1 ≡ field t i 1 → field t m 2 ≡ field t i 2 → ⊥

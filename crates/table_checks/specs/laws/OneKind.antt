@@ -17,6 +17,7 @@ use Rattle.table_checks.specs.declared.Checked.{Checked}
 use Rattle.table_checks.specs.Columns.{field}
 use Rattle.table_checks.specs.Frames.{priorityOf, frameAt, framesOf}
 use Rattle.table_checks.specs.Checks.{firstOf, nodeCheck, nodesCheck}
+use Rattle.table_checks.specs.laws.Rank.{shorts, longs}
 
 -- the frames of a table under a rank, given by kind and identifier
 abbrev pub framesBy : (ℕ → ℕ → ℕ) → List ℕ → List Frame
@@ -59,15 +60,14 @@ module _ (t : List ℕ) (kind : ℕ) (all : (i : ℕ) → i < length t / 7 → f
 
 -- Both ranks rise within each kind.
 pub today-rises : (kind : ℕ) → (kind ≡ 11) ⊎ (kind ≡ 29) → RisesIn kind priorityOf
-unfolding priorityOf
-today-rises kind (inl e) a b less = rw e (omega arith)
-today-rises kind (inr e) a b less = rw e (omega arith)
+today-rises kind (inl e) a b less = rw e (shorts a b .1 less)
+today-rises kind (inr e) a b less = rw e (longs a b .1 less)
 
 pub former-rises : (kind : ℕ) → (kind ≡ 11) ⊎ (kind ≡ 29) → RisesIn kind formerRank
 former-rises kind (inl e) a b less = rw e (omega arith)
 former-rises kind (inr e) a b less = rw e (omega arith)
 
--- So tables of one kind keep all the answers that they had,
+-- So tables of one kind keep all the answers that document 01's rank gave,
 pub answers-kept : (t : List ℕ) (kind : ℕ) → (kind ≡ 11) ⊎ (kind ≡ 29) → ((i : ℕ) → i < length t / 7 → field t i 2 ≡ kind)
     → SameAnswers (framesOf t) (framesBy formerRank t)
 answers-kept t kind is all = rw (frames-ranked t) (one-kind t kind all priorityOf formerRank (today-rises kind is) (former-rises kind is))
