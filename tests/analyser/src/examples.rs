@@ -1,10 +1,8 @@
 //! The examples of document 01, and load sheets worked out by hand.
 
-use crate::bounds::{rank, View};
+use crate::bounds::View;
 use crate::judgement::{judge, precise_bound, LIMITS};
 use crate::listing::{bound_number, judge_number, list};
-use crate::literal::goes_ahead;
-use crate::random::{clustered, Random};
 use crate::table::{Refusal, Row, CLAIM};
 use crate::{judge_cases, table_cases};
 
@@ -55,17 +53,6 @@ fn numbers_for_c() {
     assert_eq!(judge_number(judge(&words, 4)), -90_000);
     assert_eq!(bound_number(precise_bound(&words, 2)), 199);
     assert_eq!(bound_number(precise_bound(&words[1..], 2)), -100_000);
-}
-
-/// The rank by one number is the one by single bits, in tables with many ties.
-#[test]
-fn ranks_agree() {
-    let mut random = Random::new(5);
-    for rows in (0..200).map(|_| clustered(&mut random, 16, 8, (110, 300))) {
-        for row in &rows {
-            rows.iter().for_each(|of| assert_eq!(rank(row) < rank(of), goes_ahead(row, of)));
-        }
-    }
 }
 
 /// The outcomes worked out by hand are held against the analyser on the way.
