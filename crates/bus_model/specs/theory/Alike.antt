@@ -195,7 +195,7 @@ module _ {fs gs : List Frame} (twin : Twin fs gs) (starts : ℕ → ℕ) where
       let (inside, late) = n .waiting in
       record {
         after = n .after;
-        idle = idle-twin sent free (x .start) (n .idle);
+        idle = idle-twin sent free _ (n .idle);
         waiting = (rw (twin .size) at inside, rw (twin .releases (x .frame) inside starts (sent (x .frame))) at late);
         oldest = n .oldest;
         best = λ i w. let v = waits-back sent (x .start) i w in twin .order (x .frame) i inside (v .0) (n .best i v);
