@@ -5,4 +5,5 @@ pub mod Rank
 pub mod Lengths
 pub mod Sizes
 pub mod Accepted
+pub mod Returns
 pub mod OneKind

@@ -3,8 +3,10 @@
 use crate::bounds::View;
 use crate::judgement::{judge, precise_bound, LIMITS};
 use crate::listing::{bound_number, judge_number, list};
-use crate::table::{Refusal, Row, CLAIM};
-use crate::{judge_cases, table_cases};
+use crate::load_sheet::{load_sheet, Load};
+use crate::random::Random;
+use crate::table::{Refusal, Row, CLAIM, NODE, PERIOD};
+use crate::{bounds, judge_cases, table, table_cases};
 
 const FILE: &str = "  1        16 11 8    1000       0     300
   1        32 11 0    1000     200     189

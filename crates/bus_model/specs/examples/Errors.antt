@@ -37,13 +37,13 @@ pub unchanged : (fs : List Frame) (k : Frame) (fixes : ℕ → Bool) → boundBy
 unfolding boundBy scenarioBy responseBy boundOf scenarioResponse busyWindow windowLoad responseTime instanceResponse queueingDelay delayLoad
 unchanged fs k fixes = refl
 
--- document 01's listing: identifiers 16, 32, 48 and 64
+-- document 01's listing: identifiers 16, 32, 48 and 64, each with the priority that table_checks gives it (524288 times as much)
 abbrev pub listing : List Frame
 listing =
-    record { node = 1; priority = 16; length = 135; period = 1000; offset = 0 } ∷
-    record { node = 1; priority = 32; length = 55; period = 1000; offset = 200 } ∷
-    record { node = 1; priority = 48; length = 135; period = 1000; offset = 300 } ∷
-    record { node = 2; priority = 64; length = 65; period = 1000; offset = 0 } ∷ []
+    record { node = 1; priority = 8_388_608; length = 135; period = 1000; offset = 0 } ∷
+    record { node = 1; priority = 16_777_216; length = 55; period = 1000; offset = 200 } ∷
+    record { node = 1; priority = 25_165_824; length = 135; period = 1000; offset = 300 } ∷
+    record { node = 2; priority = 33_554_432; length = 65; period = 1000; offset = 0 } ∷ []
 
 abbrev frame16 : Frame
 frame16 = row listing 0
