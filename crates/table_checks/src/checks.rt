@@ -70,14 +70,14 @@ pub fn rows_size(size: usize) -> Checked
 }
 
 // Whether v is within low..high.
-fn is_between(low: u64, high: u64, v: u64) -> bool
+pub fn is_between(low: u64, high: u64, v: u64) -> bool
     ensures { λ r. ⌜ r ≡ between low high v ⌝ }
 {
     low <= v && v <= high
 }
 
 // Whether the identifier is within the limits of its kind.
-fn is_identifier(kind: u64, identifier: u64) -> bool
+pub fn is_identifier(kind: u64, identifier: u64) -> bool
     ensures { λ r. ⌜ r ≡ isIdentifier kind identifier ⌝ }
 {
     if kind == 11 {
