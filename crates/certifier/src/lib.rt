@@ -2,6 +2,7 @@
 // the entries for C, that of the load sheet among them. Each takes any input, and checks its table itself. The encode
 // functions give the numbers that the entries answer.
 mod encode;
+mod frame_entry;
 mod listing;
 
 pub use encode::certifier_judge;
@@ -11,6 +12,7 @@ pub use encode::encode_answer;
 pub use encode::encode_bounded;
 pub use encode::encode_judgement_of;
 pub use encode::encode_refusal;
+pub use frame_entry::certifier_frame_length;
 pub use listing::LINE;
 pub use listing::REFUSAL_LINE;
 pub use listing::list;
