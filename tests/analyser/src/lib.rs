@@ -4,8 +4,11 @@ pub mod bounds;
 pub mod cases;
 #[cfg(test)]
 mod examples;
+pub mod frame_length;
+pub mod frame_length_cases;
 pub mod judge_cases;
 pub mod judgement;
+pub mod known_frames;
 pub mod listing;
 pub mod literal;
 pub mod literal_bus;

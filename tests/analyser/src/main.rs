@@ -1,7 +1,8 @@
 //! The analyser's commands.
 
 use analyser::{
-    cases, judge_cases, judgement, listing, load_sheet, self_check, table, table_cases,
+    cases, frame_length, frame_length_cases, judge_cases, judgement, listing, self_check, table,
+    table_cases,
 };
 use std::io::{self, Read, Write};
 use std::process::ExitCode;
@@ -11,9 +12,11 @@ const USAGE: &str = "usage:
   analyser load-sheet < table
   analyser judge ROW < table
   analyser precise ROW < table
+  analyser frame-length KIND IDENTIFIER HEX
   analyser self-check SEED COUNT
   analyser table-cases stdin|stdout
-  analyser judge-cases stdin|stdout";
+  analyser judge-cases stdin|stdout
+  analyser frame-length-cases stdin|stdout";
 
 fn main() -> ExitCode {
     let words: Vec<String> = std::env::args().skip(1).collect();
@@ -43,11 +46,21 @@ fn run(words: &[&str]) -> io::Result<bool> {
             let bound = rows.and_then(|rows| judgement::precise_bound(&rows.concat(), row));
             print(format!("{}\n", listing::bound_number(bound)).as_bytes())
         }
+        ["frame-length", kind, identifier, hex] => {
+            let line = frame_length::line(kind, identifier, hex);
+            print(line.ok_or_else(|| io::Error::other(USAGE))?.as_bytes())
+        }
         ["self-check", seed, count] => Ok(self_check::self_check(number(seed)?, number(count)?)),
         ["table-cases", "stdin"] => print(&cases::stdin(&table_cases::all())),
         ["table-cases", "stdout"] => print(&cases::stdout(&table_cases::all())),
         ["judge-cases", "stdin"] => print(&cases::stdin(&judge_cases::all())),
         ["judge-cases", "stdout"] => print(&cases::stdout(&judge_cases::all())),
+        ["frame-length-cases", "stdin"] => {
+            print(&frame_length_cases::stdin(&frame_length_cases::all()))
+        }
+        ["frame-length-cases", "stdout"] => {
+            print(&frame_length_cases::stdout(&frame_length_cases::all()))
+        }
         _ => Err(io::Error::other(USAGE)),
     }
 }
