@@ -32,16 +32,11 @@ int64_t certifier_judge(const uint8_t *table, size_t table_len, uint64_t row);
 int64_t certifier_precise_bound(const uint8_t *table, size_t table_len, uint64_t row);
 
 /*
- * Writes the load sheet of the table to `out`: a line for each node that has frames, nodes rising, with node (3),
- * quotient (10), remainder (8) and divisor (8), and a last line with the number of nodes (3) and the greatest
- * quotient (10); each line ends in a line feed. The dividend is work * 10000, the divisor the node's hyperperiod, and
- * work is the sum over the node's frames of largest length * (hyperperiod / period).
- * Answers how many bytes were written, or, where the call is turned back, minus (number * 10000 + place).
+ * The exact length in ticks of the data frame with this kind (11 or 29 identifier bits), identifier and payload, from
+ * its start bit through the 3-bit space after it, or, where the call is turned back, minus (number * 10000 + place).
+ * It reads `payload_len` bytes from `payload`, which may be null only if the length is 0.
  */
-int64_t certifier_load_sheet(const uint8_t *table, size_t table_len, uint8_t *out, size_t out_len);
-
-/* The bytes of the longest load sheet. */
-#define CERTIFIER_LOAD_SHEET_MOST 494
+int64_t certifier_frame_length(uint32_t kind, uint32_t identifier, const uint8_t *payload, size_t payload_len);
 
 /* What a claim is found to be. In the first two cases the frame is certified: it is never late. */
 enum certifier_verdict {
@@ -64,7 +59,8 @@ enum certifier_refusal {
     CERTIFIER_OUTPUT_AREA = 8,   /* 0; of calls with an output area only */
     CERTIFIER_NO_SUCH_ROW = 9,   /* 0 */
     CERTIFIER_BOUND_NO_WINDOW = 11, /* the row; of certifier_precise_bound only */
-    CERTIFIER_BOUND_TOO_MANY_SCENARIOS = 12 /* the row; of certifier_precise_bound only */
+    CERTIFIER_BOUND_TOO_MANY_SCENARIOS = 12, /* the row; of certifier_precise_bound only */
+    CERTIFIER_NOT_A_FRAME = 16   /* 0; of certifier_frame_length only: a kind, identifier or payload outside its limits */
 };
 
 /* Whether the call was turned back. */
