@@ -7,6 +7,7 @@ mod bench_tables;
 mod call;
 mod compare;
 mod damage;
+mod frame_lengths;
 mod inputs;
 mod lent;
 mod library;
@@ -28,6 +29,7 @@ const USAGE: &str = "usage:
   harness random SEED COUNT [--save FILE]
   harness replay SEED NUMBER [--save FILE]
   harness simulate SEED COUNT
+  harness frame-lengths SEED COUNT
   harness bench
   harness repeats
   harness slow SEED MINUTES [--save FILE]
@@ -56,6 +58,7 @@ fn run(words: &[&str]) -> io::Result<bool> {
             runs::replay(number(seed)?, number(input)?, save(rest)?)
         }
         ["simulate", seed, count] => Ok(simulate::simulate(number(seed)?, number(count)?)),
+        ["frame-lengths", seed, count] => Ok(frame_lengths::run(number(seed)?, number(count)?)),
         ["bench"] => bench::bench(),
         ["repeats"] => Ok(repeats::repeats()),
         ["slow", seed, minutes, rest @ ..] => {
