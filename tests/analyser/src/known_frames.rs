@@ -67,7 +67,7 @@ pub const KNOWN: &[Known] = &[
         wire: "0 111011111o11 0 0 0 00i01 00000i000 11111o010011111o0",
         length: 60,
     },
-    // CiA 301: emergency of node 1, no error any more. CRC 6df5.
+    // CiA 301: emergency of node 1, no error any more. n = 93, 86, 82: 72b5 + 0b1b + 145b = 6df5.
     Known {
         kind: 11,
         identifier: 0x081,
@@ -76,7 +76,8 @@ pub const KNOWN: &[Known] = &[
                11011011111o0101",
         length: 126,
     },
-    // CiA 301: node 1 is asked for its object 1000h. CRC 191a.
+    // CiA 301: node 1 is asked for its object 1000h. n = 96, 95, 86, 82, 77, 59:
+    // 4655 + 41e6 + 0b1b + 145b + 681b + 69f2 = 191a.
     Known {
         kind: 11,
         identifier: 0x601,
@@ -85,7 +86,7 @@ pub const KNOWN: &[Known] = &[
                0i01100100011010",
         length: 124,
     },
-    // SAE J1979 over ISO 15765-4: all are asked for the vehicle's speed. CRC 4865.
+    // SAE J1979 over ISO 15765-4: all are asked for the vehicle's speed. By long division: 4865.
     Known {
         kind: 11,
         identifier: 0x7df,
@@ -94,7 +95,7 @@ pub const KNOWN: &[Known] = &[
                100100001100101",
         length: 123,
     },
-    // The answer of the first one: 50 km/h. CRC 32a2.
+    // The answer of the first one: 50 km/h. By long division: 32a2.
     Known {
         kind: 11,
         identifier: 0x7e8,
@@ -103,7 +104,7 @@ pub const KNOWN: &[Known] = &[
                011001010100010",
         length: 115,
     },
-    // ISO 14229-1 over ISO 15765-2: a tester is present, no answer wanted. CRC 6f55.
+    // ISO 14229-1 over ISO 15765-2: a tester is present, no answer wanted. By long division: 6f55.
     Known {
         kind: 29,
         identifier: 0x18da_10f1,
@@ -111,7 +112,7 @@ pub const KNOWN: &[Known] = &[
         wire: "0 11000110110 1 1 100001000011110001 0 0 0 00i11 00000i010 0011111o0 100000i00 110111101010101",
         length: 95,
     },
-    // SAE J1939-71, electronic engine controller 1: 621 r/min. CRC 1c40.
+    // SAE J1939-71, electronic engine controller 1: 621 r/min. By long division: 1c40.
     Known {
         kind: 29,
         identifier: 0x0cf0_0400,
@@ -120,7 +121,7 @@ pub const KNOWN: &[Known] = &[
                111o11111o 11111o111 11o11111o1 00111000100000i0",
         length: 145,
     },
-    // SAE J1939-81: one without an address asks all for theirs. CRC 29d5.
+    // SAE J1939-81: one without an address asks all for theirs. By long division: 29d5.
     Known {
         kind: 29,
         identifier: 0x18ea_fffe,
@@ -128,7 +129,7 @@ pub const KNOWN: &[Known] = &[
         wire: "0 11000111010 1 1 1011111o11111o11111o0 0 0 0i 0011 00000i000 11101110 0000i0000 0i10100111010101",
         length: 98,
     },
-    // SAE J1939-73, active trouble codes: none, all lamps off. CRC 684a.
+    // SAE J1939-73, active trouble codes: none, all lamps off. By long division: 684a.
     Known {
         kind: 29,
         identifier: 0x18fe_ca00,
