@@ -32,6 +32,18 @@ int64_t certifier_judge(const uint8_t *table, size_t table_len, uint64_t row);
 int64_t certifier_precise_bound(const uint8_t *table, size_t table_len, uint64_t row);
 
 /*
+ * Writes the load sheet of the table to `out`: a line for each node that has frames, nodes rising, with node (3),
+ * quotient (10), remainder (8) and divisor (8), and a last line with the number of nodes (3) and the greatest
+ * quotient (10); each line ends in a line feed. The dividend is work * 10000, the divisor the node's hyperperiod, and
+ * work is the sum over the node's frames of largest length * (hyperperiod / period).
+ * Answers how many bytes were written, or, where the call is turned back, minus (number * 10000 + place).
+ */
+int64_t certifier_load_sheet(const uint8_t *table, size_t table_len, uint8_t *out, size_t out_len);
+
+/* The bytes of the longest load sheet. */
+#define CERTIFIER_LOAD_SHEET_MOST 494
+
+/*
  * The exact length in ticks of the data frame with this kind (11 or 29 identifier bits), identifier and payload, from
  * its start bit through the 3-bit space after it, or, where the call is turned back, minus (number * 10000 + place).
  * It reads `payload_len` bytes from `payload`, which may be null only if the length is 0.

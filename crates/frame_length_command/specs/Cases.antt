@@ -5,7 +5,8 @@ use mathlib.Core.List.{[], _∷_}
 use Rattle.arith.specs.Lists.{exists, range}
 use Rattle.decimal.specs.Decimal.{writeColumn}
 use Rattle.table_checks.specs.Columns.{between}
-use Rattle.frame_length_command.specs.Command.{hexValue, isHex, isPayload, byteAt, payloadOf, lengthLine, refusalLine, lineOf}
+use Rattle.certifier.specs.Listing.{refusalLine}
+use Rattle.frame_length_command.specs.Command.{hexValue, isHex, isPayload, byteAt, payloadOf, lengthLine, lineOf}
 
 -- "1aFf"
 digits : payloadOf (49 ∷ 97 ∷ 70 ∷ 102 ∷ []) ≡ 0x1a ∷ 0xff ∷ []

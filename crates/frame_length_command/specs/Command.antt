@@ -12,6 +12,7 @@ use Rattle.table_checks.specs.Columns.{between}
 use Rattle.table_checks.specs.declared.Checked.the-variants.{Passed}
 use Rattle.frame_table.specs.Table.{answerFor, areaAfter}
 use Rattle.frame_length.specs.FrameLength.{FrameReturned, frameReturns}
+use Rattle.certifier.specs.Listing.{refusalLine}
 use Rattle.frame_length_command.specs.declared.Reply.{Reply}
 use Rattle.frame_length_command.specs.declared.Reply.the-variants.{Malformed, Answered}
 
@@ -52,10 +53,7 @@ payloadOf s = map (byteAt s) (range 0 (length s / 2))
 unfoldable pub lengthLine : ℕ → List ℕ
 lengthLine ticks = writeColumn 4 ticks ++ (10 ∷ [])
 
--- number (3) and place (6) of a refusal
-unfoldable pub refusalLine : ℕ → ℕ → List ℕ
-refusalLine number place = writeColumn 3 number ++ (writeColumn 6 place ++ (10 ∷ []))
-
+-- or number and place of a refusal
 unfoldable pub lineOf : FrameReturned → List ℕ
 lineOf r = cond (eqb (r .number) 0) (lengthLine (r .ticks)) (refusalLine (r .number) (r .place))
 

@@ -2,18 +2,17 @@
 use decimal::Column;
 use frame_length::Measured;
 use frame_table::Answer;
-use table_checks::Cause;
-use table_checks::Refusal;
+use frame_table::no_room;
 use table_checks::is_between;
 ghost use mathlib.Core.Path.{_≡_};
 ghost use mathlib.Core.List.{_++_};
 ghost use Prim.Native.Nat.{_/_, _≤_};
 ghost use lib.ListN.{length, drop};
-ghost use Rattle.table_checks.specs.declared.Cause.the-variants.{OutputArea};
 ghost use Rattle.table_checks.specs.declared.Checked.the-variants.{Passed};
 ghost use Rattle.frame_table.specs.Table.{answerFor, areaAfter};
 ghost use Rattle.frame_length.specs.FrameLength.{frameReturns, measuredReturns};
-ghost use Rattle.frame_length_command.specs.Command.{hexValue, isHex, isPayload, payloadOf, lengthLine, refusalLine, lineOf, lineFor, replyFor, areaLeft};
+ghost use Rattle.certifier.specs.Listing.{refusalLine};
+ghost use Rattle.frame_length_command.specs.Command.{hexValue, isHex, isPayload, payloadOf, lengthLine, lineOf, lineFor, replyFor, areaLeft};
 ghost use Rattle.frame_length_command.specs.Steps.{Digits};
 
 // The bytes of the longest line.
@@ -162,14 +161,4 @@ fn write_refusal(out: &mut [u8]) -> Answer
     decimal::write(&mut out[3..9], 0);
     out[9] = LINE_FEED;
     Answer::Done(LONGEST)
-}
-
-// The area is shorter than the line.
-fn no_room() -> Answer
-    ensures { λ r. ⌜ r ≡ Answer.Refused (record { cause = OutputArea; place = 0 }) ⌝ }
-{
-    Answer::Refused(Refusal {
-        cause: Cause::OutputArea,
-        place: 0,
-    })
 }

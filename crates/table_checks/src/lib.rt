@@ -7,7 +7,6 @@ pub use checks::check_fields;
 pub use checks::check_length;
 pub use checks::is_between;
 pub use checks::is_identifier;
-pub use checks::table;
 pub use frames::frame;
 pub use frames::largest_length;
 pub use frames::priority;

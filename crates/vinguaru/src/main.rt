@@ -1,9 +1,11 @@
-// Works on the frame table on standard input, as the command says that is the program's first argument. Another command is a
+// Does what the command says that is the program's first argument; a frame table stands on standard input. Another command is a
 // variant of Command, a line in `read_command`, an arm in `main` with a function of its own, and a line of the usage text.
 use console::BUFFER;
+use frame_length_command::Reply;
 
 enum Command {
     LoadSheet,
+    FrameLength,
     Unknown,
 }
 
@@ -11,6 +13,7 @@ fn main() {
     let command = read_command();
     match command {
         Command::LoadSheet => load_sheet(),
+        Command::FrameLength => frame_length(),
         Command::Unknown => explain(),
     }
 }
@@ -20,6 +23,9 @@ fn read_command() -> Command {
     if is_called(b"load-sheet", 0) {
         return Command::LoadSheet;
     }
+    if is_called(b"frame-length", 3) {
+        return Command::FrameLength;
+    }
     Command::Unknown
 }
 
@@ -27,7 +33,7 @@ fn read_command() -> Command {
 fn explain() {
     io::write_all(
         2,
-        b"usage: vinguaru COMMAND < TABLE\ncommands:\n  load-sheet   each node's bus load, and the greatest of them\n",
+        b"usage: vinguaru COMMAND\ncommands:\n  load-sheet < TABLE                 each node's bus load, and the greatest of them\n  frame-length KIND IDENTIFIER HEX   the exact length of a frame on the wire; HEX are its payload's bytes, - for none\n",
     );
 }
 
@@ -67,4 +73,25 @@ fn load_sheet() {
     let mut sheet = [0u8; load_sheet::LONGEST];
     let answer = load_sheet::write(&file[..size], &mut sheet);
     console::print_answer(b"vinguaru", answer, &sheet);
+}
+
+// Prints the exact length of the frame that the arguments name, or its refusal.
+fn frame_length() {
+    let mut kind = io::buffer();
+    let k = os::arg(2, &mut kind);
+    let mut identifier = io::buffer();
+    let i = os::arg(3, &mut identifier);
+    let mut hex = io::buffer();
+    let h = os::arg(4, &mut hex);
+    let mut line = [0u8; frame_length_command::LONGEST];
+    let reply = frame_length_command::write_line(
+        &kind[..k],
+        &identifier[..i],
+        &hex[..h],
+        &mut line,
+    );
+    match reply {
+        Reply::Malformed => explain(),
+        Reply::Answered(answer) => console::print_answer(b"vinguaru", answer, &line),
+    }
 }

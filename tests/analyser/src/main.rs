@@ -1,8 +1,8 @@
 //! The analyser's commands.
 
 use analyser::{
-    cases, frame_length, frame_length_cases, judge_cases, judgement, listing, self_check, table,
-    table_cases,
+    cases, frame_length, frame_length_cases, judge_cases, judgement, listing, load_sheet, self_check,
+    table, table_cases,
 };
 use std::io::{self, Read, Write};
 use std::process::ExitCode;

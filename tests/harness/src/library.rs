@@ -5,6 +5,7 @@ use crate::lent::Lent;
 extern "C" {
     fn certifier_judge(table: *const u8, len: usize, row: u64) -> i64;
     fn certifier_precise_bound(table: *const u8, len: usize, row: u64) -> i64;
+    fn certifier_load_sheet(table: *const u8, len: usize, out: *mut u8, out_len: usize) -> i64;
     fn certifier_frame_length(kind: u32, identifier: u32, payload: *const u8, len: usize) -> i64;
     fn test_read(file: *const u8, len: usize, rows: *mut u32, rows_len: usize) -> i64;
     fn test_check(rows: *const u32, rows_len: usize) -> i64;
@@ -31,7 +32,7 @@ pub fn load_sheet(file: &mut Lent<u8>, out: &mut Lent<u8>) -> i64 {
 }
 
 pub fn frame_length(kind: u32, identifier: u32, payload: &mut Lent<u8>) -> i64 {
-    unsafe { certifier_frame_length(kind, identifier, table_address(payload), payload.len()) }
+    unsafe { certifier_frame_length(kind, identifier, address_or_null(payload), payload.len()) }
 }
 
 pub fn read(file: &mut Lent<u8>, rows: &mut Lent<u32>) -> i64 {

@@ -4,7 +4,7 @@ use mathlib.Core.Path.{refl}
 use lib.ListN.{length-set}
 use Rattle.table_checks.specs.declared.Checked.the-variants.{Passed}
 use Rattle.frame_table.specs.laws.Areas.{area-short, area-written}
-use Rattle.frame_length_command.specs.Command.{refusalLine}
+use Rattle.certifier.specs.Listing.{refusalLine}
 use Rattle.frame_length_command.specs.laws.Lines.{length-refusal, refusal-written}
 use Rattle.frame_length_command.proofs.write_refusal.Statement.{statement}
 use Rattle.frame_length_command.proofs.write_refusal.Tie as tie

@@ -8,7 +8,8 @@ use borrow.Rule.Slice.PartMut.{midOf, putMid}
 use Rattle.arith.specs.laws.Overwriting.{begun-none, begun-filled, begun-element}
 use Rattle.decimal.specs.Decimal.{writeColumn}
 use Rattle.decimal.specs.Laws.{length-write}
-use Rattle.frame_length_command.specs.Command.{lengthLine, refusalLine}
+use Rattle.certifier.specs.Listing.{refusalLine}
+use Rattle.frame_length_command.specs.Command.{lengthLine}
 
 pub length-length : (ticks : ℕ) → length (lengthLine ticks) ≡ 5
 unfolding lengthLine
