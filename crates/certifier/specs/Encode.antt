@@ -8,7 +8,9 @@ use Rattle.table_checks.specs.declared.Checked.the-variants.{Passed, Failed}
 use Rattle.frame_table.specs.declared.Answer.{Answer}
 use Rattle.frame_table.specs.declared.Answer.the-variants.{Done, Refused}
 use Rattle.frame_table.specs.Text.{fieldsOf}
-use Rattle.frame_table.specs.Table.{readCheck, answerFor}
+use Rattle.frame_table.specs.Table.{answerFor}
+use Rattle.lengths_file.specs.Lengths.{lengthsOf}
+use Rattle.lengths_file.specs.Input.{inputCheck}
 use Rattle.row_judgement.specs.declared.Refusal.{Refusal}
 use Rattle.row_judgement.specs.declared.Judged.{Judged}
 use Rattle.row_judgement.specs.declared.Judged.the-variants.{Verdict, NotJudged}
@@ -17,25 +19,30 @@ use Rattle.row_judgement.specs.declared.Bounded.the-variants.{Bound, NotBounded
 use Rattle.row_judgement.specs.Refusal.{numberOf, ofTable}
 use Rattle.row_judgement.specs.Judge.{judgeRow, boundRow}
 use Rattle.load_sheet.specs.Sheet.{sheetOf}
+use Rattle.certifier.specs.Listing.{listingOf}
 
--- ---- the table as bytes: the checks on files, then those on rows
+-- ---- lengths and table as bytes: the checks on files, then those on lengths and rows
 
-unfoldable pub judgeRead : Checked → List ℕ → ℕ → Judged
-judgeRead (Failed f) file r = NotJudged (ofTable f)
-judgeRead Passed file r = judgeRow (fieldsOf file) r
+unfoldable pub judgeRead : Checked → List (List ℕ) → List ℕ → ℕ → Judged
+judgeRead (Failed f) ls file r = NotJudged (ofTable f)
+judgeRead Passed ls file r = judgeRow ls (fieldsOf file) r
 
-unfoldable pub judgeFile : List ℕ → ℕ → Judged
-judgeFile file r = judgeRead (readCheck file) file r
+unfoldable pub judgeFile : List ℕ → List ℕ → ℕ → Judged
+judgeFile lengths file r = judgeRead (inputCheck lengths file) (lengthsOf lengths) file r
 
-unfoldable pub boundRead : Checked → List ℕ → ℕ → Bounded
-boundRead (Failed f) file r = NotBounded (ofTable f)
-boundRead Passed file r = boundRow (fieldsOf file) r
+unfoldable pub boundRead : Checked → List (List ℕ) → List ℕ → ℕ → Bounded
+boundRead (Failed f) ls file r = NotBounded (ofTable f)
+boundRead Passed ls file r = boundRow ls (fieldsOf file) r
 
-unfoldable pub boundFile : List ℕ → ℕ → Bounded
-boundFile file r = boundRead (readCheck file) file r
+unfoldable pub boundFile : List ℕ → List ℕ → ℕ → Bounded
+boundFile lengths file r = boundRead (inputCheck lengths file) (lengthsOf lengths) file r
 
-abbrev pub sheetAnswer : List ℕ → List ℕ → Answer
-sheetAnswer file out = answerFor (readCheck file) (sheetOf (fieldsOf file)) out
+-- listing and load sheet
+abbrev pub listAnswer : List ℕ → List ℕ → List ℕ → Answer
+listAnswer lengths file out = answerFor (inputCheck lengths file) (listingOf (lengthsOf lengths) (fieldsOf file)) out
+
+abbrev pub sheetAnswer : List ℕ → List ℕ → List ℕ → Answer
+sheetAnswer lengths file out = answerFor (inputCheck lengths file) (sheetOf (lengthsOf lengths) (fieldsOf file)) out
 
 -- ---- as a number
 

@@ -1,6 +1,6 @@
 -- The numbers and the listing that are answered; below `laws` what is proved of them.
-pub mod Encode
 pub mod Listing
+pub mod Encode
 pub mod FrameEntry
 pub mod Steps
 pub mod laws

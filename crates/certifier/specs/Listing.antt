@@ -1,4 +1,5 @@
--- The listing of a table: a line a row, in table order, or the line of a refusal (document 01, "The listing").
+-- The listing of a table: a line a row, in table order, or the line of a refusal (document 01, "The listing"); ls are the lengths that were
+-- loaded (document 02, request 2).
 use Prim.Native.Nat.{ℕ, zero, suc, _+_, _/_}
 use mathlib.Core.List.{List, [], _∷_, _++_}
 use lib.ListN.{length}
@@ -16,17 +17,17 @@ listingLine identifier j =
     writeColumn 10 identifier ++ (writeColumn 3 (verdict (j .outcome)) ++ (writeColumn 8 (j .bound) ++ (writeSigned 9 (j .margin) ++ (10 ∷ []))))
 
 -- the line of row i
-unfoldable pub lineOf : List ℕ → ℕ → List ℕ
-lineOf rows i = listingLine (field rows i 1) (judge (framesOf rows) (row (framesOf rows) i) (claimOf rows i))
+unfoldable pub lineOf : List (List ℕ) → List ℕ → ℕ → List ℕ
+lineOf ls rows i = listingLine (field rows i 1) (judge (framesOf ls rows) (row (framesOf ls rows) i) (claimOf rows i))
 
 -- n lines from row i on
-abbrev pub linesFrom : List ℕ → ℕ → ℕ → List ℕ
-linesFrom rows zero i = []
-linesFrom rows (suc n) i = lineOf rows i ++ linesFrom rows n (i + 1)
+abbrev pub linesFrom : List (List ℕ) → List ℕ → ℕ → ℕ → List ℕ
+linesFrom ls rows zero i = []
+linesFrom ls rows (suc n) i = lineOf ls rows i ++ linesFrom ls rows n (i + 1)
 
 -- all lines
-unfoldable pub listingOf : List ℕ → List ℕ
-listingOf rows = linesFrom rows (length rows / 7) 0
+unfoldable pub listingOf : List (List ℕ) → List ℕ → List ℕ
+listingOf ls rows = linesFrom ls rows (length rows / 7) 0
 
 -- of a refused table: number (3), place (6), and a line feed
 unfoldable pub refusalLine : ℕ → ℕ → List ℕ

@@ -3,3 +3,4 @@ pub mod Small
 pub mod Encoding
 pub mod Listing
 pub mod Answers
+pub mod Before

@@ -1,6 +1,8 @@
-// The entries for C: a table as bytes, and one signed number as the answer.
+// The entries for C: lengths and a table as bytes, and one signed number as the answer.
+use crate::listing::list;
 use bus_model::Judgement;
 use frame_table::Answer;
+use lengths_file::lengths_of;
 use row_judgement::Bounded;
 use row_judgement::Judged;
 use row_judgement::Refusal;
@@ -8,57 +10,93 @@ use row_judgement::judge;
 use row_judgement::of_table;
 use row_judgement::precise_bound;
 use row_judgement::verdict;
+use table_checks::Checked;
 ghost use mathlib.Core.Path.{_≡_};
 ghost use Prim.Native.Nat.{ℕ, _+_, _*_, _≤_};
 ghost use lib.IntN.{pos, _+ℤ_};
+ghost use Rattle.frame_table.specs.Text.{fieldsOf};
+ghost use Rattle.frame_table.specs.Table.{readCheck, areaAfter};
+ghost use Rattle.lengths_file.specs.Lengths.{lengthsOf};
 ghost use Rattle.row_judgement.specs.declared.Judged.the-variants.{Verdict};
 ghost use Rattle.row_judgement.specs.Judge.{judgeRow};
-ghost use Rattle.frame_table.specs.Text.{fieldsOf};
-ghost use Rattle.frame_table.specs.Table.{areaAfter};
 ghost use Rattle.load_sheet.specs.Sheet.{sheetOf};
-ghost use Rattle.certifier.specs.Encode.{judgeFile, boundFile, sheetAnswer, encodeRefusal, encodeJudged, encodeBounded, encodeAnswer};
+ghost use Rattle.certifier.specs.Encode.{judgeRead, judgeFile, boundRead, boundFile, listAnswer, sheetAnswer, encodeRefusal, encodeJudged, encodeBounded, encodeAnswer};
+ghost use Rattle.certifier.specs.Listing.{listingOf};
 ghost use Rattle.certifier.specs.Steps.{Encodable, Countable};
 
-// Judges the claim of a row of the table.
+// Judges the claim of a row of the table, by the lengths.
 #[no_mangle]
-pub extern "C" fn certifier_judge(table: &[u8], row: u64) -> i64
-    ensures { λ r. ⌜ r ≡ encodeJudged (judgeFile (now (table .entry)) row) ⌝ }
+pub extern "C" fn certifier_judge(lengths: &[u8], table: &[u8], row: u64) -> i64
+    ensures { λ r. ⌜ r ≡ encodeJudged (judgeFile (now (lengths .entry)) (now (table .entry)) row) ⌝ }
+{
+    let loaded = lengths_file::read(lengths);
+    let checked = loaded.checked;
+    match checked {
+        Checked::Failed(refusal) => encode_refusal(of_table(refusal)),
+        Checked::Passed => judge_table(lengths_of(loaded), table, row),
+    }
+}
+
+// Judges the claim of a row of the table, by lengths that were read.
+fn judge_table(lengths: [[u32; 9]; 2], table: &[u8], row: u64) -> i64
+    ensures { λ r. ⌜ r ≡ encodeJudged (judgeRead (readCheck (now (table .entry))) lengths (now (table .entry)) row) ⌝ }
 {
     let mut rows = [0u32; table_checks::MOST_NUMBERS];
     let answer = frame_table::read(table, &mut rows);
     match answer {
         Answer::Refused(refusal) => encode_refusal(of_table(refusal)),
-        Answer::Done(n) => encode_judgement_of(&rows[..n], row),
+        Answer::Done(n) => encode_judgement_of(lengths, &rows[..n], row),
     }
 }
 
-// The precise bound of a row of the table.
+// The precise bound of a row of the table, by the lengths.
 #[no_mangle]
-pub extern "C" fn certifier_precise_bound(table: &[u8], row: u64) -> i64
-    ensures { λ r. ⌜ r ≡ encodeBounded (boundFile (now (table .entry)) row) ⌝ }
+pub extern "C" fn certifier_precise_bound(lengths: &[u8], table: &[u8], row: u64) -> i64
+    ensures { λ r. ⌜ r ≡ encodeBounded (boundFile (now (lengths .entry)) (now (table .entry)) row) ⌝ }
+{
+    let loaded = lengths_file::read(lengths);
+    let checked = loaded.checked;
+    match checked {
+        Checked::Failed(refusal) => encode_refusal(of_table(refusal)),
+        Checked::Passed => bound_table(lengths_of(loaded), table, row),
+    }
+}
+
+// The precise bound of a row of the table, by lengths that were read.
+fn bound_table(lengths: [[u32; 9]; 2], table: &[u8], row: u64) -> i64
+    ensures { λ r. ⌜ r ≡ encodeBounded (boundRead (readCheck (now (table .entry))) lengths (now (table .entry)) row) ⌝ }
 {
     let mut rows = [0u32; table_checks::MOST_NUMBERS];
     let answer = frame_table::read(table, &mut rows);
     match answer {
         Answer::Refused(refusal) => encode_refusal(of_table(refusal)),
-        Answer::Done(n) => encode_bounded(precise_bound(&rows[..n], row)),
+        Answer::Done(n) => encode_bounded(precise_bound(lengths, &rows[..n], row)),
     }
 }
 
-// Writes the load sheet of the table, and answers its length. A refusal leaves the output as it is.
+// Lists the judgements of the table, by the lengths, and answers the listing's length. A refusal leaves the output as it is.
 #[no_mangle]
-pub extern "C" fn certifier_load_sheet(table: &[u8], out: &mut [u8]) -> i64
-    ensures { λ r. ⌜ r ≡ encodeAnswer (sheetAnswer (now (table .entry)) (now (out .entry))) ⌝ }
-    ensures { λ _. ⌜ now (out .exit) ≡ areaAfter (sheetAnswer (now (table .entry)) (now (out .entry))) (sheetOf (fieldsOf (now (table .entry)))) (now (out .entry)) ⌝ }
+pub extern "C" fn certifier_list(lengths: &[u8], table: &[u8], out: &mut [u8]) -> i64
+    ensures { λ r. ⌜ r ≡ encodeAnswer (listAnswer (now (lengths .entry)) (now (table .entry)) (now (out .entry))) ⌝ }
+    ensures { λ _. ⌜ now (out .exit) ≡ areaAfter (listAnswer (now (lengths .entry)) (now (table .entry)) (now (out .entry))) (listingOf (lengthsOf (now (lengths .entry))) (fieldsOf (now (table .entry)))) (now (out .entry)) ⌝ }
 {
-    encode_answer(load_sheet::write(table, out))
+    encode_answer(list(lengths, table, out))
+}
+
+// Writes the load sheet of the table, by the lengths, and answers its length. A refusal leaves the output as it is.
+#[no_mangle]
+pub extern "C" fn certifier_load_sheet(lengths: &[u8], table: &[u8], out: &mut [u8]) -> i64
+    ensures { λ r. ⌜ r ≡ encodeAnswer (sheetAnswer (now (lengths .entry)) (now (table .entry)) (now (out .entry))) ⌝ }
+    ensures { λ _. ⌜ now (out .exit) ≡ areaAfter (sheetAnswer (now (lengths .entry)) (now (table .entry)) (now (out .entry))) (sheetOf (lengthsOf (now (lengths .entry))) (fieldsOf (now (table .entry)))) (now (out .entry)) ⌝ }
+{
+    encode_answer(load_sheet::write(lengths, table, out))
 }
 
 // Judges the claim of a row of rows in memory.
-pub fn encode_judgement_of(rows: &[u32], row: u64) -> i64
-    ensures { λ r. ⌜ r ≡ encodeJudged (judgeRow (now (rows .entry)) row) ⌝ }
+pub fn encode_judgement_of(lengths: [[u32; 9]; 2], rows: &[u32], row: u64) -> i64
+    ensures { λ r. ⌜ r ≡ encodeJudged (judgeRow lengths (now (rows .entry)) row) ⌝ }
 {
-    encode_judged(judge(rows, row))
+    encode_judged(judge(lengths, rows, row))
 }
 
 // Minus (number × 10000 + place).

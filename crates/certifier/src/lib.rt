@@ -1,11 +1,12 @@
 // The operations on frame tables: the precise bound of a row, its judgement, the listing of all rows, and
-// the entries for C, that of the load sheet among them. Each takes any input, and checks its table itself. The encode
-// functions give the numbers that the entries answer.
+// the entries for C, that of the load sheet among them. Each takes any input, and checks its lengths and its table itself. The
+// encode functions give the numbers that the entries answer.
 mod encode;
 mod frame_entry;
 mod listing;
 
 pub use encode::certifier_judge;
+pub use encode::certifier_list;
 pub use encode::certifier_load_sheet;
 pub use encode::certifier_precise_bound;
 pub use encode::encode_answer;
@@ -16,6 +17,7 @@ pub use frame_entry::certifier_frame_length;
 pub use listing::LINE;
 pub use listing::REFUSAL_LINE;
 pub use listing::list;
+pub use listing::list_input;
 pub use listing::write_refusal;
 pub use row_judgement::Bounded;
 pub use row_judgement::Cause;

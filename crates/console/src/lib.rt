@@ -1,5 +1,5 @@
-// What the programs share: the table on standard input, an operation's answer on standard output, and complaints on standard
-// error. A table of any length is judged by its true length, though no more is held of it than an accepted one can have.
+// What the programs share: lengths and table on standard input, an operation's answer on standard output, and complaints on standard
+// error. An input of any length is judged by its true length, though no more is held of it than an accepted one can have.
 use frame_table::Answer;
 use table_checks::Checked;
 use table_checks::Refusal;
@@ -7,15 +7,15 @@ ghost use lib.ListN.{length};
 ghost use Rattle.io.specs.Counts.{Counts};
 ghost use Rattle.console.specs.Steps.{Within};
 
-// More than the longest accepted table.
+// More than the lengths and the longest accepted table.
 pub const BUFFER: usize = 4096;
 
 // A proved loop has to end, and nothing says that the input does: so a loop over all of it counts its turns down, from a
 // number that no run uses up.
 const TURNS: u64 = 1 << 62;
 
-// The table that a program works on.
-pub struct Table {
+// The input that a program works on: the lengths, and behind them the table.
+pub struct Input {
     // Whether there is one. Where it is longer than any, or cannot be read, this was said.
     pub held: bool,
     // How many bytes it has, from the start of the buffer on.
@@ -31,23 +31,23 @@ enum Stream {
     Unreadable,
 }
 
-// Reads the table on standard input.
-pub fn read_table(program: &[u8], buffer: &mut [u8]) -> Table
+// Reads the input on standard input.
+pub fn read_input(program: &[u8], buffer: &mut [u8]) -> Input
     ensures { λ r. ⌜ Counts (r .size) (now (buffer .exit)) ⌝ }
 {
     let stream = read(buffer);
     match stream {
-        Stream::Whole(size) => Table { held: true, size },
+        Stream::Whole(size) => Input { held: true, size },
         Stream::Longer(size) => {
-            print_length(program, size);
-            Table {
+            print_size(program, buffer, size);
+            Input {
                 held: false,
                 size: 0,
             }
         }
         Stream::Unreadable => {
             complain(program, b": standard input cannot be read\n");
-            Table {
+            Input {
                 held: false,
                 size: 0,
             }
@@ -105,9 +105,9 @@ fn more(a: usize, b: usize) -> usize {
     }
 }
 
-// Prints the refusal of a table by its length alone.
-fn print_length(program: &[u8], size: usize) {
-    let checked = table_checks::check_length(size);
+// Prints the refusal of an input of so many bytes by its start: by its lengths, or by its table's size.
+fn print_size(program: &[u8], start: &[u8], size: usize) {
+    let checked = lengths_file::check_size(start, size);
     if let Checked::Failed(refusal) = checked {
         print_refusal(program, refusal);
     }

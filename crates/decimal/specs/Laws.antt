@@ -1,6 +1,7 @@
 -- Reading and writing a column undo each other, at any width.
 --     read-write      a number that a column of width w has room for is read back
 --     write-read      a column that holds a number is what writing the number gives
+--     read-below      a column of w characters holds a number below 10^w
 --     length-write, length-signed    a written column has its width
 use Prim.Native.Nat.{ℕ, zero, suc, _+_, _-_, _*_, _/_, _%_, _^_, _≤_, _<_}
 use mathlib.Core.Path.{_≡_, refl, sym, ap, ap₂, _∙_}
@@ -147,6 +148,42 @@ write-read s n e =
     let e′ : extendedBy Blank s ≡ Number n = number-of (extendedBy Blank s) n e in
     let b = written-back 0 Blank s [] (rw e′ tt) in
     simp (e′, zero-add, append-nil) at b
+
+-- ---- how great a number is
+
+-- what is known of a prefix of i characters
+abbrev Below : ℕ → Prefix → Type 0
+Below i Blank = 0 < 10 ^ i
+Below i (Number n) = n < 10 ^ i
+Below i Minus = Unit {0}
+Below i (Negative n) = Unit {0}
+Below i Broken = Unit {0}
+
+digit-below : (n b i : ℕ) → n < 10 ^ i → Below (suc i) (withDigit n b)
+digit-below n b i h =
+    by-test (ltb b 48) (λ e. simp e tt)
+    (λ e₁. by-test (ltb 57 b) (λ e. simp (e₁, e) tt)
+    (λ e₂. by-test (leb 100_000_000_000_000_000 n) (λ e. simp (e₁, e₂, e) tt)
+    (λ e₃. let l : n * 10 + (b - 48) < 10 ^ suc i = omega (arith, pow-suc 10 i, ltb-false 57 b e₂) in simp (e₁, e₂, e₃) l)))
+
+extended-below : (p : Prefix) (b i : ℕ) → Below i p → Below (suc i) (extended p b)
+extended-below Blank b i h =
+    by-test (eqb b 32) (λ e. let l : 0 < 10 ^ suc i = omega (arith, pow-suc 10 i) in simp e l) (λ e. simp e (digit-below 0 b i h))
+extended-below (Number n) b i h = by-test (eqb n 0) (λ e. simp e tt) (λ e. simp e (digit-below n b i h))
+extended-below Minus b i h = tt
+extended-below (Negative n) b i h = tt
+extended-below Broken b i h = tt
+
+all-below : (s : List ℕ) (p : Prefix) (i : ℕ) → Below i p → Below (i + length s) (extendedBy p s)
+all-below [] p i h = rw (add-zero i) h
+all-below (b ∷ s) p i h =
+    rw (add-suc i (length s) ∙ sym (suc-add i (length s))) (all-below s (extended p b) (suc i) (extended-below p b i h))
+
+pub read-below : (s : List ℕ) (n : ℕ) → readColumn s ≡ Value n → n < 10 ^ length s
+unfolding readColumn
+read-below s n e = rw (number-of (extendedBy Blank s) n e, zero-add) at (all-below s Blank 0 (omega arith))
+
+-- ---- how wide a column is
 
 length-written : (w : ℕ) (p : Prefix) (after : List ℕ) → length (written w p after) ≡ w + length after
 length-written zero p after = sym (zero-add (length after))

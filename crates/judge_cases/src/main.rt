@@ -52,7 +52,7 @@ fn run_judge(rows: &[u32], count: usize, row: u64) {
     if rows.len() < count {
         return;
     }
-    let answer = certifier::judge(&rows[0..count], row);
+    let answer = certifier::judge(table_checks::standard_lengths(), &rows[0..count], row);
     match answer {
         Judged::Verdict(judgement) => {
             let outcome = judgement.outcome;
@@ -69,7 +69,7 @@ fn run_bound(rows: &[u32], count: usize, row: u64) {
     if rows.len() < count {
         return;
     }
-    let answer = certifier::precise_bound(&rows[0..count], row);
+    let answer = certifier::precise_bound(table_checks::standard_lengths(), &rows[0..count], row);
     match answer {
         Bounded::Bound(bound) => {
             print(b"P", 0);

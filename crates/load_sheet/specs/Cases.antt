@@ -1,12 +1,12 @@
 -- Two sheets, worked out by hand.
-use Prim.Native.Nat.{ℕ}
+use Prim.Native.Nat.{ℕ, _+_}
 use mathlib.Core.Path.{_≡_, refl}
-use mathlib.Core.List.{List, [], _∷_, _++_}
+use mathlib.Core.List.{List, [], _∷_, _++_, map}
 use Rattle.arith.specs.Lists.{sum, greatest, keep, exists, range}
 use Rattle.arith.specs.Multiples.{euclid, gcd, lcm, lcmOf}
 use Rattle.decimal.specs.Decimal.{writeColumn}
 use Rattle.bus_model.specs.Pattern.{ofNode, hyperperiod}
-use Rattle.table_checks.specs.Frames.{priorityOf, largestLength, frameAt, framesOf}
+use Rattle.table_checks.specs.Frames.{standardLengths, priorityOf, largestLength, frameAt, framesOf}
 use Rattle.load_sheet.specs.declared.Load.{Load}
 use Rattle.load_sheet.specs.Load.{workIn, dividend, loadOf}
 use Rattle.load_sheet.specs.Sheet.{hasFrames, nodesOf, nodeLoad, nodeLine, linesOf, lastLine, greatestQuotient, sheetWith, sheetOf}
@@ -28,11 +28,19 @@ picker =
     ∷ 2 ∷ 64 ∷ 11 ∷ 1 ∷ 1000 ∷ 0 ∷ 200
     ∷ []
 
-picker-sheet : sheetOf picker ≡ nodeLine 1 (load 3250 0 1000) ++ (nodeLine 2 (load 650 0 1000) ++ lastLine 2 3250)
+picker-sheet : sheetOf standardLengths picker ≡ nodeLine 1 (load 3250 0 1000) ++ (nodeLine 2 (load 650 0 1000) ++ lastLine 2 3250)
 unfolding picker load everything
 picker-sheet = refl
 
--- Its first line is "  1      3250       0    1000" and a line feed.
+-- By lengths that are ten ticks longer: 145 + 65 + 145, and 75.
+longer : List (List ℕ)
+longer = map (map (λ l. l + 10)) standardLengths
+
+longer-sheet : sheetOf longer picker ≡ nodeLine 1 (load 3550 0 1000) ++ (nodeLine 2 (load 750 0 1000) ++ lastLine 2 3550)
+unfolding picker longer load everything
+longer-sheet = refl
+
+-- The first sheet's first line is "  1      3250       0    1000" and a line feed.
 first-line : nodeLine 1 (load 3250 0 1000) ≡
     32 ∷ 32 ∷ 49
     ∷ 32 ∷ 32 ∷ 32 ∷ 32 ∷ 32 ∷ 32 ∷ 51 ∷ 50 ∷ 53 ∷ 48
@@ -53,7 +61,7 @@ remainders =
     ∷ 1 ∷ 4 ∷ 29 ∷ 8 ∷ 1000000 ∷ 0 ∷ 100
     ∷ []
 
-remainders-sheet : sheetOf remainders
+remainders-sheet : sheetOf standardLengths remainders
     ≡ nodeLine 1 (load 1 600000 1000000) ++ (nodeLine 5 (load 114285 5 7) ++ (nodeLine 16 (load 276190 10 21) ++ lastLine 3 276190))
 unfolding remainders load everything
 remainders-sheet = refl

@@ -52,6 +52,6 @@ greatestQuotient fs js = greatest (λ j. nodeLoad fs j .quotient) js
 unfoldable pub sheetWith : List Frame → List ℕ → List ℕ
 sheetWith fs js = linesOf fs js ++ lastLine (length js) (greatestQuotient fs js)
 
--- of a table
-unfoldable pub sheetOf : List ℕ → List ℕ
-sheetOf rows = sheetWith (framesOf rows) (nodesOf (framesOf rows))
+-- of a table, by the lengths ls that were loaded (request 2)
+unfoldable pub sheetOf : List (List ℕ) → List ℕ → List ℕ
+sheetOf ls rows = sheetWith (framesOf ls rows) (nodesOf (framesOf ls rows))

@@ -3,6 +3,7 @@ mod loads;
 mod sheet;
 
 pub use sheet::write;
+pub use sheet::write_input;
 
 // The characters of the longest sheet.
 pub const LONGEST: usize = 494;

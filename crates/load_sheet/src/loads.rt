@@ -8,17 +8,17 @@ ghost use Prim.Native.Nat.{_*_, _/_, _≤_};
 ghost use lib.Dec.{eqb};
 ghost use Rattle.bus_model.specs.Pattern.{ofNode};
 ghost use Rattle.table_checks.specs.Frames.{framesOf};
-ghost use Rattle.table_checks.specs.Checks.{Accepted};
+ghost use Rattle.table_checks.specs.Checks.{Loadable, Accepted};
 ghost use Rattle.load_sheet.specs.Load.{workIn};
 ghost use Rattle.load_sheet.specs.Sheet.{hasFrames, nodeLoad};
 
 // Whether the node has frames.
-pub fn has_frames(rows: &[u32], node: u32) -> bool
-    ensures { λ r. ⌜ r ≡ hasFrames (framesOf (now (rows .entry))) node ⌝ }
+pub fn has_frames(lengths: [[u32; 9]; 2], rows: &[u32], node: u32) -> bool
+    ensures { λ r. ⌜ r ≡ hasFrames (framesOf lengths (now (rows .entry))) node ⌝ }
 {
     let mut i = 0;
     while i < rows.len() / ROW {
-        let g = table_checks::frame(rows, i);
+        let g = table_checks::frame(lengths, rows, i);
         if g.node == node {
             return true;
         }
@@ -41,29 +41,29 @@ fn frame_work(h: u64, node: u32, g: Frame) -> u64
 }
 
 // The work of the node's frames in h ticks.
-fn work(rows: &[u32], node: u32, h: u64) -> u64
-    requires { ⌜ Accepted (now rows) ⌝ }
+fn work(lengths: [[u32; 9]; 2], rows: &[u32], node: u32, h: u64) -> u64
+    requires { ⌜ Loadable lengths × Accepted (now rows) ⌝ }
     requires { ⌜ h ≤ 1000000 ⌝ }
-    ensures { λ r. ⌜ r ≡ workIn h (ofNode (framesOf (now (rows .entry))) node) ⌝ }
+    ensures { λ r. ⌜ r ≡ workIn h (ofNode (framesOf lengths (now (rows .entry))) node) ⌝ }
     ensures small { λ r. ⌜ r ≤ 400000000 * 64 ⌝ }
 {
     let mut sum = 0;
     let mut i = rows.len() / ROW;
     while 0 < i {
         i -= 1;
-        sum = frame_work(h, node, table_checks::frame(rows, i)) + sum;
+        sum = frame_work(h, node, table_checks::frame(lengths, rows, i)) + sum;
     }
     sum
 }
 
 // The load of the node.
-pub fn node_load(rows: &[u32], node: u32) -> Load
-    requires { ⌜ Accepted (now rows) ⌝ }
+pub fn node_load(lengths: [[u32; 9]; 2], rows: &[u32], node: u32) -> Load
+    requires { ⌜ Loadable lengths × Accepted (now rows) ⌝ }
     requires { ⌜ (1 ≤ node) × (node ≤ 16) ⌝ }
-    ensures { λ r. ⌜ r ≡ nodeLoad (framesOf (now (rows .entry))) node ⌝ }
+    ensures { λ r. ⌜ r ≡ nodeLoad (framesOf lengths (now (rows .entry))) node ⌝ }
 {
     let divisor = table_checks::hyperperiod(rows, node as u64);
-    let dividend = work(rows, node, divisor) * 10_000;
+    let dividend = work(lengths, rows, node, divisor) * 10_000;
     Load {
         quotient: dividend / divisor,
         remainder: dividend % divisor,

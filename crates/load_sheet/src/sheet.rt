@@ -4,16 +4,19 @@ use crate::loads::has_frames;
 use crate::loads::node_load;
 use frame_table::Answer;
 use frame_table::no_room;
+use lengths_file::lengths_of;
+use table_checks::Checked;
 ghost use mathlib.Core.Path.{_≡_};
 ghost use Prim.Native.Nat.{_*_, _≤_, max};
 ghost use mathlib.Core.List.{_++_};
 ghost use lib.ListN.{length, take, drop};
 ghost use Rattle.table_checks.specs.declared.Checked.the-variants.{Passed};
 ghost use Rattle.table_checks.specs.Frames.{framesOf};
-ghost use Rattle.table_checks.specs.Refusal.{checkReturns};
-ghost use Rattle.table_checks.specs.Checks.{Accepted};
+ghost use Rattle.table_checks.specs.Checks.{Loadable, Accepted};
 ghost use Rattle.frame_table.specs.Text.{fieldsOf};
 ghost use Rattle.frame_table.specs.Table.{readCheck, answerFor, areaAfter, answerReturns, returnsFor};
+ghost use Rattle.lengths_file.specs.Lengths.{lengthsOf};
+ghost use Rattle.lengths_file.specs.Input.{inputCheck, inputReturns, lengthsPart, tablePart};
 ghost use Rattle.load_sheet.specs.Sheet.{nodesOf, nodeLine, linesOf, lastLine, greatestQuotient, sheetOf};
 ghost use Rattle.load_sheet.specs.Steps.{Nodes};
 
@@ -26,48 +29,73 @@ const LAST_LINE: usize = 14;
 
 const LINE_FEED: u8 = 10;
 
-// Writes the load sheet of the table in a file. A refusal leaves the output as it is.
-pub fn write(file: &[u8], out: &mut [u8]) -> Answer
-    ensures { λ r. ⌜ r ≡ answerFor (readCheck (now (file .entry))) (sheetOf (fieldsOf (now (file .entry)))) (now (out .entry)) ⌝ }
-    ensures { λ r. ⌜ now (out .exit) ≡ areaAfter r (sheetOf (fieldsOf (now (file .entry)))) (now (out .entry)) ⌝ }
-    ensures in_numbers { λ r. ⌜ answerReturns r ≡ returnsFor (checkReturns (readCheck (now (file .entry)))) (sheetOf (fieldsOf (now (file .entry)))) (now (out .entry)) ⌝ }
+// Writes the load sheet of the table in a file, by the lengths in another. A refusal leaves the output as it is.
+pub fn write(lengths: &[u8], file: &[u8], out: &mut [u8]) -> Answer
+    ensures { λ r. ⌜ r ≡ answerFor (inputCheck (now (lengths .entry)) (now (file .entry))) (sheetOf (lengthsOf (now (lengths .entry))) (fieldsOf (now (file .entry)))) (now (out .entry)) ⌝ }
+    ensures { λ r. ⌜ now (out .exit) ≡ areaAfter r (sheetOf (lengthsOf (now (lengths .entry))) (fieldsOf (now (file .entry)))) (now (out .entry)) ⌝ }
+    ensures in_numbers { λ r. ⌜ answerReturns r ≡ returnsFor (inputReturns (now (lengths .entry)) (now (file .entry))) (sheetOf (lengthsOf (now (lengths .entry))) (fieldsOf (now (file .entry)))) (now (out .entry)) ⌝ }
+{
+    let loaded = lengths_file::read(lengths);
+    let checked = loaded.checked;
+    match checked {
+        Checked::Failed(refusal) => Answer::Refused(refusal),
+        Checked::Passed => write_table(lengths_of(loaded), file, out),
+    }
+}
+
+// Writes the load sheet of an input that holds both: its first 92 bytes are the file of the lengths, and the rest is that of the table.
+pub fn write_input(input: &[u8], out: &mut [u8]) -> Answer
+    ensures { λ r. ⌜ r ≡ answerFor (inputCheck (lengthsPart (now (input .entry))) (tablePart (now (input .entry)))) (sheetOf (lengthsOf (lengthsPart (now (input .entry)))) (fieldsOf (tablePart (now (input .entry))))) (now (out .entry)) ⌝ }
+    ensures { λ r. ⌜ now (out .exit) ≡ areaAfter r (sheetOf (lengthsOf (lengthsPart (now (input .entry)))) (fieldsOf (tablePart (now (input .entry))))) (now (out .entry)) ⌝ }
+    ensures in_numbers { λ r. ⌜ answerReturns r ≡ returnsFor (inputReturns (lengthsPart (now (input .entry))) (tablePart (now (input .entry)))) (sheetOf (lengthsOf (lengthsPart (now (input .entry)))) (fieldsOf (tablePart (now (input .entry))))) (now (out .entry)) ⌝ }
+{
+    let size = input.len();
+    let end = lengths_file::lengths_end(size);
+    write(&input[0..end], &input[end..size], out)
+}
+
+// Writes the load sheet of the table in a file, by lengths that passed their check.
+fn write_table(lengths: [[u32; 9]; 2], file: &[u8], out: &mut [u8]) -> Answer
+    requires { ⌜ Loadable lengths ⌝ }
+    ensures { λ r. ⌜ r ≡ answerFor (readCheck (now (file .entry))) (sheetOf lengths (fieldsOf (now (file .entry)))) (now (out .entry)) ⌝ }
+    ensures { λ r. ⌜ now (out .exit) ≡ areaAfter r (sheetOf lengths (fieldsOf (now (file .entry)))) (now (out .entry)) ⌝ }
 {
     let mut rows = [0u32; table_checks::MOST_NUMBERS];
     let answer = frame_table::read(file, &mut rows);
     match answer {
         Answer::Refused(_) => answer,
-        Answer::Done(n) => write_rows(&rows[..n], out),
+        Answer::Done(n) => write_rows(lengths, &rows[..n], out),
     }
 }
 
 // Writes the load sheet of an accepted table.
-fn write_rows(rows: &[u32], out: &mut [u8]) -> Answer
-    requires { ⌜ Accepted (now rows) ⌝ }
-    ensures { λ r. ⌜ r ≡ answerFor Passed (sheetOf (now (rows .entry))) (now (out .entry)) ⌝ }
-    ensures { λ r. ⌜ now (out .exit) ≡ areaAfter r (sheetOf (now (rows .entry))) (now (out .entry)) ⌝ }
+fn write_rows(lengths: [[u32; 9]; 2], rows: &[u32], out: &mut [u8]) -> Answer
+    requires { ⌜ Loadable lengths × Accepted (now rows) ⌝ }
+    ensures { λ r. ⌜ r ≡ answerFor Passed (sheetOf lengths (now (rows .entry))) (now (out .entry)) ⌝ }
+    ensures { λ r. ⌜ now (out .exit) ≡ areaAfter r (sheetOf lengths (now (rows .entry))) (now (out .entry)) ⌝ }
 {
     let mut nodes = [0u32; NODES];
-    let count = find_nodes(rows, &mut nodes);
+    let count = find_nodes(lengths, rows, &mut nodes);
     let end = LINE * count;
     if out.len() < end + LAST_LINE {
         return no_room();
     }
-    let most = write_lines(rows, &nodes[..count], out);
+    let most = write_lines(lengths, rows, &nodes[..count], out);
     let to = end + LAST_LINE;
     write_last(count, most, &mut out[end..to]);
     Answer::Done(to)
 }
 
 // Puts the nodes that have frames at the start of an area, rising, and answers how many they are.
-fn find_nodes(rows: &[u32], nodes: &mut [u32]) -> usize
+fn find_nodes(lengths: [[u32; 9]; 2], rows: &[u32], nodes: &mut [u32]) -> usize
     requires { ⌜ length (now nodes) ≡ 16 ⌝ }
-    ensures { λ r. ⌜ take r (now (nodes .exit)) ≡ nodesOf (framesOf (now (rows .entry))) ⌝ }
-    ensures counted { λ r. ⌜ (r ≡ length (nodesOf (framesOf (now (rows .entry))))) × (r ≤ 16) ⌝ }
+    ensures { λ r. ⌜ take r (now (nodes .exit)) ≡ nodesOf (framesOf lengths (now (rows .entry))) ⌝ }
+    ensures counted { λ r. ⌜ (r ≡ length (nodesOf (framesOf lengths (now (rows .entry))))) × (r ≤ 16) ⌝ }
 {
     let mut found = 0;
     let mut node = 1;
     while node <= 16 {
-        if has_frames(rows, node) {
+        if has_frames(lengths, rows, node) {
             nodes[found] = node;
             found += 1;
         }
@@ -77,18 +105,18 @@ fn find_nodes(rows: &[u32], nodes: &mut [u32]) -> usize
 }
 
 // Writes the lines of the nodes, and answers their greatest quotient.
-fn write_lines(rows: &[u32], nodes: &[u32], out: &mut [u8]) -> u64
-    requires { ⌜ Accepted (now rows) ⌝ }
+fn write_lines(lengths: [[u32; 9]; 2], rows: &[u32], nodes: &[u32], out: &mut [u8]) -> u64
+    requires { ⌜ Loadable lengths × Accepted (now rows) ⌝ }
     requires { ⌜ Nodes (now nodes) ⌝ }
     requires { ⌜ 30 * length (now nodes) ≤ length (now out) ⌝ }
-    ensures { λ r. ⌜ r ≡ greatestQuotient (framesOf (now (rows .entry))) (now (nodes .entry)) ⌝ }
-    ensures { λ _. ⌜ now (out .exit) ≡ linesOf (framesOf (now (rows .entry))) (now (nodes .entry)) ++ drop (30 * length (now (nodes .entry))) (now (out .entry)) ⌝ }
+    ensures { λ r. ⌜ r ≡ greatestQuotient (framesOf lengths (now (rows .entry))) (now (nodes .entry)) ⌝ }
+    ensures { λ _. ⌜ now (out .exit) ≡ linesOf (framesOf lengths (now (rows .entry))) (now (nodes .entry)) ++ drop (30 * length (now (nodes .entry))) (now (out .entry)) ⌝ }
 {
     let mut most = 0;
     let mut i = 0;
     while i < nodes.len() {
         let node = nodes[i];
-        let load = node_load(rows, node);
+        let load = node_load(lengths, rows, node);
         let from = LINE * i;
         let to = from + LINE;
         write_line(node, load, &mut out[from..to]);

@@ -1,5 +1,5 @@
 -- The judgement of a row, and its precise bound (document 01, "Judgement" and "Where a call is turned back").
--- Rows count from 0.
+-- Rows count from 0; ls are the lengths that were loaded (document 02, request 2).
 use Prim.Native.Nat.{ℕ, _/_}
 use mathlib.Core.List.{List}
 use mathlib.Core.Bool.{Bool, false, cond}
@@ -13,7 +13,7 @@ use Rattle.table_checks.specs.declared.Checked.{Checked}
 use Rattle.table_checks.specs.declared.Checked.the-variants.{Passed, Failed}
 use Rattle.table_checks.specs.Columns.{field}
 use Rattle.table_checks.specs.Frames.{framesOf}
-use Rattle.table_checks.specs.Checks.{rowsCheck}
+use Rattle.table_checks.specs.Checks.{loadedCheck}
 use Rattle.row_judgement.specs.declared.Cause.the-variants.{NoSuchRow, NoWindow, TooManyScenarios}
 use Rattle.row_judgement.specs.declared.Judged.{Judged}
 use Rattle.row_judgement.specs.declared.Judged.the-variants.{Verdict, NotJudged}
@@ -29,23 +29,23 @@ claimOf rows r = field rows r 6
 abbrev pub noRow : List ℕ → ℕ → Bool
 noRow rows r = leb (length rows / 7) r
 
--- ---- judging a row: the checks on tables, then 9
+-- ---- judging a row: the check on lengths, those on tables, then 9
 
-unfoldable pub judgeChecked : Checked → List ℕ → ℕ → Judged
-judgeChecked (Failed f) rows r = NotJudged (ofTable f)
-judgeChecked Passed rows r =
+unfoldable pub judgeChecked : Checked → List (List ℕ) → List ℕ → ℕ → Judged
+judgeChecked (Failed f) ls rows r = NotJudged (ofTable f)
+judgeChecked Passed ls rows r =
     cond (noRow rows r) (NotJudged (record { cause = NoSuchRow; place = 0 }))
-    (Verdict (judge (framesOf rows) (row (framesOf rows) r) (claimOf rows r)))
+    (Verdict (judge (framesOf ls rows) (row (framesOf ls rows) r) (claimOf rows r)))
 
-unfoldable pub judgeRow : List ℕ → ℕ → Judged
-judgeRow rows r = judgeChecked (rowsCheck rows) rows r
+unfoldable pub judgeRow : List (List ℕ) → List ℕ → ℕ → Judged
+judgeRow ls rows r = judgeChecked (loadedCheck ls rows) ls rows r
 
 -- "certified": verdict 1 or 2
 unfoldable pub certified : Judged → Bool
 certified (Verdict j) = certifies (j .outcome)
 certified (NotJudged f) = false
 
--- ---- the precise bound alone: the checks on tables, 9, 11, 12
+-- ---- the precise bound alone: the check on lengths, those on tables, 9, 11, 12
 
 unfoldable pub boundFrame : List Frame → ℕ → Bounded
 boundFrame fs r =
@@ -53,9 +53,9 @@ boundFrame fs r =
     (cond (tooManyScenarios fs (row fs r)) (NotBounded (record { cause = TooManyScenarios; place = r }))
     (Bound (preciseBound fs (row fs r))))
 
-unfoldable pub boundChecked : Checked → List ℕ → ℕ → Bounded
-boundChecked (Failed f) rows r = NotBounded (ofTable f)
-boundChecked Passed rows r = cond (noRow rows r) (NotBounded (record { cause = NoSuchRow; place = 0 })) (boundFrame (framesOf rows) r)
+unfoldable pub boundChecked : Checked → List (List ℕ) → List ℕ → ℕ → Bounded
+boundChecked (Failed f) ls rows r = NotBounded (ofTable f)
+boundChecked Passed ls rows r = cond (noRow rows r) (NotBounded (record { cause = NoSuchRow; place = 0 })) (boundFrame (framesOf ls rows) r)
 
-unfoldable pub boundRow : List ℕ → ℕ → Bounded
-boundRow rows r = boundChecked (rowsCheck rows) rows r
+unfoldable pub boundRow : List (List ℕ) → List ℕ → ℕ → Bounded
+boundRow ls rows r = boundChecked (loadedCheck ls rows) ls rows r

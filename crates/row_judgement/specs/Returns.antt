@@ -39,11 +39,11 @@ unfoldable pub judgedReturns : Judged → JudgedReturned
 judgedReturns (Verdict j) = asVerdict (findingOf j)
 judgedReturns (NotJudged f) = asNotJudged (returned (numberOf (f .cause)) (f .place))
 
--- what is returned for row r: what the check of the table returns, then 9, then what judging finds
-unfoldable pub judgeReturns : Returned → List ℕ → ℕ → JudgedReturned
-judgeReturns check rows r =
+-- what is returned for row r, by the lengths ls: what the check of lengths and table returns, then 9, then what judging finds
+unfoldable pub judgeReturns : Returned → List (List ℕ) → List ℕ → ℕ → JudgedReturned
+judgeReturns check ls rows r =
     cond (eqb (check .number) 0)
-    (cond (noRow rows r) (asNotJudged (returned 9 0)) (asVerdict (findingFor (framesOf rows) (row (framesOf rows) r) (claimOf rows r))))
+    (cond (noRow rows r) (asNotJudged (returned 9 0)) (asVerdict (findingFor (framesOf ls rows) (row (framesOf ls rows) r) (claimOf rows r))))
     (asNotJudged check)
 
 -- ---- the precise bound alone
@@ -65,10 +65,10 @@ unfoldable pub boundedReturns : Bounded → BoundedReturned
 boundedReturns (Bound b) = asBound b
 boundedReturns (NotBounded f) = asNotBounded (returned (numberOf (f .cause)) (f .place))
 
--- what is returned for row r: what the check of the table returns, then 9, 11, 12, then the bound
-unfoldable pub boundReturns : Returned → List ℕ → ℕ → BoundedReturned
-boundReturns check rows r =
-    let fs = framesOf rows in
+-- what is returned for row r, by the lengths ls: what the check of lengths and table returns, then 9, 11, 12, then the bound
+unfoldable pub boundReturns : Returned → List (List ℕ) → List ℕ → ℕ → BoundedReturned
+boundReturns check ls rows r =
+    let fs = framesOf ls rows in
     let k = row fs r in
     cond (eqb (check .number) 0)
     (cond (noRow rows r) (asNotBounded (returned 9 0))

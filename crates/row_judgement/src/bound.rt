@@ -12,20 +12,20 @@ ghost use Prim.Native.Nat.{_≤_, _<_};
 ghost use lib.ListN.{length, take};
 ghost use Rattle.bus_model.specs.Frame.{row};
 ghost use Rattle.table_checks.specs.Frames.{framesOf};
-ghost use Rattle.table_checks.specs.Refusal.{checkReturns};
-ghost use Rattle.table_checks.specs.Checks.{rowsCheck, Accepted};
+ghost use Rattle.table_checks.specs.Checks.{Loadable, Accepted};
+ghost use Rattle.table_checks.specs.Returns.{loadedReturns};
 ghost use Rattle.workload.specs.Stored.{stored};
 ghost use Rattle.delay_search.specs.Ready.{Ready};
 ghost use Rattle.workload.specs.Grouped.{FineTable};
 ghost use Rattle.row_judgement.specs.Judge.{boundFrame, boundRow};
 ghost use Rattle.row_judgement.specs.Returns.{boundedReturns, boundReturns};
 
-// The precise bound of a row.
-pub fn precise_bound(rows: &[u32], row: u64) -> Bounded
-    ensures { λ r. ⌜ r ≡ boundRow (now (rows .entry)) row ⌝ }
-    ensures in_numbers { λ r. ⌜ boundedReturns r ≡ boundReturns (checkReturns (rowsCheck (now (rows .entry)))) (now (rows .entry)) row ⌝ }
+// The precise bound of a row, by the lengths loaded.
+pub fn precise_bound(lengths: [[u32; 9]; 2], rows: &[u32], row: u64) -> Bounded
+    ensures { λ r. ⌜ r ≡ boundRow lengths (now (rows .entry)) row ⌝ }
+    ensures in_numbers { λ r. ⌜ boundedReturns r ≡ boundReturns (loadedReturns lengths (now (rows .entry))) lengths (now (rows .entry)) row ⌝ }
 {
-    let checked = table_checks::check(rows);
+    let checked = table_checks::check_loaded(lengths, rows);
     match checked {
         Checked::Failed(refusal) => Bounded::NotBounded(of_table(refusal)),
         Checked::Passed => {
@@ -35,20 +35,20 @@ pub fn precise_bound(rows: &[u32], row: u64) -> Bounded
                     place: 0,
                 });
             }
-            bound_row(rows, row as usize)
+            bound_row(lengths, rows, row as usize)
         }
     }
 }
 
 // The precise bound of a row of an accepted table.
-fn bound_row(rows: &[u32], i: usize) -> Bounded
-    requires { ⌜ Accepted (now rows) ⌝ }
-    requires { ⌜ i < length (framesOf (now rows)) ⌝ }
-    ensures { λ r. ⌜ r ≡ boundFrame (framesOf (now (rows .entry))) i ⌝ }
+fn bound_row(lengths: [[u32; 9]; 2], rows: &[u32], i: usize) -> Bounded
+    requires { ⌜ Loadable lengths × Accepted (now rows) ⌝ }
+    requires { ⌜ i < length (framesOf lengths (now rows)) ⌝ }
+    ensures { λ r. ⌜ r ≡ boundFrame (framesOf lengths (now (rows .entry))) i ⌝ }
 {
-    let k = table_checks::frame(rows, i);
+    let k = table_checks::frame(lengths, rows, i);
     let mut frames = [0u32; workload::FRAMES];
-    store(rows, &mut frames);
+    store(lengths, rows, &mut frames);
     let used = workload::FRAME * (rows.len() / table_checks::ROW);
     bound_stored(&frames, used, k, i)
 }

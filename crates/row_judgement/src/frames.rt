@@ -6,14 +6,14 @@ ghost use Rattle.table_checks.specs.Frames.{framesOf};
 ghost use Rattle.table_checks.specs.Checks.{Accepted};
 ghost use Rattle.workload.specs.Stored.{stored};
 
-// Puts the frames of an accepted table into an area.
-pub fn store(rows: &[u32], frames: &mut [u32])
+// Puts the frames of an accepted table, by the lengths loaded, into an area.
+pub fn store(lengths: [[u32; 9]; 2], rows: &[u32], frames: &mut [u32])
     requires { ⌜ Accepted (now rows) × (length (now frames) ≡ 384) ⌝ }
-    ensures { λ _. ⌜ stored (take (6 * (length (now (rows .entry)) / 7)) (now (frames .exit))) ≡ framesOf (now (rows .entry)) ⌝ }
+    ensures { λ _. ⌜ stored (take (6 * (length (now (rows .entry)) / 7)) (now (frames .exit))) ≡ framesOf lengths (now (rows .entry)) ⌝ }
 {
     let mut i = 0;
     while i < rows.len() / table_checks::ROW {
-        workload::put(frames, i, table_checks::frame(rows, i));
+        workload::put(frames, i, table_checks::frame(lengths, rows, i));
         i += 1;
     }
 }

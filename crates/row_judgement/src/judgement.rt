@@ -19,8 +19,8 @@ ghost use Rattle.bus_model.specs.Bus.{MeetsClaim};
 ghost use Rattle.bus_model.specs.declared.Judgement.{Judgement};
 ghost use Rattle.bus_model.specs.Judgement.{verdict, judge, MarginSign};
 ghost use Rattle.table_checks.specs.Frames.{framesOf};
-ghost use Rattle.table_checks.specs.Refusal.{checkReturns};
-ghost use Rattle.table_checks.specs.Checks.{rowsCheck, Accepted};
+ghost use Rattle.table_checks.specs.Checks.{Loadable, Accepted};
+ghost use Rattle.table_checks.specs.Returns.{loadedReturns};
 ghost use Rattle.workload.specs.Stored.{stored};
 ghost use Rattle.delay_search.specs.Ready.{Ready};
 ghost use Rattle.workload.specs.Grouped.{FineTable, InTable};
@@ -28,15 +28,15 @@ ghost use Rattle.row_judgement.specs.declared.Judged.the-variants.{Verdi
 ghost use Rattle.row_judgement.specs.Judge.{claimOf, judgeRow, certified};
 ghost use Rattle.row_judgement.specs.Returns.{judgedReturns, judgeReturns};
 
-// Judges the claim of a row. Where it certifies the frame, no instance of it is late, in any schedule. The margin is below zero
-// exactly for verdicts 3 and 12.
-pub fn judge(rows: &[u32], row: u64) -> Judged
-    ensures { λ r. ⌜ r ≡ judgeRow (now (rows .entry)) row ⌝ }
-    ensures never_late { λ r. ⌜ (T (certified r) → MeetsClaim (framesOf (now (rows .entry))) row (claimOf (now (rows .entry)) row)) ⌝ }
+// Judges the claim of a row, by the lengths loaded. Where it certifies the frame, no instance of it is late, in any schedule. The
+// margin is below zero exactly for verdicts 3 and 12.
+pub fn judge(lengths: [[u32; 9]; 2], rows: &[u32], row: u64) -> Judged
+    ensures { λ r. ⌜ r ≡ judgeRow lengths (now (rows .entry)) row ⌝ }
+    ensures never_late { λ r. ⌜ (T (certified r) → MeetsClaim (framesOf lengths (now (rows .entry))) row (claimOf (now (rows .entry)) row)) ⌝ }
     ensures margin_sign { λ r. ⌜ ((j : Judgement) → r ≡ Verdict j → MarginSign j) ⌝ }
-    ensures in_numbers { λ r. ⌜ judgedReturns r ≡ judgeReturns (checkReturns (rowsCheck (now (rows .entry)))) (now (rows .entry)) row ⌝ }
+    ensures in_numbers { λ r. ⌜ judgedReturns r ≡ judgeReturns (loadedReturns lengths (now (rows .entry))) lengths (now (rows .entry)) row ⌝ }
 {
-    let checked = table_checks::check(rows);
+    let checked = table_checks::check_loaded(lengths, rows);
     match checked {
         Checked::Failed(refusal) => Judged::NotJudged(of_table(refusal)),
         Checked::Passed => {
@@ -46,21 +46,21 @@ pub fn judge(rows: &[u32], row: u64) -> Judged
                     place: 0,
                 });
             }
-            Judged::Verdict(judge_row(rows, row as usize))
+            Judged::Verdict(judge_row(lengths, rows, row as usize))
         }
     }
 }
 
 // The judgement of a row of an accepted table.
-pub fn judge_row(rows: &[u32], i: usize) -> Judgement
-    requires { ⌜ Accepted (now rows) ⌝ }
-    requires { ⌜ i < length (framesOf (now rows)) ⌝ }
-    ensures { λ r. ⌜ r ≡ judge (framesOf (now (rows .entry))) (row (framesOf (now (rows .entry))) i) (claimOf (now (rows .entry)) i) ⌝ }
+pub fn judge_row(lengths: [[u32; 9]; 2], rows: &[u32], i: usize) -> Judgement
+    requires { ⌜ Loadable lengths × Accepted (now rows) ⌝ }
+    requires { ⌜ i < length (framesOf lengths (now rows)) ⌝ }
+    ensures { λ r. ⌜ r ≡ judge (framesOf lengths (now (rows .entry))) (row (framesOf lengths (now (rows .entry))) i) (claimOf (now (rows .entry)) i) ⌝ }
 {
-    let k = table_checks::frame(rows, i);
+    let k = table_checks::frame(lengths, rows, i);
     let claim = rows[table_checks::ROW * i + 6];
     let mut frames = [0u32; workload::FRAMES];
-    store(rows, &mut frames);
+    store(lengths, rows, &mut frames);
     let used = workload::FRAME * (rows.len() / table_checks::ROW);
     judge_stored(&frames, used, k, claim)
 }

@@ -1,5 +1,5 @@
-// The judgement of a row of a frame table, and its precise bound. Both take any input, and check their table themselves;
-// judge_row takes an accepted table, for the listing, which judges all its rows.
+// The judgement of a row of a frame table, and its precise bound. Both take any input, and check their lengths and table themselves;
+// judge_row takes accepted ones, for the listing, which judges all its rows.
 mod bound;
 mod frames;
 mod judgement;
@@ -13,7 +13,7 @@ ghost use Rattle.row_judgement.specs.Refusal.{numberOf, ofTable};
 
 // Why a call is turned back.
 pub enum Cause {
-    // The table's own checks, and an output area that is too short.
+    // The checks of lengths and tables, and an output area that is too short.
     Table(table_checks::Cause),
     NoSuchRow,
     // For some alignment of the row's node the approximate bound has no busy window.
@@ -39,7 +39,7 @@ pub enum Bounded {
     NotBounded(Refusal),
 }
 
-// The number of a cause in document 01.
+// The number of a cause in documents 01 and 02.
 pub fn number(cause: Cause) -> u32
     ensures { λ r. ⌜ r ≡ numberOf cause ⌝ }
 {
@@ -51,7 +51,7 @@ pub fn number(cause: Cause) -> u32
     }
 }
 
-// A refusal of the table, as one of these.
+// A refusal of the lengths or the table, as one of these.
 pub fn of_table(refusal: table_checks::Refusal) -> Refusal
     ensures { λ r. ⌜ r ≡ ofTable refusal ⌝ }
 {

@@ -10,8 +10,9 @@ use Rattle.bus_model.specs.Bus.{Transmission, Schedule, Finished, MeetsClaim}
 use Rattle.bus_model.specs.Judgement.{certifies}
 use Rattle.bus_model.specs.theory.Existence.{longest-schedule}
 use Rattle.bus_model.specs.examples.Late.{frame-64-late, frame-64-due}
-use Rattle.table_checks.specs.Frames.{framesOf}
+use Rattle.table_checks.specs.Frames.{standardLengths, framesOf}
 use Rattle.table_checks.specs.Checks.{Accepted}
+use Rattle.table_checks.specs.laws.Lengths.{standard-loadable}
 use Rattle.table_checks.specs.laws.Accepted.{accepted-valid}
 use Rattle.row_judgement.specs.declared.Judged.the-variants.{Verdict}
 use Rattle.row_judgement.specs.Judge.{judgeChecked, judgeRow, certified}
@@ -21,33 +22,33 @@ use Rattle.starred_examples.specs.Cases.{listing}
 
 -- ---- verdict 1
 
-frame-32-judged : judgeRow listing 1 ≡ Verdict (record { outcome = CertifiedApproximate 189; bound = 189; margin = pos 0 })
+frame-32-judged : judgeRow standardLengths listing 1 ≡ Verdict (record { outcome = CertifiedApproximate 189; bound = 189; margin = pos 0 })
 unfolding everything judgeRow judgeChecked
 frame-32-judged = refl
 
 -- Frame 32 meets its claim.
-pub frame-32-meets : MeetsClaim (framesOf listing) 1 189
+pub frame-32-meets : MeetsClaim (framesOf standardLengths listing) 1 189
 unfolding everything certified certifies
-frame-32-meets = judged-meets listing 1 (rw frame-32-judged tt)
+frame-32-meets = judged-meets standardLengths listing 1 (rw frame-32-judged tt)
 
 -- ---- verdict 2
 
-frame-64-judged : judgeRow listing 3 ≡ Verdict (record { outcome = CertifiedPrecise 200; bound = 200; margin = pos 0 })
+frame-64-judged : judgeRow standardLengths listing 3 ≡ Verdict (record { outcome = CertifiedPrecise 200; bound = 200; margin = pos 0 })
 unfolding everything judgeRow judgeChecked
 frame-64-judged = refl
 
 -- Frame 64 meets its claim.
-pub frame-64-meets : MeetsClaim (framesOf listing) 3 200
+pub frame-64-meets : MeetsClaim (framesOf standardLengths listing) 3 200
 unfolding everything certified certifies
-frame-64-meets = judged-meets listing 3 (rw frame-64-judged tt)
+frame-64-meets = judged-meets standardLengths listing 3 (rw frame-64-judged tt)
 
 -- So where all nodes start at tick 0, it is finished in every schedule up to 200,
-pub frame-64-finished : (xs : List Transmission) → Schedule (framesOf listing) (λ j. 0) 200 xs → Finished xs 3 0 200
+pub frame-64-finished : (xs : List Transmission) → Schedule (framesOf standardLengths listing) (λ j. 0) 200 xs → Finished xs 3 0 200
 unfolding everything
 frame-64-finished = frame-64-due frame-64-meets
 
 -- and of 199 the same could not be said.
-pub frame-64-misses : ¬ MeetsClaim (framesOf listing) 3 199
+pub frame-64-misses : ¬ MeetsClaim (framesOf standardLengths listing) 3 199
 unfolding everything
 frame-64-misses = frame-64-late
 
@@ -60,5 +61,5 @@ listing-accepted = refl
 
 -- There are schedules in which this says something.
 pub listing-runs : (starts : ℕ → ℕ) (T : ℕ)
-    → (xs : List Transmission) × Schedule (framesOf listing) starts T xs × ((x : Transmission) → Mem x xs → x .length ≡ row (framesOf listing) (x .frame) .length)
-listing-runs = longest-schedule (accepted-valid listing listing-accepted)
+    → (xs : List Transmission) × Schedule (framesOf standardLengths listing) starts T xs × ((x : Transmission) → Mem x xs → x .length ≡ row (framesOf standardLengths listing) (x .frame) .length)
+listing-runs = longest-schedule (accepted-valid listing listing-accepted standardLengths standard-loadable)

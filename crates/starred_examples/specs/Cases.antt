@@ -1,4 +1,4 @@
--- The starred examples of document 01: one list of cases, one theorem.
+-- The starred examples of document 01, with its lengths: one list of cases, one theorem.
 -- All hold by computation but one, whose search would take a million steps: there a law tells that a frame longer than its period has no window.
 use Prim.Native.Nat.{ℕ, _+_, _*_}
 use mathlib.Core.Path.{_≡_, refl, ap}
@@ -12,9 +12,10 @@ use Rattle.bus_model.specs.Pattern.{ofNode, patternReleases}
 use Rattle.bus_model.specs.Bounds.{approximateBound, preciseBound, scenarioCount}
 use Rattle.bus_model.specs.Judgement.{tooManyScenarios, judge, verdict}
 use Rattle.bus_model.specs.theory.Overload.{overloaded-judged}
-use Rattle.table_checks.specs.Frames.{framesOf}
+use Rattle.table_checks.specs.Frames.{standardLengths, framesOf}
 use Rattle.table_checks.specs.Refusal.{checkReturns}
 use Rattle.table_checks.specs.Checks.{rowsCheck}
+use Rattle.table_checks.specs.laws.Lengths.{standard-loadable}
 use Rattle.table_checks.specs.laws.Accepted.{accepted-valid}
 use Rattle.starred_examples.specs.Compute.{everything}
 
@@ -67,11 +68,11 @@ numbers j = record { number = verdict (j .outcome); bound = j .bound; margin = j
 
 -- what each case says
 unfoldable pub Holds : Case → Type 0
-Holds (approximate rows i b) = approximateBound (framesOf rows) (row (framesOf rows) i) ≡ b
-Holds (precise rows i b) = preciseBound (framesOf rows) (row (framesOf rows) i) ≡ b
-Holds (judged rows i claim v b m) = numbers (judge (framesOf rows) (row (framesOf rows) i) claim) ≡ record { number = v; bound = b; margin = m }
-Holds (count rows i n many) = (scenarioCount (framesOf rows) (row (framesOf rows) i) ≡ n) × (tooManyScenarios (framesOf rows) (row (framesOf rows) i) ≡ many)
-Holds (releases rows j n) = patternReleases (ofNode (framesOf rows) j) ≡ n
+Holds (approximate rows i b) = approximateBound (framesOf standardLengths rows) (row (framesOf standardLengths rows) i) ≡ b
+Holds (precise rows i b) = preciseBound (framesOf standardLengths rows) (row (framesOf standardLengths rows) i) ≡ b
+Holds (judged rows i claim v b m) = numbers (judge (framesOf standardLengths rows) (row (framesOf standardLengths rows) i) claim) ≡ record { number = v; bound = b; margin = m }
+Holds (count rows i n many) = (scenarioCount (framesOf standardLengths rows) (row (framesOf standardLengths rows) i) ≡ n) × (tooManyScenarios (framesOf standardLengths rows) (row (framesOf standardLengths rows) i) ≡ many)
+Holds (releases rows j n) = patternReleases (ofNode (framesOf standardLengths rows) j) ≡ n
 Holds (checked rows n p) = checkReturns (rowsCheck rows) ≡ record { number = n; place = p }
 
 unfoldable pub AllHold : List Case → Type 0
@@ -103,9 +104,9 @@ cases =
 -- ---- a frame longer than its period
 
 -- One frame of period 134 is longer than its period, and has no window.
-too-long : numbers (judge (framesOf (alone 134)) (row (framesOf (alone 134)) 0) 135) ≡ record { number = 11; bound = 0; margin = pos 0 }
+too-long : numbers (judge (framesOf standardLengths (alone 134)) (row (framesOf standardLengths (alone 134)) 0) 135) ≡ record { number = 11; bound = 0; margin = pos 0 }
 unfolding numbers everything
-too-long = ap numbers (overloaded-judged (accepted-valid (alone 134) refl) {k = 0} (omega arith) 135 (omega arith))
+too-long = ap numbers (overloaded-judged (accepted-valid (alone 134) refl standardLengths standard-loadable) {k = 0} (omega arith) 135 (omega arith))
 
 -- ---- the theorem
 

@@ -19,7 +19,7 @@ use Rattle.bus_model.specs.theory.Hyperperiod.{hyperOf, joinOf, hyper-more, hyp
 use Rattle.table_checks.specs.declared.Cause.the-variants.{Hyperperiod, Releases}
 use Rattle.table_checks.specs.declared.Checked.the-variants.{Passed}
 use Rattle.table_checks.specs.Columns.{field}
-use Rattle.table_checks.specs.Frames.{frameAt, framesOf}
+use Rattle.table_checks.specs.Frames.{frameAt, unmeasured}
 use Rattle.table_checks.specs.Refusal.{failed}
 use Rattle.table_checks.specs.Checks.{nodeCheck}
 use Rattle.table_checks.specs.Steps.{Periods}
@@ -30,18 +30,18 @@ use Rattle.table_checks.specs.laws.Accepted.{length-frames, frame-row}
 -- The loop has come down to row i: acc is the fold F of the frames from there on.
 pub record Rows {B : Type 0} (F : List Frame → B) (t : List ℕ) (acc : B) (i : ℕ) : Type 0 where
   pub inside : i ≤ length t / 7
-  pub down : Down F (framesOf t) acc i
+  pub down : Down F (unmeasured t) acc i
 
 module _ {B : Type 0} (F : List Frame → B) (t : List ℕ) where
   rows-none : {z : B} → z ≡ F [] → Rows F t z (length t / 7)
-  rows-none e = record { inside = omega arith; down = subst (Down F (framesOf t) _) (length-frames t) (down-start F (framesOf t) e) }
+  rows-none e = record { inside = omega arith; down = subst (Down F (unmeasured t) _) (length-frames [] t) (down-start F (unmeasured t) e) }
 
   -- It reads the row before.
-  row-read : {acc : B} {i : ℕ} → Rows F t acc i → 0 < i → frameAt t (i - 1) ≡ row (framesOf t) (i - 1)
-  row-read {i = i} s pos = sym (frame-row t (i - 1) (omega (arith, s .inside)))
+  row-read : {acc : B} {i : ℕ} → Rows F t acc i → 0 < i → frameAt [] t (i - 1) ≡ row (unmeasured t) (i - 1)
+  row-read {i = i} s pos = sym (frame-row [] t (i - 1) (omega (arith, s .inside)))
 
-  pub rows-all : {acc : B} {i : ℕ} → Rows F t acc i → i ≤ 0 → acc ≡ F (framesOf t)
-  rows-all s over = down-end F (framesOf t) (s .down) over
+  pub rows-all : {acc : B} {i : ℕ} → Rows F t acc i → i ≤ 0 → acc ≡ F (unmeasured t)
+  rows-all s over = down-end F (unmeasured t) (s .down) over
 
 -- ---- the hyperperiod
 
@@ -52,22 +52,22 @@ module _ (t : List ℕ) (j : ℕ) where
   hyper-start = rows-none (hyperOf j) t refl
 
   module _ (periods : Periods t) where
-    frame-periods : (i : ℕ) → i < length (framesOf t) → 1 ≤ row (framesOf t) i .period
+    frame-periods : (i : ℕ) → i < length (unmeasured t) → 1 ≤ row (unmeasured t) i .period
     unfolding Periods frameAt
-    frame-periods i l = let h : i < length t / 7 = omega (arith, length-frames t) in rw (frame-row t i h) (periods i h .0)
+    frame-periods i l = let h : i < length t / 7 = omega (arith, length-frames [] t) in rw (frame-row [] t i h) (periods i h .0)
 
     -- It takes one row more, whose numbers it reads.
     pub hyper-row : {i h r : ℕ} → Rows (hyperOf j) t h i → 0 < i
         → r ≡ cond (eqb (getD t (7 * (i - 1)) 0) j) (lcm (field t (i - 1) 4) h) h → Rows (hyperOf j) t r (i - 1) × (h ≤ r)
     unfolding frameAt
     hyper-row {i} {h} {r} s pos e =
-        let is : r ≡ joinOf j (frameAt t (i - 1)) h = rw add-zero e in
-        let m = hyper-more (framesOf t) j frame-periods (s .down) pos (row-read _ t s pos) is in
+        let is : r ≡ joinOf j (frameAt [] t (i - 1)) h = rw add-zero e in
+        let m = hyper-more (unmeasured t) j frame-periods (s .down) pos (row-read _ t s pos) is in
         (record { inside = omega (arith, s .inside); down = m .0 }, m .1)
 
     -- That of the rows read is at most that of all.
-    pub hyper-most : {i h : ℕ} → Rows (hyperOf j) t h i → h ≤ hyperOf j (framesOf t)
-    hyper-most s = hyper-le (framesOf t) j frame-periods _ _ (s .down)
+    pub hyper-most : {i h : ℕ} → Rows (hyperOf j) t h i → h ≤ hyperOf j (unmeasured t)
+    hyper-most s = hyper-le (unmeasured t) j frame-periods _ _ (s .down)
 
 -- ---- the releases in a hyperperiod of h ticks
 
@@ -100,12 +100,12 @@ module _ (t : List ℕ) (h j : ℕ) where
       → r ≡ cond (eqb (getD t (7 * (i - 1)) 0) j) (h / field t (i - 1) 4) 0 → Rows (releasesOf h j) t (r + s) (i - 1) × (r ≤ h)
   unfolding frameAt
   releases-more {i} {s} {r} f pos e =
-      let is : r ≡ shareOf h j (frameAt t (i - 1)) = rw add-zero e in (
+      let is : r ≡ shareOf h j (frameAt [] t (i - 1)) = rw add-zero e in (
         record {
           inside = omega (arith, f .inside);
-          down = down-more (releasesOf h j) (framesOf t) (λ g acc. shareOf h j g + acc) (releases-cons h j) noFrame (f .down) pos (row-read _ t f pos) (ap (λ (x : ℕ). x + s) is);
+          down = down-more (releasesOf h j) (unmeasured t) (λ g acc. shareOf h j g + acc) (releases-cons h j) noFrame (f .down) pos (row-read _ t f pos) (ap (λ (x : ℕ). x + s) is);
         },
-        rw is (share-le h j (frameAt t (i - 1))),
+        rw is (share-le h j (frameAt [] t (i - 1))),
       )
 
 -- ---- the check of a node, by its bounded hyperperiod

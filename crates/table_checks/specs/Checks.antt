@@ -1,4 +1,4 @@
--- The checks on tables and their order (document 01, "Where a call is turned back").
+-- The checks on lengths and tables and their order (document 01, "Where a call is turned back"; document 02, request 2).
 -- A table is given by its fields: those of a file as frame_table's Text.antt has them, or the numbers in memory.
 use Prim.Native.Nat.{ℕ, zero, suc, _+_, _-_, _/_, _%_}
 use mathlib.Core.Bool.{Bool, cond, not, _&&_, _||_}
@@ -9,11 +9,11 @@ use lib.Dec.{ltb, eqb}
 use Rattle.arith.specs.Lists.{exists, range}
 use Rattle.bus_model.specs.declared.Frame.{Frame}
 use Rattle.bus_model.specs.Pattern.{ofNode, hyperperiod, patternReleases}
-use Rattle.table_checks.specs.declared.Cause.the-variants.{FileForm, TooManyLines, Notation, Limit, Duplicate, Hyperperiod, Releases, RowsLength}
+use Rattle.table_checks.specs.declared.Cause.the-variants.{FileForm, TooManyLines, Notation, Limit, Duplicate, Hyperperiod, Releases, RowsLength, Length}
 use Rattle.table_checks.specs.declared.Checked.{Checked}
 use Rattle.table_checks.specs.declared.Checked.the-variants.{Passed, Failed}
-use Rattle.table_checks.specs.Columns.{field, within}
-use Rattle.table_checks.specs.Frames.{framesOf}
+use Rattle.table_checks.specs.Columns.{field, isLength, within}
+use Rattle.table_checks.specs.Frames.{lengthAt, unmeasured}
 use Rattle.table_checks.specs.Refusal.{failed}
 
 -- ---- the first check that fails
@@ -27,6 +27,24 @@ first (Failed r) next = Failed r
 unfoldable pub firstOf : (ℕ → Checked) → ℕ → ℕ → Checked
 firstOf check zero n = Passed
 firstOf check (suc m) n = first (check n) (firstOf check m (n + 1))
+
+-- ---- lengths: before all else
+
+-- whether number s of line k, which count from 0, is outside its limits, or smaller than the one before it on its line
+unfoldable pub isOutside : List (List ℕ) → ℕ → ℕ → Bool
+isOutside ls k s = not (isLength (lengthAt ls k (s - 1)) (lengthAt ls k s))
+
+-- whether some number of line k is
+unfoldable pub breaksLimits : List (List ℕ) → ℕ → Bool
+breaksLimits ls k = exists (isOutside ls k) (range 0 9)
+
+-- 14, place the line
+unfoldable pub lengthsCheck : List (List ℕ) → Checked
+lengthsCheck ls = cond (breaksLimits ls 0) (failed Length 1) (cond (breaksLimits ls 1) (failed Length 2) Passed)
+
+-- no check turns the lengths back
+abbrev pub Loadable : List (List ℕ) → Type 0
+Loadable ls = lengthsCheck ls ≡ Passed
 
 -- ---- sizes
 
@@ -90,12 +108,17 @@ nodesCheck fs = firstOf (nodeCheck fs) 16 1
 -- ---- a table: line by line, then the nodes
 
 unfoldable pub tableCheck : List ℕ → Checked
-tableCheck t = first (linesCheck t) (nodesCheck (framesOf t))
+tableCheck t = first (linesCheck t) (nodesCheck (unmeasured t))
 
 -- ---- rows in memory: their size, then the table
 
 unfoldable pub rowsCheck : List ℕ → Checked
 rowsCheck rows = first (rowsSizeCheck (length rows)) (tableCheck rows)
+
+-- ---- lengths and rows: the lengths first
+
+unfoldable pub loadedCheck : List (List ℕ) → List ℕ → Checked
+loadedCheck ls rows = first (lengthsCheck ls) (rowsCheck rows)
 
 -- "accepted": no check on tables turns the rows back
 abbrev pub Accepted : List ℕ → Type 0

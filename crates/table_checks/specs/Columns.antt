@@ -29,6 +29,10 @@ startOf j = sum (λ w. w) (take j widths)
 unfoldable pub between : ℕ → ℕ → ℕ → Bool
 between low high v = leb low v && leb v high
 
+-- whether v is within the limits of a length, where `before` stands before it on its line
+unfoldable pub isLength : ℕ → ℕ → Bool
+isLength before v = between 47 400 v && leb before v
+
 -- whether the kind is one, and the identifier within the limits of its kind
 unfoldable pub isIdentifier : ℕ → ℕ → Bool
 isIdentifier kind identifier = (eqb kind 11 && leb identifier 2047) || (eqb kind 29 && leb identifier 536_870_911)

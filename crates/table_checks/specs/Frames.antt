@@ -1,9 +1,10 @@
--- A row as a frame (document 01, "Rank" and "Largest length").
+-- A row as a frame (document 01, "Rank" and "Largest length"), by the lengths that were loaded (document 02, request 2):
+-- kind 11, then kind 29; by payload bytes.
 use Prim.Native.Nat.{ℕ, _+_, _-_, _*_, _/_, _^_}
 use mathlib.Core.Bool.{cond}
 use mathlib.Core.List.{List, [], _∷_, map}
 use lib.ListN.{length, getD}
-use lib.Dec.{eqb}
+use lib.Dec.{ltb, eqb}
 use Rattle.arith.specs.Lists.{range}
 use Rattle.bus_model.specs.declared.Frame.{Frame}
 use Rattle.table_checks.specs.Columns.{field}
@@ -14,21 +15,26 @@ use Rattle.table_checks.specs.Columns.{field}
 unfoldable pub priorityOf : ℕ → ℕ → ℕ
 priorityOf kind identifier = cond (eqb kind 11) (2 ^ 19 * identifier) (2 * identifier + 1)
 
--- "Largest length": kind 11, then kind 29; by payload bytes
-abbrev pub lengths : List (List ℕ)
-lengths =
+-- "Largest length": document 01's lengths
+abbrev pub standardLengths : List (List ℕ)
+standardLengths =
     (55 ∷ 65 ∷ 75 ∷ 85 ∷ 95 ∷ 105 ∷ 115 ∷ 125 ∷ 135 ∷ [])
     ∷ (80 ∷ 90 ∷ 100 ∷ 110 ∷ 120 ∷ 130 ∷ 140 ∷ 150 ∷ 160 ∷ [])
     ∷ []
 
--- a kind's place in that table
+-- the length at a kind's place and a payload
+abbrev pub lengthAt : List (List ℕ) → ℕ → ℕ → ℕ
+lengthAt ls k s = getD (getD ls k []) s 0
+
+-- a kind's place among the lengths
 abbrev pub kindPlace : ℕ → ℕ
 kindPlace kind = cond (eqb kind 11) 0 1
 
-unfoldable pub largestLength : ℕ → ℕ → ℕ
-largestLength kind payload = getD (getD lengths (kindPlace kind) []) payload 0
+-- no frame has more than 8 payload bytes
+unfoldable pub largestLength : List (List ℕ) → ℕ → ℕ → ℕ
+largestLength ls kind payload = cond (ltb 8 payload) 0 (lengthAt ls (kindPlace kind) payload)
 
--- the rule of the table: s payload bytes, g the other bits that may be stuffed
+-- the rule of document 01's lengths: s payload bytes, g the other bits that may be stuffed
 unfoldable pub lengthRule : ℕ → ℕ → ℕ
 lengthRule g s = g + 8 * s + 13 + (g + 8 * s - 1) / 4
 
@@ -37,16 +43,20 @@ abbrev pub stuffable : List ℕ
 stuffable = 34 ∷ 54 ∷ []
 
 -- the frame in row i
-unfoldable pub frameAt : List ℕ → ℕ → Frame
-frameAt t i =
+unfoldable pub frameAt : List (List ℕ) → List ℕ → ℕ → Frame
+frameAt ls t i =
     record {
       node = field t i 0;
       priority = priorityOf (field t i 2) (field t i 1);
-      length = largestLength (field t i 2) (field t i 3);
+      length = largestLength ls (field t i 2) (field t i 3);
       period = field t i 4;
       offset = field t i 5;
     }
 
 -- the frames of a table
-unfoldable pub framesOf : List ℕ → List Frame
-framesOf t = map (frameAt t) (range 0 (length t / 7))
+unfoldable pub framesOf : List (List ℕ) → List ℕ → List Frame
+framesOf ls t = map (frameAt ls t) (range 0 (length t / 7))
+
+-- the same with no lengths: the checks on a table ask for none
+abbrev pub unmeasured : List ℕ → List Frame
+unmeasured t = framesOf [] t

@@ -4,13 +4,17 @@ use mathlib.Core.Bool.{cond, not, _||_}
 use mathlib.Core.List.{List}
 use lib.ListN.{length}
 use lib.Dec.{ltb, eqb}
-use Rattle.table_checks.specs.Frames.{framesOf}
+use Rattle.table_checks.specs.Frames.{unmeasured}
 use Rattle.table_checks.specs.Refusal.{Returned, returned, checkReturns}
-use Rattle.table_checks.specs.Checks.{linesCheck, nodesCheck}
+use Rattle.table_checks.specs.Checks.{breaksLimits, linesCheck, nodesCheck}
 
 -- the first of two that fails
 abbrev pub firstReturned : Returned → Returned → Returned
 firstReturned a b = cond (eqb (a .number) 0) b a
+
+-- lengths: 14, place the line
+unfoldable pub lengthsReturns : List (List ℕ) → Returned
+lengthsReturns ls = cond (breaksLimits ls 0) (returned 14 1) (cond (breaksLimits ls 1) (returned 14 2) (returned 0 0))
 
 -- a file's length: 1, then 2
 unfoldable pub fileSizeReturns : ℕ → Returned
@@ -24,4 +28,8 @@ rowsSizeReturns size = cond (eqb size 0 || (not (eqb (size % 7) 0) || ltb 448 si
 -- rows in memory: their size, then line by line, then the nodes
 unfoldable pub rowsReturns : List ℕ → Returned
 rowsReturns rows =
-    firstReturned (rowsSizeReturns (length rows)) (firstReturned (checkReturns (linesCheck rows)) (checkReturns (nodesCheck (framesOf rows))))
+    firstReturned (rowsSizeReturns (length rows)) (firstReturned (checkReturns (linesCheck rows)) (checkReturns (nodesCheck (unmeasured rows))))
+
+-- lengths and rows: the lengths first
+unfoldable pub loadedReturns : List (List ℕ) → List ℕ → Returned
+loadedReturns ls rows = firstReturned (lengthsReturns ls) (rowsReturns rows)

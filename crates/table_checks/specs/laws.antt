@@ -5,5 +5,6 @@ pub mod Rank
 pub mod Lengths
 pub mod Sizes
 pub mod Accepted
+pub mod Before
 pub mod Returns
 pub mod OneKind

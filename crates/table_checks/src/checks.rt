@@ -17,7 +17,7 @@ ghost use Rattle.arith.specs.Multiples.{lcm};
 ghost use Rattle.arith.specs.Lists.{sum};
 ghost use Rattle.bus_model.specs.Pattern.{ofNode, hyperperiod};
 ghost use Rattle.table_checks.specs.Columns.{between, isIdentifier, within};
-ghost use Rattle.table_checks.specs.Frames.{framesOf};
+ghost use Rattle.table_checks.specs.Frames.{unmeasured};
 ghost use Rattle.table_checks.specs.Refusal.{failed, checkReturns};
 ghost use Rattle.table_checks.specs.Checks.{fileSizeCheck, rowsSizeCheck, columnCheck, columnsCheck, isSameFrame, standsEarlier, lineCheck, linesCheck, nodeCheck, nodesCheck, tableCheck, rowsCheck};
 ghost use Rattle.table_checks.specs.Returns.{fileSizeReturns, rowsReturns};
@@ -30,7 +30,7 @@ const MOST_RELEASES: u64 = 256;
 
 const NODES: u64 = 16;
 
-fn fail(cause: Cause, place: u32) -> Checked
+pub fn fail(cause: Cause, place: u32) -> Checked
     ensures { λ r. ⌜ r ≡ failed cause place ⌝ }
 {
     Checked::Failed(Refusal { cause, place })
@@ -104,7 +104,7 @@ fn is_within(j: usize, before: u64, v: u64) -> bool
 }
 
 // The column before column j, or the first.
-fn previous(j: usize) -> usize
+pub fn previous(j: usize) -> usize
     ensures { λ r. ⌜ r ≡ j - 1 ⌝ }
 {
     if j == 0 { 0 } else { j - 1 }
@@ -217,7 +217,7 @@ fn joined(h: u64, node: u64, frame_node: u64, period: u64) -> u64
 // The node's hyperperiod, or 1000001 where it is greater than that.
 pub fn bounded_hyperperiod(t: &[u64], node: u64) -> u64
     requires { ⌜ Periods (now t) ⌝ }
-    ensures { λ r. ⌜ r ≡ min (hyperperiod (ofNode (framesOf (now (t .entry))) node)) 1000001 ⌝ }
+    ensures { λ r. ⌜ r ≡ min (hyperperiod (ofNode (unmeasured (now (t .entry))) node)) 1000001 ⌝ }
 {
     let mut h = 1;
     let mut i = t.len() / ROW;
@@ -243,7 +243,7 @@ fn frame_releases(h: u64, node: u64, frame_node: u64, period: u64) -> u64
 fn node_releases(t: &[u64], node: u64, h: u64) -> u64
     requires { ⌜ Periods (now t) ⌝ }
     requires { ⌜ (length (now t) ≤ 448) × (h ≤ 1000000) ⌝ }
-    ensures { λ r. ⌜ r ≡ sum (λ g. h / g .period) (ofNode (framesOf (now (t .entry))) node) ⌝ }
+    ensures { λ r. ⌜ r ≡ sum (λ g. h / g .period) (ofNode (unmeasured (now (t .entry))) node) ⌝ }
 {
     let mut sum = 0;
     let mut i = t.len() / ROW;
@@ -258,7 +258,7 @@ fn node_releases(t: &[u64], node: u64, h: u64) -> u64
 fn node(t: &[u64], node: u64) -> Checked
     requires { ⌜ Periods (now t) ⌝ }
     requires { ⌜ (length (now t) ≤ 448) × (node ≤ 16) ⌝ }
-    ensures { λ r. ⌜ r ≡ nodeCheck (framesOf (now (t .entry))) node ⌝ }
+    ensures { λ r. ⌜ r ≡ nodeCheck (unmeasured (now (t .entry))) node ⌝ }
 {
     let h = bounded_hyperperiod(t, node);
     if MOST_TICKS < h {
@@ -275,7 +275,7 @@ fn node(t: &[u64], node: u64) -> Checked
 fn nodes(t: &[u64]) -> Checked
     requires { ⌜ Periods (now t) ⌝ }
     requires { ⌜ length (now t) ≤ 448 ⌝ }
-    ensures { λ r. ⌜ r ≡ nodesCheck (framesOf (now (t .entry))) ⌝ }
+    ensures { λ r. ⌜ r ≡ nodesCheck (unmeasured (now (t .entry))) ⌝ }
 {
     let mut j = 1;
     while j <= NODES {

@@ -1,15 +1,22 @@
-// A row as a frame: its priority and its largest length.
+// A row as a frame: its priority and its largest length, by the lengths that were loaded: kind 11, then kind 29; by payload bytes.
 use crate::ROW;
 use bus_model::Frame;
 ghost use mathlib.Core.Path.{_≡_};
 ghost use Rattle.bus_model.specs.Frame.{row};
-ghost use Rattle.table_checks.specs.Frames.{priorityOf, largestLength, framesOf};
+ghost use Rattle.table_checks.specs.Frames.{standardLengths, priorityOf, largestLength, framesOf};
 
-// Largest lengths in ticks: kind 11, then kind 29; by payload bytes.
-const LENGTHS: [[u32; 9]; 2] = [
+// Document 01's lengths, in ticks.
+const STANDARD: [[u32; 9]; 2] = [
     [55, 65, 75, 85, 95, 105, 115, 125, 135],
     [80, 90, 100, 110, 120, 130, 140, 150, 160],
 ];
+
+// Document 01's lengths.
+pub fn standard_lengths() -> [[u32; 9]; 2]
+    ensures { λ r. ⌜ r ≡ standardLengths ⌝ }
+{
+    STANDARD
+}
 
 // The place of a frame in the order in which waiting frames are sent: the smaller goes first. A short frame comes just before
 // the 2^18 long ones that have its identifier as their top 11 bits.
@@ -24,23 +31,23 @@ pub fn priority(kind: u32, identifier: u32) -> u64
 }
 
 // The largest length of a frame, 0 where the payload is none that a frame can have.
-pub fn largest_length(kind: u32, payload: u32) -> u32
-    ensures { λ r. ⌜ r ≡ largestLength kind payload ⌝ }
+pub fn largest_length(lengths: [[u32; 9]; 2], kind: u32, payload: u32) -> u32
+    ensures { λ r. ⌜ r ≡ largestLength lengths kind payload ⌝ }
 {
     if 8 < payload {
         return 0;
     }
     let s = payload as usize;
     if kind == 11 {
-        LENGTHS[0][s]
+        lengths[0][s]
     } else {
-        LENGTHS[1][s]
+        lengths[1][s]
     }
 }
 
 // The frame in row i, all zeros where there is no such row.
-pub fn frame(rows: &[u32], i: usize) -> Frame
-    ensures { λ r. ⌜ r ≡ row (framesOf (now (rows .entry))) i ⌝ }
+pub fn frame(lengths: [[u32; 9]; 2], rows: &[u32], i: usize) -> Frame
+    ensures { λ r. ⌜ r ≡ row (framesOf lengths (now (rows .entry))) i ⌝ }
 {
     if rows.len() / ROW <= i {
         return Frame {
@@ -58,7 +65,7 @@ pub fn frame(rows: &[u32], i: usize) -> Frame
     Frame {
         node: rows[at],
         priority: priority(kind, identifier),
-        length: largest_length(kind, payload),
+        length: largest_length(lengths, kind, payload),
         period: rows[at + 4],
         offset: rows[at + 5],
     }

@@ -2,6 +2,7 @@
 // A table is a row of seven numbers a line: node, identifier, kind, payload bytes, period, offset, claim.
 mod checks;
 mod frames;
+mod lengths;
 
 pub use checks::check_fields;
 pub use checks::check_length;
@@ -10,15 +11,17 @@ pub use checks::is_identifier;
 pub use frames::frame;
 pub use frames::largest_length;
 pub use frames::priority;
+pub use frames::standard_lengths;
+pub use lengths::check_lengths;
 ghost use mathlib.Core.Path.{_≡_};
 ghost use Prim.Native.Nat.{_≤_};
 ghost use mathlib.Core.List.{_++_};
 ghost use lib.ListN.{length, drop};
 ghost use Rattle.bus_model.specs.Pattern.{ofNode, hyperperiod};
-ghost use Rattle.table_checks.specs.Frames.{framesOf};
+ghost use Rattle.table_checks.specs.Frames.{unmeasured};
 ghost use Rattle.table_checks.specs.Refusal.{numberOf, checkReturns};
-ghost use Rattle.table_checks.specs.Checks.{rowsCheck, Accepted};
-ghost use Rattle.table_checks.specs.Returns.{rowsReturns};
+ghost use Rattle.table_checks.specs.Checks.{rowsCheck, loadedCheck, Accepted};
+ghost use Rattle.table_checks.specs.Returns.{rowsReturns, loadedReturns};
 
 // The numbers of a row, the characters of a line with its line feed, and the most lines of a table.
 pub const ROW: usize = 7;
@@ -30,13 +33,18 @@ pub const MOST_LINES: usize = 64;
 // The numbers of the longest table.
 pub const MOST_NUMBERS: usize = 448;
 
+// The lengths of a kind, and the kinds.
+pub const PAYLOADS: usize = 9;
+
+pub const KINDS: usize = 2;
+
 // Marks among a table's fields, for a column that breaks the notation, and for the first field of a line
 // that does not end in a line feed: above all numbers of a column.
 pub const MALFORMED: u64 = 1_000_000_000_000_000_000;
 
 pub const UNTERMINATED: u64 = 1_000_000_000_000_000_001;
 
-// Why a table is turned back.
+// Why a table, or the lengths, are turned back.
 pub enum Cause {
     // The file's length is 0 or no multiple of a line's, or a line's last character is no line feed.
     FileForm,
@@ -55,6 +63,10 @@ pub enum Cause {
     OutputArea,
     // The number of numbers in memory is 0, no multiple of a row's, or too great.
     RowsLength,
+    // The file of the lengths has another size, or breaks its notation.
+    LengthsFile,
+    // A length is outside its limits, or smaller than the one before it.
+    Length,
 }
 
 // A cause, and the line (from 1) or the node where it was found, or 0.
@@ -69,7 +81,7 @@ pub enum Checked {
     Failed(Refusal),
 }
 
-// The number of a cause in document 01.
+// The number of a cause in documents 01 and 02.
 pub fn number(cause: Cause) -> u32
     ensures { λ r. ⌜ r ≡ numberOf cause ⌝ }
 {
@@ -83,6 +95,8 @@ pub fn number(cause: Cause) -> u32
         Cause::Releases => 7,
         Cause::OutputArea => 8,
         Cause::RowsLength => 10,
+        Cause::LengthsFile => 13,
+        Cause::Length => 14,
     }
 }
 
@@ -101,11 +115,23 @@ pub fn check(rows: &[u32]) -> Checked
     checks::table(&fields[..size])
 }
 
+// Checks lengths, and then rows in memory.
+pub fn check_loaded(lengths: [[u32; 9]; 2], rows: &[u32]) -> Checked
+    ensures { λ r. ⌜ r ≡ loadedCheck lengths (now (rows .entry)) ⌝ }
+    ensures in_numbers { λ r. ⌜ checkReturns r ≡ loadedReturns lengths (now (rows .entry)) ⌝ }
+{
+    let checked = check_lengths(lengths);
+    let Checked::Passed = checked else {
+        return checked;
+    };
+    check(rows)
+}
+
 // The hyperperiod of a node of an accepted table.
 pub fn hyperperiod(rows: &[u32], node: u64) -> u64
     requires { ⌜ Accepted (now rows) ⌝ }
     requires { ⌜ (1 ≤ node) × (node ≤ 16) ⌝ }
-    ensures { λ r. ⌜ r ≡ hyperperiod (ofNode (framesOf (now (rows .entry))) node) ⌝ }
+    ensures { λ r. ⌜ r ≡ hyperperiod (ofNode (unmeasured (now (rows .entry))) node) ⌝ }
 {
     let size = rows.len();
     let mut fields = [0u64; MOST_NUMBERS];

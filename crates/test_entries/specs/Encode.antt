@@ -4,15 +4,16 @@ use mathlib.Core.List.{List}
 use lib.IntN.{ℤ, pos}
 use Rattle.table_checks.specs.declared.Checked.{Checked}
 use Rattle.table_checks.specs.declared.Checked.the-variants.{Passed, Failed}
-use Rattle.table_checks.specs.Checks.{rowsCheck}
+use Rattle.table_checks.specs.Checks.{lengthsCheck, rowsCheck}
 use Rattle.frame_table.specs.declared.Answer.{Answer}
 use Rattle.frame_table.specs.Text.{fieldsOf, textOf}
 use Rattle.frame_table.specs.Table.{readCheck, answerFor}
+use Rattle.lengths_file.specs.Lengths.{textOf as lengthsTextOf}
 use Rattle.row_judgement.specs.Refusal.{ofTable}
 use Rattle.certifier.specs.Encode.{encodeRefusal}
-use Rattle.certifier.specs.Listing.{listingOf}
+use Rattle.test_entries.specs.Lengths.{arrayOf}
 
--- ---- as frame_table and certifier answer
+-- ---- as frame_table and lengths_file answer
 
 abbrev pub readAnswer : List ℕ → List ℕ → Answer
 readAnswer file rows = answerFor (readCheck file) (fieldsOf file) rows
@@ -20,8 +21,9 @@ readAnswer file rows = answerFor (readCheck file) (fieldsOf file) rows
 abbrev pub writeAnswer : List ℕ → List ℕ → Answer
 writeAnswer rows file = answerFor (rowsCheck rows) (textOf rows) file
 
-abbrev pub listAnswer : List ℕ → List ℕ → Answer
-listAnswer file out = answerFor (readCheck file) (listingOf (fieldsOf file)) out
+-- the lengths are given as numbers
+abbrev pub writeLengthsAnswer : List ℕ → List ℕ → Answer
+writeLengthsAnswer numbers file = answerFor (lengthsCheck (arrayOf numbers)) (lengthsTextOf (arrayOf numbers)) file
 
 -- ---- as a number
 

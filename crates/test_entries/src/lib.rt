@@ -1,15 +1,19 @@
 // Entries for a test program in another language, for the operations that have no entry for C. Each answers one signed
 // number: how many elements were written, 0 for a check that passed, a judgement or a bound as certifier encodes it, or
-// minus (number × 10000 + place) for a refusal.
+// minus (number × 10000 + place) for a refusal. Lengths are given as numbers, eighteen where none is missing.
+mod lengths;
+
+use crate::lengths::array;
 use table_checks::Checked;
 ghost use mathlib.Core.Path.{_≡_};
 ghost use Rattle.table_checks.specs.Checks.{rowsCheck};
 ghost use Rattle.frame_table.specs.Text.{fieldsOf, textOf};
 ghost use Rattle.frame_table.specs.Table.{areaAfter};
+ghost use Rattle.lengths_file.specs.Lengths.{textOf as lengthsTextOf};
 ghost use Rattle.row_judgement.specs.Judge.{judgeRow, boundRow};
 ghost use Rattle.certifier.specs.Encode.{encodeJudged, encodeBounded, encodeAnswer};
-ghost use Rattle.certifier.specs.Listing.{listingOf};
-ghost use Rattle.test_entries.specs.Encode.{readAnswer, writeAnswer, listAnswer, encodeChecked};
+ghost use Rattle.test_entries.specs.Lengths.{arrayOf};
+ghost use Rattle.test_entries.specs.Encode.{readAnswer, writeAnswer, writeLengthsAnswer, encodeChecked};
 
 // Checks rows in memory.
 #[no_mangle]
@@ -41,27 +45,27 @@ pub extern "C" fn test_write(rows: &[u32], file: &mut [u8]) -> i64
     certifier::encode_answer(frame_table::write(rows, file))
 }
 
-// Lists the judgements of the table in a file.
+// Writes lengths to a file.
 #[no_mangle]
-pub extern "C" fn test_list(file: &[u8], out: &mut [u8]) -> i64
-    ensures { λ r. ⌜ r ≡ encodeAnswer (listAnswer (now (file .entry)) (now (out .entry))) ⌝ }
-    ensures { λ _. ⌜ now (out .exit) ≡ areaAfter (listAnswer (now (file .entry)) (now (out .entry))) (listingOf (fieldsOf (now (file .entry)))) (now (out .entry)) ⌝ }
+pub extern "C" fn test_write_lengths(lengths: &[u32], file: &mut [u8]) -> i64
+    ensures { λ r. ⌜ r ≡ encodeAnswer (writeLengthsAnswer (now (lengths .entry)) (now (file .entry))) ⌝ }
+    ensures { λ _. ⌜ now (file .exit) ≡ areaAfter (writeLengthsAnswer (now (lengths .entry)) (now (file .entry))) (lengthsTextOf (arrayOf (now (lengths .entry)))) (now (file .entry)) ⌝ }
 {
-    certifier::encode_answer(certifier::list(file, out))
+    certifier::encode_answer(lengths_file::write(array(lengths), file))
 }
 
-// Judges the claim of a row of rows in memory.
+// Judges the claim of a row of rows in memory, by the lengths.
 #[no_mangle]
-pub extern "C" fn test_judge(rows: &[u32], row: u64) -> i64
-    ensures { λ r. ⌜ r ≡ encodeJudged (judgeRow (now (rows .entry)) row) ⌝ }
+pub extern "C" fn test_judge(lengths: &[u32], rows: &[u32], row: u64) -> i64
+    ensures { λ r. ⌜ r ≡ encodeJudged (judgeRow (arrayOf (now (lengths .entry))) (now (rows .entry)) row) ⌝ }
 {
-    certifier::encode_judgement_of(rows, row)
+    certifier::encode_judgement_of(array(lengths), rows, row)
 }
 
-// The precise bound of a row of rows in memory.
+// The precise bound of a row of rows in memory, by the lengths.
 #[no_mangle]
-pub extern "C" fn test_precise_bound(rows: &[u32], row: u64) -> i64
-    ensures { λ r. ⌜ r ≡ encodeBounded (boundRow (now (rows .entry)) row) ⌝ }
+pub extern "C" fn test_precise_bound(lengths: &[u32], rows: &[u32], row: u64) -> i64
+    ensures { λ r. ⌜ r ≡ encodeBounded (boundRow (arrayOf (now (lengths .entry))) (now (rows .entry)) row) ⌝ }
 {
-    certifier::encode_bounded(certifier::precise_bound(rows, row))
+    certifier::encode_bounded(certifier::precise_bound(array(lengths), rows, row))
 }

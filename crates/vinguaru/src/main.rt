@@ -1,4 +1,4 @@
-// Does what the command says that is the program's first argument; a frame table stands on standard input. Another command is a
+// Does what the command says that is the program's first argument; lengths and a frame table stand on standard input. Another command is a
 // variant of Command, a line in `read_command`, an arm in `main` with a function of its own, and a line of the usage text.
 use console::BUFFER;
 use frame_length_command::Reply;
@@ -33,7 +33,7 @@ fn read_command() -> Command {
 fn explain() {
     io::write_all(
         2,
-        b"usage: vinguaru COMMAND\ncommands:\n  load-sheet < TABLE                 each node's bus load, and the greatest of them\n  frame-length KIND IDENTIFIER HEX   the exact length of a frame on the wire; HEX are its payload's bytes, - for none\n",
+        b"usage: vinguaru COMMAND\nINPUT is a file of lengths, 92 bytes, and behind it that of a table.\ncommands:\n  load-sheet < INPUT                 each node's bus load, and the greatest of them\n  frame-length KIND IDENTIFIER HEX   the exact length of a frame on the wire; HEX are its payload's bytes, - for none\n",
     );
 }
 
@@ -64,14 +64,14 @@ fn is_word(a: &[u8], b: &[u8]) -> bool {
 
 // Prints the load sheet of the table, or its refusal.
 fn load_sheet() {
-    let mut file = [0u8; BUFFER];
-    let table = console::read_table(b"vinguaru", &mut file);
-    if !table.held {
+    let mut bytes = [0u8; BUFFER];
+    let input = console::read_input(b"vinguaru", &mut bytes);
+    if !input.held {
         return;
     }
-    let size = table.size;
+    let size = input.size;
     let mut sheet = [0u8; load_sheet::LONGEST];
-    let answer = load_sheet::write(&file[..size], &mut sheet);
+    let answer = load_sheet::write_input(&bytes[..size], &mut sheet);
     console::print_answer(b"vinguaru", answer, &sheet);
 }
 

@@ -1,14 +1,7 @@
 //! The rough and the exact bound of one frame.
 
-use crate::table::{self, Row, IDENTIFIER, KIND, NODE, NODES, OFFSET, PAYLOAD, PERIOD};
-
-const LENGTHS: [[u64; 9]; 2] =
-    [[55, 65, 75, 85, 95, 105, 115, 125, 135], [80, 90, 100, 110, 120, 130, 140, 150, 160]];
-
-/// The largest length of a row's frame.
-pub fn length(row: &Row) -> u64 {
-    LENGTHS[usize::from(row[KIND] == 29)][row[PAYLOAD] as usize]
-}
+use crate::lengths::{length, LengthTable};
+use crate::table::{self, Row, IDENTIFIER, KIND, NODE, NODES, OFFSET, PERIOD};
 
 /// What a data frame sends while the bus settles which of several goes on, as a number whose first
 /// bit is the first sent: the identifier's first 11 bits; RTR, 0, or in a long frame SRR, 1; IDE, 0
@@ -30,10 +23,10 @@ struct Release {
 }
 
 impl Release {
-    fn new(row: &Row, instant: u64) -> Release {
+    fn new(lengths: &LengthTable, row: &Row, instant: u64) -> Release {
         let period = u64::from(row[PERIOD]);
         let distance = (u64::from(row[OFFSET]) + period - instant % period) % period;
-        let length = length(row);
+        let length = length(lengths, row);
         Release { distance, period, length }
     }
 
@@ -84,6 +77,7 @@ type Others<'a> = &'a dyn Fn(u64) -> u64;
 
 /// The bus as the frame of one row meets it.
 pub struct View<'a> {
+    lengths: &'a LengthTable,
     frame: &'a Row,
     blocking: u64,
     own: usize,
@@ -92,13 +86,14 @@ pub struct View<'a> {
 
 impl<'a> View<'a> {
     /// The view of a row of an accepted table.
-    pub fn new(rows: &'a [Row], row: usize) -> View<'a> {
+    pub fn new(lengths: &'a LengthTable, rows: &'a [Row], row: usize) -> View<'a> {
         let frame = &rows[row];
         View {
+            lengths,
             frame,
-            blocking: blocking(rows, frame),
+            blocking: blocking(lengths, rows, frame),
             own: frame[NODE] as usize - 1,
-            nodes: (1..=NODES).map(|n| alignments(rows, frame, n)).collect(),
+            nodes: (1..=NODES).map(|n| alignments(lengths, rows, frame, n)).collect(),
         }
     }
 
@@ -127,7 +122,7 @@ impl<'a> View<'a> {
         let greatest = |end| self.greatest_others(end);
         let mut longest = 0;
         for own in &self.nodes[self.own] {
-            let frame = Release::new(self.frame, own.instant);
+            let frame = Release::new(self.lengths, self.frame, own.instant);
             longest = longest.max(self.window(own, &frame, &greatest, limit)?);
         }
         Some(longest)
@@ -229,7 +224,7 @@ impl<'a> View<'a> {
 
     /// The greatest response of the frame at one alignment of its node.
     fn worst(&self, own: &Alignment, others: Others, limit: u64) -> Option<Worst> {
-        let frame = Release::new(self.frame, own.instant);
+        let frame = Release::new(self.lengths, self.frame, own.instant);
         let window = self.window(own, &frame, others, limit)?;
         let mut worst = Worst::NONE;
         let mut queueing = frame.distance;
@@ -273,13 +268,13 @@ impl<'a> View<'a> {
 }
 
 /// The greatest length ranked below, minus 1.
-fn blocking(rows: &[Row], frame: &Row) -> u64 {
+fn blocking(lengths: &LengthTable, rows: &[Row], frame: &Row) -> u64 {
     let below = rows.iter().filter(|row| rank(row) > rank(frame));
-    below.map(|row| length(row) - 1).max().unwrap_or(0)
+    below.map(|row| length(lengths, row) - 1).max().unwrap_or(0)
 }
 
 /// The alignments of a node; one empty alignment where no frame is ahead.
-fn alignments(rows: &[Row], frame: &Row, node: u32) -> Vec<Alignment> {
+fn alignments(lengths: &LengthTable, rows: &[Row], frame: &Row, node: u32) -> Vec<Alignment> {
     let of_node = rows.iter().filter(|row| row[NODE] == node);
     let ahead: Vec<&Row> = of_node.filter(|row| rank(row) <= rank(frame)).collect();
     let hyperperiod = table::node_hyperperiod(rows, node);
@@ -295,7 +290,10 @@ fn alignments(rows: &[Row], frame: &Row, node: u32) -> Vec<Alignment> {
     }
     let align = |instant| {
         let better = ahead.iter().filter(|row| rank(row) < rank(frame));
-        Alignment { instant, better: better.map(|row| Release::new(row, instant)).collect() }
+        Alignment {
+            instant,
+            better: better.map(|row| Release::new(lengths, row, instant)).collect(),
+        }
     };
     instants.into_iter().map(align).collect()
 }

@@ -2,6 +2,7 @@
 
 use crate::bounds::View;
 use crate::judgement::{judge, precise_bound, LIMITS};
+use crate::lengths::STANDARD;
 use crate::listing::{judgement_columns, refusal_columns};
 use crate::table::{self, Refusal};
 
@@ -73,11 +74,11 @@ impl Case {
     pub fn of_row(&self) -> Result<(u32, String), Refusal> {
         let row = self.number as i128;
         if self.letter == 'P' {
-            let bound = precise_bound(&self.words(), row)?;
+            let bound = precise_bound(&STANDARD, &self.words(), row)?;
             self.check_plainly(bound);
             return Ok((0, format!("{bound:>8}")));
         }
-        let judged = judge(&self.words(), row)?;
+        let judged = judge(&STANDARD, &self.words(), row)?;
         let verdict = judged.verdict as u32;
         if verdict == 2 || verdict == 3 {
             self.check_plainly(judged.bound);
@@ -88,7 +89,7 @@ impl Case {
     /// Finds the exact bound again by plain enumeration.
     fn check_plainly(&self, bound: u64) {
         let rows = table::check(&self.words()).expect("an accepted table");
-        let plain = View::new(&rows, self.number).exact(LIMITS.window);
+        let plain = View::new(&STANDARD, &rows, self.number).exact(LIMITS.window);
         assert_eq!(plain.map(|worst| worst.response), Some(bound));
     }
 }

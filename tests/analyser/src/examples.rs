@@ -2,11 +2,13 @@
 
 use crate::bounds::View;
 use crate::judgement::{judge, precise_bound, LIMITS};
+use crate::lengths::{length, STANDARD};
+use crate::lengths_examples::STANDARD_FILE;
 use crate::listing::{bound_number, judge_number, list};
-use crate::load_sheet::{load_sheet, Load};
+use crate::load_sheet::{load_sheet, sheet_of, Load};
 use crate::random::Random;
 use crate::table::{Refusal, Row, CLAIM, NODE, PERIOD};
-use crate::{bounds, judge_cases, table, table_cases};
+use crate::{judge_cases, table_cases};
 
 const FILE: &str = "  1        16 11 8    1000       0     300
   1        32 11 0    1000     200     189
@@ -19,19 +21,23 @@ const LISTING: &str = "        16  1     269       31
         64  2     200        0
 ";
 
+fn with_lengths(file: &str) -> String {
+    [STANDARD_FILE, file].concat()
+}
+
 fn judged(rows: &[Row], row: usize) -> (u32, u64, i64) {
-    let judged = judge(&rows.concat(), row as i128).expect("an accepted table");
+    let judged = judge(&STANDARD, &rows.concat(), row as i128).expect("an accepted table");
     (judged.verdict as u32, judged.bound, judged.margin)
 }
 
 #[test]
 fn whole_case() {
-    assert_eq!(list(FILE.as_bytes()), LISTING);
-    assert_eq!(list(b""), "  1     0\n");
+    assert_eq!(list(with_lengths(FILE).as_bytes()), LISTING);
+    assert_eq!(list(with_lengths("").as_bytes()), "  1     0\n");
     let mut rows = table_cases::WHOLE_CASE;
-    let exact = |row| precise_bound(&rows.concat(), row).expect("an accepted table");
+    let exact = |row| precise_bound(&STANDARD, &rows.concat(), row).expect("an accepted table");
     assert_eq!([0, 1, 2, 3].map(exact), [269, 189, 199, 200]);
-    let rough = View::new(&rows, 3).rough(LIMITS.window);
+    let rough = View::new(&STANDARD, &rows, 3).rough(LIMITS.window);
     assert_eq!(rough.map(|worst| worst.response), Some(255));
     rows[3][CLAIM] = 199;
     assert_eq!(judged(&rows, 3), (3, 200, -1));
@@ -45,16 +51,16 @@ fn one_frame() {
     let full = [[1, 5, 11, 8, 134, 0, 135]];
     assert_eq!(judged(&full, 0), (11, 0, 0));
     let refusal = Refusal { number: 11, place: 0 };
-    assert_eq!(precise_bound(&full.concat(), 0), Err(refusal));
+    assert_eq!(precise_bound(&STANDARD, &full.concat(), 0), Err(refusal));
 }
 
 #[test]
 fn numbers_for_c() {
     let words = table_cases::WHOLE_CASE.concat();
-    assert_eq!(judge_number(judge(&words, 2)), 300_001_990_999_999);
-    assert_eq!(judge_number(judge(&words, 4)), -90_000);
-    assert_eq!(bound_number(precise_bound(&words, 2)), 199);
-    assert_eq!(bound_number(precise_bound(&words[1..], 2)), -100_000);
+    assert_eq!(judge_number(judge(&STANDARD, &words, 2)), 300_001_990_999_999);
+    assert_eq!(judge_number(judge(&STANDARD, &words, 4)), -90_000);
+    assert_eq!(bound_number(precise_bound(&STANDARD, &words, 2)), 199);
+    assert_eq!(bound_number(precise_bound(&STANDARD, &words[1..], 2)), -100_000);
 }
 
 /// The outcomes worked out by hand are held against the analyser on the way.
@@ -71,8 +77,8 @@ fn load_sheet_of_the_whole_case() {
   2       650       0    1000
   2      3250
 ";
-    assert_eq!(load_sheet(FILE.as_bytes()), sheet);
-    assert_eq!(load_sheet(b""), "  1     0\n");
+    assert_eq!(load_sheet(with_lengths(FILE).as_bytes()), sheet);
+    assert_eq!(load_sheet(with_lengths("").as_bytes()), "  1     0\n");
 }
 
 /// Node 1: 160 in 1000000, and 1600000 = 1 × 1000000 + 600000. Node 5: 80 in 7, and
@@ -90,7 +96,7 @@ fn load_sheet_with_remainders() {
  16    276190      10      21
   3    276190
 ";
-    assert_eq!(load_sheet(file.as_bytes()), sheet);
+    assert_eq!(load_sheet(with_lengths(file).as_bytes()), sheet);
 }
 
 /// The greatest quotient: 64 frames of 160 ticks at each tick, 64 × 160 × 10000.
@@ -99,7 +105,7 @@ fn greatest_load() {
     let row = |line| [7, line, 29, 8, 1, 0, 1];
     let rows: Vec<Row> = (0..64).map(row).collect();
     let sheet = "  7 102400000       0       1\n  1 102400000\n";
-    assert_eq!(load_sheet(&table::file_of(&rows)), sheet);
+    assert_eq!(sheet_of(&STANDARD, &rows), sheet);
 }
 
 /// A node's work is what it queues in its hyperperiod, counted tick by tick.
@@ -111,8 +117,8 @@ fn load_by_ticks() {
         let rows = [row(), row(), row()];
         let queued = |tick: u64| rows.iter().filter(move |row| tick % u64::from(row[PERIOD]) == 0);
         let end = (1..).find(|tick| queued(*tick).count() == rows.len()).expect("a hyperperiod");
-        let work: u64 = (0..end).flat_map(queued).map(bounds::length).sum();
-        let load = Load::new(&rows, rows[0][NODE]);
+        let work: u64 = (0..end).flat_map(queued).map(|row| length(&STANDARD, row)).sum();
+        let load = Load::new(&STANDARD, &rows, rows[0][NODE]);
         assert_eq!(load.divisor, end);
         assert_eq!(load.quotient * end + load.remainder, work * 10_000);
         assert!(load.remainder < end);

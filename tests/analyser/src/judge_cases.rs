@@ -3,6 +3,7 @@
 use crate::bounds::View;
 use crate::cases::Case;
 use crate::judgement::LIMITS;
+use crate::lengths::{LengthTable, STANDARD};
 use crate::random::{clustered, dense, set_claim, stretched, Random};
 use crate::table::{self, Row, CLAIM, IDENTIFIER, OFFSET, PERIOD};
 use crate::table_cases::{edited_rows, good_rows, pattern_rows, WHOLE_CASE};
@@ -118,7 +119,7 @@ impl Cases {
 
     /// The precise bound, and judgements of claims at and beside both bounds.
     fn around(&mut self, row: usize, rows: &[Row]) {
-        let view = View::new(rows, row);
+        let view = View::new(&STANDARD, rows, row);
         let mut claims = vec![1, 1_000_000];
         if let Some(rough) = view.rough(LIMITS.window) {
             claims.extend([rough.response, rough.response - 1]);
@@ -152,7 +153,7 @@ impl Cases {
         for (short, long, first) in RANKS {
             let rows = [[1, *short, 11, 8, 1000, 0, 500], [2, *long, 29, 8, 1000, 0, 500]];
             let exact =
-                |row| View::new(&rows, row).exact(LIMITS.window).expect("a window").response;
+                |row| View::new(&STANDARD, &rows, row).exact(LIMITS.window).expect("a window").response;
             let wanted = if *first == 11 { [159 + 135, 135 + 160] } else { [160 + 135, 134 + 160] };
             assert_eq!([0, 1].map(exact), wanted);
             self.around(0, &rows);
@@ -213,7 +214,7 @@ impl Cases {
         }
         let mut twos = counted_table(&[2; 16], 3, 1000);
         self.add('P', 31, &twos);
-        let exact = View::new(&twos, 31).exact_pruned(LIMITS.window);
+        let exact = View::new(&STANDARD, &twos, 31).exact_pruned(LIMITS.window);
         twos[31][CLAIM] = exact.expect("a window") as u32;
         self.add('J', 31, &twos);
         let mut over = [2; 16];
@@ -239,23 +240,23 @@ impl Cases {
     fn fill(
         &mut self,
         seed: u64,
-        draw: fn(&mut Random) -> Vec<Row>,
+        draw: fn(&mut Random, &LengthTable) -> Vec<Row>,
         keep: fn(&View) -> bool,
         wanted: &[(char, u32, usize)],
     ) {
         let mut random = Random::new(seed);
         let mut wanted = wanted.to_vec();
         while wanted.iter().any(|(_, _, left)| *left > 0) {
-            let mut rows = draw(&mut random);
+            let mut rows = draw(&mut random, &STANDARD);
             if table::check(&rows.concat()).is_err() {
                 continue;
             }
             let row = random.below(rows.len() as u64) as usize;
-            let view = View::new(&rows, row);
+            let view = View::new(&STANDARD, &rows, row);
             if !cheap(&view, rows.len()) || !keep(&view) {
                 continue;
             }
-            set_claim(&mut random, &mut rows, row, LIMITS);
+            set_claim(&mut random, &STANDARD, &mut rows, row, LIMITS);
             for (letter, number, left) in wanted.iter_mut().filter(|(_, _, left)| *left > 0) {
                 let case = Case::of_words(*letter, row, &rows.concat());
                 let answer = case.of_row();
@@ -291,28 +292,28 @@ fn later_q(view: &View) -> bool {
     decided && view.exact(LIMITS.window).is_some_and(|worst| worst.q > 1)
 }
 
-pub fn close(random: &mut Random) -> Vec<Row> {
+pub fn close(random: &mut Random, lengths: &LengthTable) -> Vec<Row> {
     let nodes = random.between(2, 4);
-    clustered(random, nodes, 5, (110, 600))
+    clustered(random, lengths, nodes, 5, (110, 600))
 }
 
-pub fn full(random: &mut Random) -> Vec<Row> {
-    clustered(random, 2, 5, (86, 100))
+pub fn full(random: &mut Random, lengths: &LengthTable) -> Vec<Row> {
+    clustered(random, lengths, 2, 5, (86, 100))
 }
 
-pub fn filled(random: &mut Random) -> Vec<Row> {
-    dense(random, 8)
+pub fn filled(random: &mut Random, lengths: &LengthTable) -> Vec<Row> {
+    dense(random, lengths, 8)
 }
 
-pub fn wide(random: &mut Random) -> Vec<Row> {
+pub fn wide(random: &mut Random, lengths: &LengthTable) -> Vec<Row> {
     let nodes = random.between(10, 16);
-    clustered(random, nodes, 6, (105, 400))
+    clustered(random, lengths, nodes, 6, (105, 400))
 }
 
-pub fn long(random: &mut Random) -> Vec<Row> {
+pub fn long(random: &mut Random, _: &LengthTable) -> Vec<Row> {
     stretched(random, 3, 120, 800)
 }
 
-pub fn short(random: &mut Random) -> Vec<Row> {
+pub fn short(random: &mut Random, _: &LengthTable) -> Vec<Row> {
     stretched(random, 3, 6, 1)
 }

@@ -1,6 +1,7 @@
 //! Judging a claim: the rough bound first, the exact bound second.
 
 use crate::bounds::View;
+use crate::lengths::{self, LengthTable};
 use crate::table::{self, refuse, Refusal, Row, CLAIM};
 
 /// The longest window and the greatest scenario count served.
@@ -46,14 +47,20 @@ pub enum Search {
 }
 
 /// Judges a row of accepted rows.
-pub fn judge_row(rows: &[Row], row: usize, limits: Limits) -> Judgement {
-    judge_row_by(Search::Pruned, rows, row, limits)
+pub fn judge_row(lengths: &LengthTable, rows: &[Row], row: usize, limits: Limits) -> Judgement {
+    judge_row_by(Search::Pruned, lengths, rows, row, limits)
 }
 
 /// Judges a row of accepted rows by one search or the other.
-pub fn judge_row_by(search: Search, rows: &[Row], row: usize, limits: Limits) -> Judgement {
+pub fn judge_row_by(
+    search: Search,
+    lengths: &LengthTable,
+    rows: &[Row],
+    row: usize,
+    limits: Limits,
+) -> Judgement {
     let claim = u64::from(rows[row][CLAIM]);
-    let view = View::new(rows, row);
+    let view = View::new(lengths, rows, row);
     let Some(rough) = view.rough(limits.window) else {
         return Judgement::new(Verdict::NoWindow, 0, 0);
     };
@@ -78,22 +85,32 @@ fn exact_bound(search: Search, view: &View, limits: Limits) -> u64 {
 }
 
 /// Judges a row of rows in memory.
-pub fn judge(words: &[u32], row: i128) -> Result<Judgement, Refusal> {
+pub fn judge(lengths: &LengthTable, words: &[u32], row: i128) -> Result<Judgement, Refusal> {
+    lengths::check(lengths)?;
     let rows = table::check(words)?;
-    Ok(judge_row(&rows, find_row(&rows, row)?, LIMITS))
+    Ok(judge_row(lengths, &rows, find_row(&rows, row)?, LIMITS))
 }
 
-/// Judges a row of a file.
-pub fn judge_file(file: &[u8], row: i128) -> Result<Judgement, Refusal> {
+/// Judges a row of a file, by the lengths of another.
+pub fn judge_file(lengths: &[u8], file: &[u8], row: i128) -> Result<Judgement, Refusal> {
+    let lengths = lengths::parse(lengths)?;
     let rows = table::parse(file)?;
-    Ok(judge_row(&rows, find_row(&rows, row)?, LIMITS))
+    Ok(judge_row(&lengths, &rows, find_row(&rows, row)?, LIMITS))
+}
+
+/// The exact bound alone, of a row of a file.
+pub fn precise_bound_file(lengths: &[u8], file: &[u8], row: i128) -> Result<u64, Refusal> {
+    let lengths = lengths::parse(lengths)?;
+    let rows = table::parse(file)?;
+    precise_bound(&lengths, &rows.concat(), row)
 }
 
 /// The exact bound alone, of rows in memory.
-pub fn precise_bound(words: &[u32], row: i128) -> Result<u64, Refusal> {
+pub fn precise_bound(lengths: &LengthTable, words: &[u32], row: i128) -> Result<u64, Refusal> {
+    lengths::check(lengths)?;
     let rows = table::check(words)?;
     let row = find_row(&rows, row)?;
-    let view = View::new(&rows, row);
+    let view = View::new(lengths, &rows, row);
     if view.rough(LIMITS.window).is_none() {
         return refuse(11, row as u32);
     }

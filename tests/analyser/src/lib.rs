@@ -9,6 +9,9 @@ pub mod frame_length_cases;
 pub mod judge_cases;
 pub mod judgement;
 pub mod known_frames;
+pub mod lengths;
+#[cfg(test)]
+mod lengths_examples;
 pub mod listing;
 pub mod literal;
 pub mod literal_bus;

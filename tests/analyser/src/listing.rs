@@ -1,19 +1,26 @@
 //! The listing and the signed numbers given to C.
 
 use crate::judgement::{judge_row_by, Judgement, Search, LIMITS};
+use crate::lengths::{self, LengthTable};
 use crate::table::{self, Refusal, Row, IDENTIFIER};
 
-/// A line for each row in table order, or the one line of a refused table.
-pub fn list(file: &[u8]) -> String {
-    let rows = table::parse(file);
-    let list = rows.map(|rows| list_rows_by(Search::Pruned, &rows));
-    list.unwrap_or_else(refusal_line)
+/// A line for each row in table order, or the one line of a refused input, which is a file of
+/// lengths and then that of a table.
+pub fn list(input: &[u8]) -> String {
+    let (lengths, file) = lengths::split(input);
+    list_files(lengths, file).unwrap_or_else(refusal_line)
+}
+
+/// A line for each row of a file, by the lengths of another.
+pub fn list_files(lengths: &[u8], file: &[u8]) -> Result<String, Refusal> {
+    let lengths = lengths::parse(lengths)?;
+    Ok(list_rows_by(Search::Pruned, &lengths, &table::parse(file)?))
 }
 
 /// A line for each of accepted rows, by one search or the other.
-pub fn list_rows_by(search: Search, rows: &[Row]) -> String {
+pub fn list_rows_by(search: Search, lengths: &LengthTable, rows: &[Row]) -> String {
     let line = |(row, words): (usize, &Row)| {
-        let columns = judgement_columns(judge_row_by(search, rows, row, LIMITS));
+        let columns = judgement_columns(judge_row_by(search, lengths, rows, row, LIMITS));
         format!("{:>10}{columns}\n", words[IDENTIFIER])
     };
     rows.iter().enumerate().map(line).collect()

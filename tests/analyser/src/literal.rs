@@ -1,13 +1,14 @@
 //! Document 01 followed tick by tick, slow and sharing nothing with the fast path.
 
 use crate::judgement::{Judgement, Limits, Verdict};
+use crate::lengths::LengthTable;
 use crate::table::Row;
 use std::collections::BTreeSet;
 
-/// Lengths by the rule instead of the constant table.
-fn length(row: &Row) -> u64 {
-    let bits = if row[2] == 11 { 34 } else { 54 } + 8 * u64::from(row[3]);
-    bits + 13 + (bits - 1) / 4
+fn length(lengths: &LengthTable, row: &Row) -> u64 {
+    let [short, long] = lengths;
+    let line = if row[2] == 11 { short } else { long };
+    u64::from(line[row[3] as usize])
 }
 
 /// The last so many bits of a number, the greatest first.
@@ -77,6 +78,7 @@ pub struct Answer {
 
 /// One row of a table; `instants` holds the alignments of each node.
 struct Literal<'a> {
+    lengths: &'a LengthTable,
     rows: &'a [Row],
     judged: &'a Row,
     blocking: u64,
@@ -84,13 +86,14 @@ struct Literal<'a> {
     longest_window: u64,
 }
 
-pub fn answer(rows: &[Row], row: usize, limits: Limits) -> Answer {
+pub fn answer(lengths: &LengthTable, rows: &[Row], row: usize, limits: Limits) -> Answer {
     let judged = &rows[row];
     let below = rows.iter().filter(|other| goes_ahead(judged, other));
     let literal = Literal {
+        lengths,
         rows,
         judged,
-        blocking: below.map(length).max().map_or(0, |longest| longest - 1),
+        blocking: below.map(|row| length(lengths, row)).max().map_or(0, |longest| longest - 1),
         instants: (1..=16).map(|node| instants(rows, judged, node)).collect(),
         longest_window: limits.window,
     };
@@ -192,7 +195,7 @@ impl Literal<'_> {
         let mut q = 1;
         while distance + (q - 1) * u64::from(self.judged[4]) < window {
             let queueing = distance + (q - 1) * u64::from(self.judged[4]);
-            let end = self.start(choices, q) + length(self.judged);
+            let end = self.start(choices, q) + length(self.lengths, self.judged);
             greatest = greatest.max(end - queueing);
             q += 1;
         }
@@ -214,7 +217,7 @@ impl Literal<'_> {
     /// Tries w = 0, 1, 2, ...; tick w still counts.
     fn start(&self, choices: &[Vec<u64>], q: u64) -> u64 {
         let mut running = self.running(choices);
-        let before = self.blocking + (q - 1) * length(self.judged);
+        let before = self.blocking + (q - 1) * length(self.lengths, self.judged);
         let mut start = 0;
         loop {
             running.iter_mut().for_each(|node| node.tick(start, false));
@@ -239,7 +242,7 @@ impl Literal<'_> {
         let queued = |row: &Row| Queued {
             distance: self.distance(row, instant),
             period: u64::from(row[4]),
-            length: length(row),
+            length: length(self.lengths, row),
             judged: row == self.judged,
         };
         ahead.map(queued).collect()

@@ -1,17 +1,17 @@
 //! The analyser's commands.
 
 use analyser::{
-    cases, frame_length, frame_length_cases, judge_cases, judgement, listing, load_sheet, self_check,
-    table, table_cases,
+    cases, frame_length, frame_length_cases, judge_cases, judgement, lengths, listing, load_sheet,
+    self_check, table_cases,
 };
 use std::io::{self, Read, Write};
 use std::process::ExitCode;
 
 const USAGE: &str = "usage:
-  analyser list < table
-  analyser load-sheet < table
-  analyser judge ROW < table
-  analyser precise ROW < table
+  analyser list < lengths and table
+  analyser load-sheet < lengths and table
+  analyser judge ROW < lengths and table
+  analyser precise ROW < lengths and table
   analyser frame-length KIND IDENTIFIER HEX
   analyser self-check SEED COUNT
   analyser table-cases stdin|stdout
@@ -37,13 +37,15 @@ fn run(words: &[&str]) -> io::Result<bool> {
         ["list"] => print(listing::list(&input()?).as_bytes()),
         ["load-sheet"] => print(load_sheet::load_sheet(&input()?).as_bytes()),
         ["judge", row] => {
-            let judged = judgement::judge_file(&input()?, number(row)?);
+            let input = input()?;
+            let (lengths, file) = lengths::split(&input);
+            let judged = judgement::judge_file(lengths, file, number(row)?);
             print(format!("{}\n", listing::judge_number(judged)).as_bytes())
         }
         ["precise", row] => {
-            let row = number(row)?;
-            let rows = table::parse(&input()?);
-            let bound = rows.and_then(|rows| judgement::precise_bound(&rows.concat(), row));
+            let input = input()?;
+            let (lengths, file) = lengths::split(&input);
+            let bound = judgement::precise_bound_file(lengths, file, number(row)?);
             print(format!("{}\n", listing::bound_number(bound)).as_bytes())
         }
         ["frame-length", kind, identifier, hex] => {

@@ -1,7 +1,8 @@
 //! Random tables of several shapes from a fixed seed.
 
-use crate::bounds::{self, View};
+use crate::bounds::View;
 use crate::judgement::Limits;
+use crate::lengths::{length, LengthTable, STANDARD};
 use crate::table::{self, Row, CLAIM, IDENTIFIER, KIND, NODE, OFFSET, PERIOD};
 
 /// A splitmix generator.
@@ -66,9 +67,32 @@ impl Random {
     }
 }
 
+/// Lengths within their limits: stretched by one number, rising anyhow, or mostly at the limits.
+pub fn own_lengths(random: &mut Random) -> LengthTable {
+    let more = random.below(120) as u32;
+    let manner = random.below(4);
+    let mut lengths = STANDARD.map(|line| line.map(|length| length + more));
+    for length in lengths.iter_mut().flatten() {
+        *length = match manner {
+            0 => *length,
+            1 => random.between(47, 400) as u32,
+            2 => random.between(47, 160) as u32,
+            _ => random.pick(&[47, 47, 48, 200, 399, 400, 400]),
+        };
+    }
+    lengths.iter_mut().for_each(|line| line.sort_unstable());
+    lengths
+}
+
 /// Nodes whose frames are queued closely one after the other; the period is
 /// the sum of all lengths times a percentage.
-pub fn clustered(random: &mut Random, nodes: u64, most: u64, percent: (u64, u64)) -> Vec<Row> {
+pub fn clustered(
+    random: &mut Random,
+    lengths: &LengthTable,
+    nodes: u64,
+    most: u64,
+    percent: (u64, u64),
+) -> Vec<Row> {
     let kinds = random.kinds();
     let rising = random.percent(70);
     let mut rows = Vec::new();
@@ -76,12 +100,12 @@ pub fn clustered(random: &mut Random, nodes: u64, most: u64, percent: (u64, u64)
         let count = random.between(1, most);
         let mut frames: Vec<Row> = (0..count).map(|_| random.frame(node, kinds)).collect();
         if rising {
-            frames.sort_by_key(bounds::length);
+            frames.sort_by_key(|row| length(lengths, row));
         }
         rows.extend(frames);
     }
     rows.truncate(table::MOST_LINES);
-    let total: u64 = rows.iter().map(bounds::length).sum();
+    let total: u64 = rows.iter().map(|row| length(lengths, row)).sum();
     let base = total * random.between(percent.0, percent.1) / 100;
     let mut offset = 0;
     for at in 0..rows.len() {
@@ -91,7 +115,7 @@ pub fn clustered(random: &mut Random, nodes: u64, most: u64, percent: (u64, u64)
         let period = base * random.pick(&[1, 1, 1, 1, 2]);
         rows[at][PERIOD] = period as u32;
         rows[at][OFFSET] = (offset % period) as u32;
-        offset += gap(random, bounds::length(&rows[at]), base);
+        offset += gap(random, length(lengths, &rows[at]), base);
     }
     finish(random, rows)
 }
@@ -112,7 +136,7 @@ fn gap(random: &mut Random, length: u64, base: u64) -> u64 {
 }
 
 /// Few frames with different periods that nearly fill the bus.
-pub fn dense(random: &mut Random, most: u64) -> Vec<Row> {
+pub fn dense(random: &mut Random, lengths: &LengthTable, most: u64) -> Vec<Row> {
     let kinds = random.kinds();
     let count = random.between(2, most);
     let mut rows: Vec<Row> = Vec::new();
@@ -125,7 +149,7 @@ pub fn dense(random: &mut Random, most: u64) -> Vec<Row> {
         }
         rows.push(row);
     }
-    let weight = |row: &Row| bounds::length(row) * 1000 / u64::from(row[PERIOD]);
+    let weight = |row: &Row| length(lengths, row) * 1000 / u64::from(row[PERIOD]);
     let load: u64 = rows.iter().map(weight).sum();
     let target = random.between(950, 1001);
     for row in &mut rows {
@@ -194,8 +218,14 @@ fn identifier(random: &mut Random, kind: u32, range: u64, used: &[(u32, u32)]) -
 }
 
 /// Sets the claim of a row at, beside or away from its bounds.
-pub fn set_claim(random: &mut Random, rows: &mut [Row], row: usize, limits: Limits) {
-    let view = View::new(rows, row);
+pub fn set_claim(
+    random: &mut Random,
+    lengths: &LengthTable,
+    rows: &mut [Row],
+    row: usize,
+    limits: Limits,
+) {
+    let view = View::new(lengths, rows, row);
     let Some(rough) = view.rough(limits.window) else {
         return;
     };

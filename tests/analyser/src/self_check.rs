@@ -2,8 +2,9 @@
 
 use crate::bounds::View;
 use crate::judgement::{judge_row, Limits};
+use crate::lengths::{LengthTable, STANDARD};
 use crate::literal;
-use crate::random::{clustered, dense, set_claim, stretched, Random};
+use crate::random::{clustered, dense, own_lengths, set_claim, stretched, Random};
 use crate::table::{self, Row};
 
 const MOST_SCENARIOS: u64 = 150;
@@ -24,8 +25,9 @@ pub fn self_check(seed: u64, count: u64) -> bool {
     let mut random = Random::new(seed);
     let mut tally = Tally::default();
     while tally.tables < count {
-        let mut rows = small_table(&mut random);
-        if !cheap(&rows) {
+        let lengths = if random.percent(50) { STANDARD } else { own_lengths(&mut random) };
+        let mut rows = small_table(&mut random, &lengths);
+        if !cheap(&lengths, &rows) {
             continue;
         }
         let limits = Limits {
@@ -34,38 +36,38 @@ pub fn self_check(seed: u64, count: u64) -> bool {
         };
         tally.tables += 1;
         for row in 0..rows.len() {
-            set_claim(&mut random, &mut rows, row, limits);
-            compare(&rows, row, limits, &mut tally);
+            set_claim(&mut random, &lengths, &mut rows, row, limits);
+            compare(&lengths, &rows, row, limits, &mut tally);
         }
     }
     tally.print();
     tally.differences == 0
 }
 
-fn small_table(random: &mut Random) -> Vec<Row> {
+fn small_table(random: &mut Random, lengths: &LengthTable) -> Vec<Row> {
     let nodes = random.between(1, 3);
     match random.below(10) {
-        0..=3 => clustered(random, nodes.max(2), 5, (110, 500)),
-        4 => clustered(random, nodes.max(2), 4, (88, 100)),
-        5..=7 => dense(random, 4),
+        0..=3 => clustered(random, lengths, nodes.max(2), 5, (110, 500)),
+        4 => clustered(random, lengths, nodes.max(2), 4, (88, 100)),
+        5..=7 => dense(random, lengths, 4),
         8 => stretched(random, nodes, 6, 250),
         _ => stretched(random, nodes, 9, 1),
     }
 }
 
-fn cheap(rows: &[Row]) -> bool {
-    let count = |row| View::new(rows, row).scenario_count();
+fn cheap(lengths: &LengthTable, rows: &[Row]) -> bool {
+    let count = |row| View::new(lengths, rows, row).scenario_count();
     table::check(&rows.concat()).is_ok() && (0..rows.len()).all(|row| count(row) <= MOST_SCENARIOS)
 }
 
-fn compare(rows: &[Row], row: usize, limits: Limits, tally: &mut Tally) {
-    let view = View::new(rows, row);
+fn compare(lengths: &LengthTable, rows: &[Row], row: usize, limits: Limits, tally: &mut Tally) {
+    let view = View::new(lengths, rows, row);
     let rough = view.rough(limits.window);
     let exact = view.exact(limits.window);
     let fast = (rough.map(|w| w.response), exact.map(|w| w.response));
     let pruned = rough.and_then(|_| view.exact_pruned(limits.window));
-    let judgement = judge_row(rows, row, limits);
-    let slow = literal::answer(rows, row, limits);
+    let judgement = judge_row(lengths, rows, row, limits);
+    let slow = literal::answer(lengths, rows, row, limits);
     let same = fast == (slow.rough, slow.exact)
         && (rough.is_none() || pruned == slow.exact)
         && view.scenario_count() == slow.scenarios
@@ -73,7 +75,7 @@ fn compare(rows: &[Row], row: usize, limits: Limits, tally: &mut Tally) {
     tally.rows += 1;
     if !same {
         tally.differences += 1;
-        eprintln!("row {row} differs in {rows:?}");
+        eprintln!("row {row} differs in {rows:?} with lengths {lengths:?}");
     }
     tally.verdicts[judgement.verdict as usize] += 1;
     tally.apart += u64::from(fast.0 != fast.1);

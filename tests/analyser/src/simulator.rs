@@ -67,8 +67,12 @@ fn by_priority(rows: &[Row], starts: &Starts) -> Vec<Pending> {
 #[cfg(test)]
 mod tests {
     use super::*;
-    use crate::bounds::length;
+    use crate::lengths::{self, STANDARD};
     use crate::table_cases::WHOLE_CASE;
+
+    fn length(row: &Row) -> u64 {
+        lengths::length(&STANDARD, row)
+    }
 
     /// Both nodes start at once: 16 and 64 meet at 0, 64 goes second.
     #[test]

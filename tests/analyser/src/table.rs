@@ -86,7 +86,7 @@ pub fn file_of(rows: &[Row]) -> Vec<u8> {
 }
 
 /// The room rule, which comes last.
-fn copy_into<T: Copy>(result: &[T], area: &mut [T]) -> Result<(), Refusal> {
+pub fn copy_into<T: Copy>(result: &[T], area: &mut [T]) -> Result<(), Refusal> {
     if area.len() < result.len() {
         return refuse(8, 0);
     }
@@ -139,7 +139,7 @@ fn check_line(words: &[u32]) -> Result<Row, u32> {
 }
 
 /// Spaces, then at least one digit, no leading zero except in 0 itself.
-fn number(column: &[u8]) -> Option<u64> {
+pub fn number(column: &[u8]) -> Option<u64> {
     let spaces = column.iter().take_while(|&&byte| byte == b' ').count();
     let digits = &column[spaces..];
     let only_digits = digits.iter().all(u8::is_ascii_digit);

@@ -1,6 +1,7 @@
 //! Cases for a program that reads, checks and writes tables.
 
 use crate::cases::Case;
+use crate::lengths::STANDARD;
 use crate::random::{clustered, dense, stretched, Random};
 use crate::table::{self, Row, FIELDS, IDENTIFIER, KIND, LINE, MOST_LINES, WIDTHS};
 
@@ -360,8 +361,8 @@ fn random_table(random: &mut Random) -> Vec<Row> {
     loop {
         let nodes = random.between(1, 16);
         let rows = match random.below(4) {
-            0 | 1 => clustered(random, nodes, 5, (50, 900)),
-            2 => dense(random, 16),
+            0 | 1 => clustered(random, &STANDARD, nodes, 5, (50, 900)),
+            2 => dense(random, &STANDARD, 16),
             _ => stretched(random, nodes, 200, 1000),
         };
         if table::check(&rows.concat()).is_ok() {

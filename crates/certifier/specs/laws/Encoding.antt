@@ -19,13 +19,15 @@ use Rattle.bus_model.specs.Judgement.{verdict, lacksWindow, tooManyScenarios}
 use Rattle.table_checks.specs.declared.Checked.{Checked}
 use Rattle.table_checks.specs.declared.Checked.the-variants.{Passed, Failed}
 use Rattle.table_checks.specs.Columns.{field, within}
-use Rattle.table_checks.specs.Frames.{framesOf}
-use Rattle.table_checks.specs.Checks.{first, firstOf, fileSizeCheck, rowsSizeCheck, malformed, unterminated, columnCheck, columnsCheck, standsEarlier, lineCheck, linesCheck, nodeCheck, nodesCheck, tableCheck, rowsCheck}
-use Rattle.table_checks.specs.laws.Accepted.{accepted-size}
+use Rattle.table_checks.specs.Frames.{framesOf, unmeasured}
+use Rattle.table_checks.specs.Checks.{first, firstOf, breaksLimits, lengthsCheck, fileSizeCheck, rowsSizeCheck, malformed, unterminated, columnCheck, columnsCheck, standsEarlier, lineCheck, linesCheck, nodeCheck, nodesCheck, tableCheck, rowsCheck, loadedCheck}
+use Rattle.table_checks.specs.laws.Accepted.{loaded-both, accepted-size}
 use Rattle.table_checks.specs.laws.Sizes.{file-size, rows-size}
 use Rattle.frame_table.specs.Text.{fieldsOf}
 use Rattle.frame_table.specs.Table.{readCheck}
 use Rattle.frame_table.specs.laws.Layout.{length-fields}
+use Rattle.lengths_file.specs.Lengths.{lengthsOf, isText, textCheck, lengthsFileCheck}
+use Rattle.lengths_file.specs.Input.{inputCheck}
 use Rattle.row_judgement.specs.declared.Refusal.{Refusal}
 use Rattle.row_judgement.specs.declared.Judged.{Judged}
 use Rattle.row_judgement.specs.declared.Judged.the-variants.{Verdict, NotJudged}
@@ -151,9 +153,15 @@ node-placed fs j l =
 table-placed : (t : List ℕ) → length t / 7 ≤ 64 → CheckPlaced (tableCheck t)
 unfolding tableCheck linesCheck nodesCheck
 table-placed t few =
-    first-placed (linesCheck t) (nodesCheck (framesOf t))
+    first-placed (linesCheck t) (nodesCheck (unmeasured t))
     (firstOf-placed (lineCheck t) (length t / 7) 0 (λ i low high. line-placed t i (omega arith)))
-    (λ e. firstOf-placed (nodeCheck (framesOf t)) 16 1 (λ j low high. node-placed (framesOf t) j (omega arith)))
+    (λ e. firstOf-placed (nodeCheck (unmeasured t)) 16 1 (λ j low high. node-placed (unmeasured t) j (omega arith)))
+
+lengths-placed : (ls : List (List ℕ)) → CheckPlaced (lengthsCheck ls)
+unfolding lengthsCheck
+lengths-placed ls =
+    cond-cases CheckPlaced (breaksLimits ls 0) (λ b. omega arith)
+    (λ a. cond-cases CheckPlaced (breaksLimits ls 1) (λ b. omega arith) (λ b. tt))
 
 rows-placed : (rows : List ℕ) → CheckPlaced (rowsCheck rows)
 unfolding rowsCheck rowsSizeCheck
@@ -161,6 +169,16 @@ rows-placed rows =
     first-placed (rowsSizeCheck (length rows)) (tableCheck rows)
     (cond-cases CheckPlaced (eqb (length rows) 0 || (not (eqb (length rows % 7) 0) || ltb 448 (length rows))) (λ s. omega arith) (λ s. tt))
     (λ e. let few = rows-size (length rows) e .most in table-placed rows (omega arith))
+
+loaded-placed : (ls : List (List ℕ)) (rows : List ℕ) → CheckPlaced (loadedCheck ls rows)
+unfolding loadedCheck
+loaded-placed ls rows = first-placed (lengthsCheck ls) (rowsCheck rows) (lengths-placed ls) (λ e. rows-placed rows)
+
+lengths-file-placed : (lengths : List ℕ) → CheckPlaced (lengthsFileCheck lengths)
+unfolding lengthsFileCheck textCheck
+lengths-file-placed lengths =
+    first-placed (textCheck lengths) (lengthsCheck (lengthsOf lengths))
+    (cond-cases CheckPlaced (isText lengths) (λ t. tt) (λ t. omega arith)) (λ e. lengths-placed (lengthsOf lengths))
 
 file-placed : (file : List ℕ) → CheckPlaced (readCheck file)
 unfolding readCheck fileSizeCheck fieldsOf
@@ -171,6 +189,10 @@ file-placed file =
     (λ e.
     let few = file-size (length file) e .most in
     table-placed (fieldsOf file) (omega (arith, length-fields file (7 * (length file / 43)) 0)))
+
+input-placed : (lengths file : List ℕ) → CheckPlaced (inputCheck lengths file)
+unfolding inputCheck
+input-placed lengths file = first-placed (lengthsFileCheck lengths) (readCheck file) (lengths-file-placed lengths) (λ e. file-placed file)
 
 -- where there is no judgement, and where there is no bound, the place is small
 abbrev JudgedPlaced : Judged → Type 0
@@ -205,72 +227,72 @@ bounded-parts (NotBounded f) p = refusal-parts f (omega arith)
 
 -- ---- the answers for rows in memory
 
-module _ (rows : List ℕ) (r : ℕ) where
-  row-judged : JudgedPlaced (judgeRow rows r)
+module _ (ls : List (List ℕ)) (rows : List ℕ) (r : ℕ) where
+  row-judged : JudgedPlaced (judgeRow ls rows r)
   unfolding judgeRow judgeChecked
-  row-judged = go (rowsCheck rows) (rows-placed rows)
+  row-judged = go (loadedCheck ls rows) (loaded-placed ls rows)
     where
-      go : (c : Checked) → CheckPlaced c → JudgedPlaced (judgeChecked c rows r)
+      go : (c : Checked) → CheckPlaced c → JudgedPlaced (judgeChecked c ls rows r)
       go (Failed f) p = p
       go Passed p = cond-cases JudgedPlaced (noRow rows r) (λ t. omega arith) (λ t. tt)
 
-  row-bounded : BoundedPlaced (boundRow rows r)
+  row-bounded : BoundedPlaced (boundRow ls rows r)
   unfolding boundRow boundChecked boundFrame
-  row-bounded = go (rowsCheck rows) refl (rows-placed rows)
+  row-bounded = go (loadedCheck ls rows) refl (loaded-placed ls rows)
     where
-      go : (c : Checked) → rowsCheck rows ≡ c → CheckPlaced c → BoundedPlaced (boundChecked c rows r)
+      go : (c : Checked) → loadedCheck ls rows ≡ c → CheckPlaced c → BoundedPlaced (boundChecked c ls rows r)
       go (Failed f) e p = p
       go Passed e p =
           cond-cases BoundedPlaced (noRow rows r) (λ t. omega arith)
           (λ has.
-          let few = accepted-size rows e .most in
+          let few = accepted-size rows (loaded-both ls rows e .1) .most in
           let some : ¬ (length rows / 7 ≤ r) = λ le. has (le→leb _ _ le) in
-          cond-cases BoundedPlaced (lacksWindow (framesOf rows) (row (framesOf rows) r)) (λ w. omega arith)
-          (λ w. cond-cases BoundedPlaced (tooManyScenarios (framesOf rows) (row (framesOf rows) r)) (λ m. omega arith) (λ m. tt)))
+          cond-cases BoundedPlaced (lacksWindow (framesOf ls rows) (row (framesOf ls rows) r)) (λ w. omega arith)
+          (λ w. cond-cases BoundedPlaced (tooManyScenarios (framesOf ls rows) (row (framesOf ls rows) r)) (λ m. omega arith) (λ m. tt)))
 
   -- The place of a refusal is small.
-  pub row-place-small : (f : Refusal) → judgeRow rows r ≡ NotJudged f → f .place ≤ 64
+  pub row-place-small : (f : Refusal) → judgeRow ls rows r ≡ NotJudged f → f .place ≤ 64
   row-place-small f e = subst JudgedPlaced e row-judged
 
-  pub row-bound-place-small : (f : Refusal) → boundRow rows r ≡ NotBounded f → f .place ≤ 64
+  pub row-bound-place-small : (f : Refusal) → boundRow ls rows r ≡ NotBounded f → f .place ≤ 64
   row-bound-place-small f e = subst BoundedPlaced e row-bounded
 
   -- Whatever the rows and the row, the number tells the answer's parts.
-  pub row-parts : JudgedParts (judgeRow rows r) (encodeJudged (judgeRow rows r))
-  row-parts = judged-parts (judgeRow rows r) (judged-encodable rows r) row-judged
+  pub row-parts : JudgedParts (judgeRow ls rows r) (encodeJudged (judgeRow ls rows r))
+  row-parts = judged-parts (judgeRow ls rows r) (judged-encodable ls rows r) row-judged
 
-  pub row-bound-parts : BoundedParts (boundRow rows r) (encodeBounded (boundRow rows r))
-  row-bound-parts = bounded-parts (boundRow rows r) row-bounded
+  pub row-bound-parts : BoundedParts (boundRow ls rows r) (encodeBounded (boundRow ls rows r))
+  row-bound-parts = bounded-parts (boundRow ls rows r) row-bounded
 
--- ---- the answers for a file
+-- ---- the answers for files
 
-module _ (file : List ℕ) (r : ℕ) where
-  file-judged : Encodable (judgeFile file r) × JudgedPlaced (judgeFile file r)
+module _ (lengths file : List ℕ) (r : ℕ) where
+  file-judged : Encodable (judgeFile lengths file r) × JudgedPlaced (judgeFile lengths file r)
   unfolding judgeFile judgeRead
-  file-judged = go (readCheck file) (file-placed file)
+  file-judged = go (inputCheck lengths file) (input-placed lengths file)
     where
-      go : (c : Checked) → CheckPlaced c → Encodable (judgeRead c file r) × JudgedPlaced (judgeRead c file r)
+      go : (c : Checked) → CheckPlaced c → Encodable (judgeRead c (lengthsOf lengths) file r) × JudgedPlaced (judgeRead c (lengthsOf lengths) file r)
       go (Failed f) p = (tt, p)
-      go Passed p = (judged-encodable (fieldsOf file) r, row-judged (fieldsOf file) r)
+      go Passed p = (judged-encodable (lengthsOf lengths) (fieldsOf file) r, row-judged (lengthsOf lengths) (fieldsOf file) r)
 
-  file-bounded : BoundedPlaced (boundFile file r)
+  file-bounded : BoundedPlaced (boundFile lengths file r)
   unfolding boundFile boundRead
-  file-bounded = go (readCheck file) (file-placed file)
+  file-bounded = go (inputCheck lengths file) (input-placed lengths file)
     where
-      go : (c : Checked) → CheckPlaced c → BoundedPlaced (boundRead c file r)
+      go : (c : Checked) → CheckPlaced c → BoundedPlaced (boundRead c (lengthsOf lengths) file r)
       go (Failed f) p = p
-      go Passed p = row-bounded (fieldsOf file) r
+      go Passed p = row-bounded (lengthsOf lengths) (fieldsOf file) r
 
   -- The place of a refusal is small.
-  pub place-small : (f : Refusal) → judgeFile file r ≡ NotJudged f → f .place ≤ 64
+  pub place-small : (f : Refusal) → judgeFile lengths file r ≡ NotJudged f → f .place ≤ 64
   place-small f e = subst JudgedPlaced e (file-judged .1)
 
-  pub bound-place-small : (f : Refusal) → boundFile file r ≡ NotBounded f → f .place ≤ 64
+  pub bound-place-small : (f : Refusal) → boundFile lengths file r ≡ NotBounded f → f .place ≤ 64
   bound-place-small f e = subst BoundedPlaced e file-bounded
 
-  -- Whatever the file and the row, the number tells the answer's parts.
-  pub judge-parts : JudgedParts (judgeFile file r) (encodeJudged (judgeFile file r))
-  judge-parts = judged-parts (judgeFile file r) (file-judged .0) (file-judged .1)
+  -- Whatever the files and the row, the number tells the answer's parts.
+  pub judge-parts : JudgedParts (judgeFile lengths file r) (encodeJudged (judgeFile lengths file r))
+  judge-parts = judged-parts (judgeFile lengths file r) (file-judged .0) (file-judged .1)
 
-  pub bound-parts : BoundedParts (boundFile file r) (encodeBounded (boundFile file r))
-  bound-parts = bounded-parts (boundFile file r) file-bounded
+  pub bound-parts : BoundedParts (boundFile lengths file r) (encodeBounded (boundFile lengths file r))
+  bound-parts = bounded-parts (boundFile lengths file r) file-bounded

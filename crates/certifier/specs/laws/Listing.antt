@@ -19,13 +19,13 @@ unfolding listingLine
 length-line identifier j = simp (length-append, length-write, length-signed)
 
 -- The lines of a listing, of 31 characters each.
-pub listing-lines : (rows : List ℕ) → Lines 31 (lineOf rows) (linesFrom rows)
+pub listing-lines : (ls : List (List ℕ)) (rows : List ℕ) → Lines 31 (lineOf ls rows) (linesFrom ls rows)
 unfolding lineOf
-listing-lines rows = record { wide = λ i. length-line _ _; none = λ i. refl; more = λ n i. refl }
+listing-lines ls rows = record { wide = λ i. length-line _ _; none = λ i. refl; more = λ n i. refl }
 
-pub length-listing : (rows : List ℕ) → length (listingOf rows) ≡ 31 * (length rows / 7)
+pub length-listing : (ls : List (List ℕ)) (rows : List ℕ) → length (listingOf ls rows) ≡ 31 * (length rows / 7)
 unfolding listingOf
-length-listing rows = length-lines (listing-lines rows) (length rows / 7) 0
+length-listing ls rows = length-lines (listing-lines ls rows) (length rows / 7) 0
 
 -- The four columns and the line feed, one behind the other, are the line.
 pub line-written : (identifier v : ℕ) (m : ℤ) (j : Judgement) (line a b c d : List ℕ) → length line ≡ 31 → v ≡ verdict (j .outcome) → m ≡ j .margin

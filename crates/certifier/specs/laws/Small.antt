@@ -31,10 +31,10 @@ margin-small claim (Undecided b) p q = difference-small claim b p q
 margin-small claim NoWindow p q = (1000000, refl, omega arith)
 
 -- Bound and margin of a judgement are small enough for one number.
-pub judged-encodable : (rows : List ℕ) (r : ℕ) → Encodable (judgeRow rows r)
+pub judged-encodable : (ls : List (List ℕ)) (rows : List ℕ) (r : ℕ) → Encodable (judgeRow ls rows r)
 unfolding windowLimit judge
-judged-encodable rows r =
-    by-judged Encodable rows r (λ f. tt)
-    (λ accepted l.
-    let b = judged-le-limit (accepted-valid rows accepted) (row-inside rows l) (claimOf rows r) in
+judged-encodable ls rows r =
+    by-judged Encodable ls rows r (λ f. tt)
+    (λ loadable accepted l.
+    let b = judged-le-limit (accepted-valid rows accepted ls loadable) (row-inside ls rows l) (claimOf rows r) in
     (b, margin-small (claimOf rows r) _ (accepted-limits rows accepted r l .claim-max) b))

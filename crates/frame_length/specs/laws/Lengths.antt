@@ -13,8 +13,8 @@ use lib.Dec.{leb, eqb}
 use lib.ListN.{length, getD, length-append}
 use Rattle.arith.specs.laws.Tests.{by-test, and-both}
 use Rattle.table_checks.specs.Columns.{isIdentifier}
-use Rattle.table_checks.specs.Frames.{kindPlace, stuffable, lengthRule, largestLength}
-use Rattle.table_checks.specs.laws.Lengths.{lengths-follow}
+use Rattle.table_checks.specs.Frames.{kindPlace, stuffable, lengthRule, standardLengths, largestLength}
+use Rattle.table_checks.specs.laws.Lengths.{standard-follow, length-is}
 use Rattle.frame_length.specs.declared.Measured.{Measured}
 use Rattle.frame_length.specs.declared.Measured.the-variants.{Length, Refused}
 use Rattle.frame_length.specs.DataFrame.{bits, baseArbitration, extendedArbitration, arbitration, control, dataField, beforeCrc}
@@ -55,10 +55,10 @@ frame-length kind identifier payload =
     simp (length-append, length-bits, length-data) (omega (arith, length-arbitration kind identifier))
 
 -- No content exceeds the table.
-pub frame-most : (kind identifier : ℕ) (payload : List ℕ) → length payload ≤ 8 → frameLength kind identifier payload ≤ largestLength kind (length payload)
-unfolding frameLength stuffedPart largestLength
+pub frame-most : (kind identifier : ℕ) (payload : List ℕ) → length payload ≤ 8 → frameLength kind identifier payload ≤ largestLength standardLengths kind (length payload)
+unfolding frameLength stuffedPart
 frame-most kind identifier payload few =
-    rw (lengths-follow (kindPlace kind) (length payload) (place (eqb kind 11)) (omega arith))
+    rw (length-is standardLengths kind (length payload) few, standard-follow (kindPlace kind) (length payload) (place (eqb kind 11)) (omega arith))
     (stuffed-most (getD stuffable (kindPlace kind) 0) (length payload) (withCrc (beforeCrc kind identifier payload)) (frame-length kind identifier payload))
   where
     place : (b : Bool) → cond b 0 1 < 2
@@ -66,7 +66,7 @@ frame-most kind identifier payload few =
     place false = omega arith
 
 -- The same of what is returned, for any input.
-pub returned-most : (kind identifier : ℕ) (payload : List ℕ) → frameReturns kind identifier payload .ticks ≤ largestLength kind (length payload)
+pub returned-most : (kind identifier : ℕ) (payload : List ℕ) → frameReturns kind identifier payload .ticks ≤ largestLength standardLengths kind (length payload)
 unfolding frameReturns isDataFrame
 returned-most kind identifier payload =
     by-test (isIdentifier kind identifier && leb (length payload) 8)

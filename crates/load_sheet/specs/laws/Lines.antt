@@ -124,20 +124,20 @@ module _ (fs : List Frame) (js old : List ℕ) where
 
 -- ---- the sheet
 
-module _ (rows : List ℕ) where
+module _ (ls : List (List ℕ)) (rows : List ℕ) where
   abbrev all : List ℕ
-  all = nodesOf (framesOf rows)
+  all = nodesOf (framesOf ls rows)
 
-  pub length-sheet : (n : ℕ) → n ≡ length all → length (sheetOf rows) ≡ 30 * n + 14
+  pub length-sheet : (n : ℕ) → n ≡ length all → length (sheetOf ls rows) ≡ 30 * n + 14
   unfolding sheetOf
-  length-sheet n count = length-sheet-with (framesOf rows) all ∙ omega arith
+  length-sheet n count = length-sheet-with (framesOf ls rows) all ∙ omega arith
 
   -- The last line behind the lines.
   pub sheet-written : (js old out last : List ℕ) (n most : ℕ) → js ≡ all → n ≡ length all
-      → most ≡ greatestQuotient (framesOf rows) js → out ≡ linesOf (framesOf rows) js ++ drop (30 * length js) old → last ≡ lastLine n most
-      → putMid (30 * n) (30 * n + 14 - 30 * n) out last ≡ sheetOf rows ++ drop (30 * n + 14) old
+      → most ≡ greatestQuotient (framesOf ls rows) js → out ≡ linesOf (framesOf ls rows) js ++ drop (30 * length js) old → last ≡ lastLine n most
+      → putMid (30 * n) (30 * n + 14 - 30 * n) out last ≡ sheetOf ls rows ++ drop (30 * n + 14) old
   unfolding sheetOf sheetWith
   sheet-written js old out last n most is count most-is lines last-is =
-      let begun : Begun (linesOf (framesOf rows) all) old out (30 * n) = record { count = length-lines (framesOf rows) all ∙ omega arith; is = rw (is, ← count) at lines } in
+      let begun : Begun (linesOf (framesOf ls rows) all) old out (30 * n) = record { count = length-lines (framesOf ls rows) all ∙ omega arith; is = rw (is, ← count) at lines } in
       let width : 30 * n + 14 - 30 * n ≡ 14 = omega arith in
-      rw (width, last-is, most-is, is) (begun-part _ old out (30 * n) begun (lastLine n (greatestQuotient (framesOf rows) all)) 14 (length-last-line n _) .is ∙ rw count)
+      rw (width, last-is, most-is, is) (begun-part _ old out (30 * n) begun (lastLine n (greatestQuotient (framesOf ls rows) all)) 14 (length-last-line n _) .is ∙ rw count)

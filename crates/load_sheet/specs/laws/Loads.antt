@@ -5,7 +5,6 @@ use mathlib.Core.Bool.{true, false, cond, _||_}
 use mathlib.Core.List.{List, _∷_}
 use mathlib.Core.Logic.{_≢_}
 use native.Mathlib.Numerals.{add-one}
-use native.Mathlib.Omega.{arith}
 use borrow.Author.Tests.{eq-eqb, ne-eqb}
 use lib.Dec.{eqb}
 use lib.ListN.{length, drop, drop-of-length-le}
@@ -19,7 +18,7 @@ use Rattle.bus_model.specs.Pattern.{ofNode, hyperperiod}
 use Rattle.bus_model.specs.theory.Frames.{node-pos}
 use Rattle.table_checks.specs.Columns.{field}
 use Rattle.table_checks.specs.Frames.{frameAt, framesOf}
-use Rattle.table_checks.specs.Checks.{Accepted}
+use Rattle.table_checks.specs.Checks.{Loadable, Accepted}
 use Rattle.table_checks.specs.laws.Lengths.{length-bounds}
 use Rattle.table_checks.specs.laws.Accepted.{length-frames, frame-row, accepted-limits, accepted-pattern, accepted-valid}
 use Rattle.load_sheet.specs.declared.Load.{Load}
@@ -27,16 +26,17 @@ use Rattle.load_sheet.specs.Load.{workIn, dividend, loadOf}
 use Rattle.load_sheet.specs.Sheet.{hasFrames}
 
 -- The frames of an accepted table have a period, and are short.
-pub frame-limits : (rows : List ℕ) → Accepted rows → (i : ℕ) → i < length rows / 7 → (1 ≤ row (framesOf rows) i .period) × (row (framesOf rows) i .length ≤ 400)
+pub frame-limits : (ls : List (List ℕ)) (rows : List ℕ) → Loadable ls → Accepted rows → (i : ℕ) → i < length rows / 7
+    → (1 ≤ row (framesOf ls rows) i .period) × (row (framesOf ls rows) i .length ≤ 400)
 unfolding frameAt
-frame-limits rows accepted i l =
+frame-limits ls rows loadable accepted i l =
     let m = accepted-limits rows accepted i l in
-    let short = length-bounds (field rows i 2) (field rows i 3) (m .payload-max) .1 in
-    rw (frame-row rows i l) (m .period-min, omega arith)
+    rw (frame-row ls rows i l) (m .period-min, length-bounds ls loadable (field rows i 2) (field rows i 3) (m .payload-max) .1)
 
 -- A node's hyperperiod is not 0, and small.
-pub divisor-limits : (rows : List ℕ) → Accepted rows → (j : ℕ) → 1 ≤ j → j ≤ 16 → (1 ≤ hyperperiod (ofNode (framesOf rows) j)) × (hyperperiod (ofNode (framesOf rows) j) ≤ 1000000)
-divisor-limits rows accepted j low high = (node-pos (accepted-valid rows accepted) j, accepted-pattern rows accepted j low high .0)
+pub divisor-limits : (ls : List (List ℕ)) (rows : List ℕ) → Loadable ls → Accepted rows → (j : ℕ) → 1 ≤ j → j ≤ 16
+    → (1 ≤ hyperperiod (ofNode (framesOf ls rows) j)) × (hyperperiod (ofNode (framesOf ls rows) j) ≤ 1000000)
+divisor-limits ls rows loadable accepted j low high = (node-pos (accepted-valid rows accepted ls loadable) j, accepted-pattern rows accepted ls j low high .0)
 
 -- The load by its work and its divisor.
 pub load-is : (gs : List Frame) (h w : ℕ) → h ≡ hyperperiod gs → w ≡ workIn h gs
@@ -82,13 +82,13 @@ work-cons : (h j : ℕ) (g : Frame) (gs : List Frame) → workOf h j (g ∷ gs) 
 unfolding ofNode sum workIn
 work-cons h j g gs = sum-keep _ _ (g ∷ gs) ∙ ap (λ (s : ℕ). frameWork h j g + s) (sym (sum-keep _ _ gs))
 
-module _ (rows : List ℕ) (h j : ℕ) where
+module _ (ls : List (List ℕ)) (rows : List ℕ) (h j : ℕ) where
   -- A loop down through the rows starts at 0.
-  pub work-none : Down (workOf h j) (framesOf rows) 0 (length rows / 7)
+  pub work-none : Down (workOf h j) (framesOf ls rows) 0 (length rows / 7)
   unfolding sum ofNode keep workIn
-  work-none = subst (Down (workOf h j) (framesOf rows) 0) (length-frames rows) (down-start (workOf h j) (framesOf rows) refl)
+  work-none = subst (Down (workOf h j) (framesOf ls rows) 0) (length-frames ls rows) (down-start (workOf h j) (framesOf ls rows) refl)
 
   -- It takes one frame more.
-  pub work-more : {i s r : ℕ} {g : Frame} → Down (workOf h j) (framesOf rows) s i → 0 < i → g ≡ row (framesOf rows) (i - 1) → r ≡ frameWork h j g
-      → Down (workOf h j) (framesOf rows) (r + s) (i - 1)
-  work-more {s = s} d pos is e = down-more (workOf h j) (framesOf rows) (λ g acc. frameWork h j g + acc) (work-cons h j) noFrame d pos is (ap (λ (x : ℕ). x + s) e)
+  pub work-more : {i s r : ℕ} {g : Frame} → Down (workOf h j) (framesOf ls rows) s i → 0 < i → g ≡ row (framesOf ls rows) (i - 1) → r ≡ frameWork h j g
+      → Down (workOf h j) (framesOf ls rows) (r + s) (i - 1)
+  work-more {s = s} d pos is e = down-more (workOf h j) (framesOf ls rows) (λ g acc. frameWork h j g + acc) (work-cons h j) noFrame d pos is (ap (λ (x : ℕ). x + s) e)

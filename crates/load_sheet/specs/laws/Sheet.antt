@@ -24,7 +24,7 @@ use Rattle.bus_model.specs.declared.Frame.{Frame}
 use Rattle.bus_model.specs.Frame.{noFrame, row}
 use Rattle.bus_model.specs.Pattern.{ofNode, hyperperiod}
 use Rattle.table_checks.specs.Frames.{framesOf}
-use Rattle.table_checks.specs.Checks.{Accepted}
+use Rattle.table_checks.specs.Checks.{Loadable, Accepted}
 use Rattle.table_checks.specs.laws.Accepted.{length-frames, accepted-size, accepted-valid}
 use Rattle.load_sheet.specs.declared.Load.{Load}
 use Rattle.load_sheet.specs.Load.{workIn, dividend, loadOf}
@@ -97,16 +97,16 @@ line-place fs (j ∷ js) rest (suc i) l =
     rw (next, append-assoc line (linesOf fs js) rest, ← drop-drop (30 * i) 30 (line ++ (linesOf fs js ++ rest)), drop-at line (linesOf fs js ++ rest) 30 (length-node-line j _))
     (line-place fs js rest i (omega arith))
 
-sheet-line : (rows : List ℕ) (i : ℕ) → i < length (nodesOf (framesOf rows))
-    → take 30 (drop (30 * i) (sheetOf rows)) ≡ nodeLine (getD (nodesOf (framesOf rows)) i 0) (nodeLoad (framesOf rows) (getD (nodesOf (framesOf rows)) i 0))
+sheet-line : (ls : List (List ℕ)) (rows : List ℕ) (i : ℕ) → i < length (nodesOf (framesOf ls rows))
+    → take 30 (drop (30 * i) (sheetOf ls rows)) ≡ nodeLine (getD (nodesOf (framesOf ls rows)) i 0) (nodeLoad (framesOf ls rows) (getD (nodesOf (framesOf ls rows)) i 0))
 unfolding sheetOf sheetWith
-sheet-line rows i l = line-place (framesOf rows) (nodesOf (framesOf rows)) _ i l
+sheet-line ls rows i l = line-place (framesOf ls rows) (nodesOf (framesOf ls rows)) _ i l
 
 -- and behind them stands the last line, with their number.
-sheet-last : (rows : List ℕ) → drop (30 * length (nodesOf (framesOf rows))) (sheetOf rows)
-    ≡ lastLine (length (nodesOf (framesOf rows))) (greatestQuotient (framesOf rows) (nodesOf (framesOf rows)))
+sheet-last : (ls : List (List ℕ)) (rows : List ℕ) → drop (30 * length (nodesOf (framesOf ls rows))) (sheetOf ls rows)
+    ≡ lastLine (length (nodesOf (framesOf ls rows))) (greatestQuotient (framesOf ls rows) (nodesOf (framesOf ls rows)))
 unfolding sheetOf sheetWith
-sheet-last rows = drop-at (linesOf (framesOf rows) (nodesOf (framesOf rows))) _ _ (length-lines (framesOf rows) (nodesOf (framesOf rows)))
+sheet-last ls rows = drop-at (linesOf (framesOf ls rows) (nodesOf (framesOf ls rows))) _ _ (length-lines (framesOf ls rows) (nodesOf (framesOf ls rows)))
 
 -- ---- how long it is
 
@@ -115,14 +115,14 @@ unfolding nodesOf range
 few-nodes fs = length-keep (hasFrames fs) (range 1 16)
 
 -- A sheet has at most 494 characters.
-pub sheet-most : (rows : List ℕ) → length (sheetOf rows) ≤ 494
-sheet-most rows = omega (arith, length-sheet rows (length (nodesOf (framesOf rows))) refl, few-nodes (framesOf rows))
+pub sheet-most : (ls : List (List ℕ)) (rows : List ℕ) → length (sheetOf ls rows) ≤ 494
+sheet-most ls rows = omega (arith, length-sheet ls rows (length (nodesOf (framesOf ls rows))) refl, few-nodes (framesOf ls rows))
 
--- ---- in an accepted table
+-- ---- in an accepted table, by lengths that passed
 
-module _ (rows : List ℕ) (accepted : Accepted rows) where
+module _ (ls : List (List ℕ)) (rows : List ℕ) (loadable : Loadable ls) (accepted : Accepted rows) where
   abbrev fs : List Frame
-  fs = framesOf rows
+  fs = framesOf ls rows
 
   -- ---- the nodes that have frames
 
@@ -131,7 +131,7 @@ module _ (rows : List ℕ) (accepted : Accepted rows) where
   unfolding nodesOf hasFrames
   listed {g} m =
       let (i, l, e) = place-of noFrame m in
-      let valid = accepted-valid rows accepted .frame i l in
+      let valid = accepted-valid rows accepted ls loadable .frame i l in
       mem-keep (hasFrames fs) (mem-range 1 16 (g .node) (rw e at (valid .node-low)) (omega (arith, rw e at (valid .node-high)))) (exists-mem _ m (eqb-refl (g .node)))
 
   -- and a node that is listed has a frame.
@@ -148,18 +148,18 @@ module _ (rows : List ℕ) (accepted : Accepted rows) where
   work-most : (h j : ℕ) → workIn h (ofNode fs j) ≤ 400 * h * 64
   unfolding workIn ofNode
   work-most h j =
-      let few : length (ofNode fs j) ≤ 64 = omega (arith, length-keep (λ g. eqb (g .node) j) fs, length-frames rows, accepted-size rows accepted .most) in
+      let few : length (ofNode fs j) ≤ 64 = omega (arith, length-keep (λ g. eqb (g .node) j) fs, length-frames ls rows, accepted-size rows accepted .most) in
       omega (arith, sum-bound (λ g. g .length * (h / g .period)) (400 * h) (ofNode fs j) term, mul-le-mul-left (400 * h) few)
     where
       term : (g : Frame) → Mem g (keep (λ f. eqb (f .node) j) fs) → g .length * (h / g .period) ≤ 400 * h
       term g m =
           let (i, l, e) = place-of noFrame (of-keep _ fs m .0) in
-          let short : g .length ≤ 400 = rw e at (frame-limits rows accepted i (rw (length-frames rows) at l) .1) in
+          let short : g .length ≤ 400 = rw e at (frame-limits ls rows loadable accepted i (rw (length-frames ls rows) at l) .1) in
           mul-le-mul short (div-le-self h (g .period))
 
   module _ {j : ℕ} (node : Mem j (nodesOf fs)) where
     divisor-is : (1 ≤ hyperperiod (ofNode fs j)) × (hyperperiod (ofNode fs j) ≤ 1000000)
-    divisor-is = let (low, high, g) = of-listed node in divisor-limits rows accepted j low high
+    divisor-is = let (low, high, g) = of-listed node in divisor-limits ls rows loadable accepted j low high
 
     pub remainder-below : nodeLoad fs j .remainder < nodeLoad fs j .divisor
     unfolding nodeLoad loadOf
@@ -184,7 +184,7 @@ module _ (rows : List ℕ) (accepted : Accepted rows) where
   pub most-met : (j : ℕ) × Mem j (nodesOf fs) × (nodeLoad fs j .quotient ≡ greatestQuotient fs (nodesOf fs))
   unfolding greatestQuotient
   most-met =
-      let some : 0 < length fs = omega (arith, length-frames rows, accepted-size rows accepted .some, accepted-size rows accepted .whole) in
+      let some : 0 < length fs = omega (arith, length-frames ls rows, accepted-size rows accepted .some, accepted-size rows accepted .whole) in
       let first = listed (mem-getD fs 0 noFrame some) in
       elim (decLt 0 (greatestQuotient fs (nodesOf fs))) [
         | yes more ↦
@@ -195,9 +195,9 @@ module _ (rows : List ℕ) (accepted : Accepted rows) where
 
   -- ---- the lines, and the last line
 
-  pub line-reads : (i : ℕ) → i < length (nodesOf fs) → LineReads (take 30 (drop (30 * i) (sheetOf rows))) (getD (nodesOf fs) i 0) (nodeLoad fs (getD (nodesOf fs) i 0))
-  line-reads i l = rw (sheet-line rows i l) (load-reads (mem-getD (nodesOf fs) i 0 l))
+  pub line-reads : (i : ℕ) → i < length (nodesOf fs) → LineReads (take 30 (drop (30 * i) (sheetOf ls rows))) (getD (nodesOf fs) i 0) (nodeLoad fs (getD (nodesOf fs) i 0))
+  line-reads i l = rw (sheet-line ls rows i l) (load-reads (mem-getD (nodesOf fs) i 0 l))
 
-  pub last-reads : LastReads (drop (30 * length (nodesOf fs)) (sheetOf rows)) (length (nodesOf fs)) (greatestQuotient fs (nodesOf fs))
+  pub last-reads : LastReads (drop (30 * length (nodesOf fs)) (sheetOf ls rows)) (length (nodesOf fs)) (greatestQuotient fs (nodesOf fs))
   unfolding greatestQuotient
-  last-reads = rw (sheet-last rows) (end-reads _ _ (few-nodes fs) (greatest-le (nodesOf fs) (λ j m. quotient-most m)))
+  last-reads = rw (sheet-last ls rows) (end-reads _ _ (few-nodes fs) (greatest-le (nodesOf fs) (λ j m. quotient-most m)))

@@ -25,8 +25,8 @@ use Rattle.bus_model.specs.theory.Judged.{certified-meets, margin-sign}
 use Rattle.table_checks.specs.declared.Checked.{Checked}
 use Rattle.table_checks.specs.declared.Checked.the-variants.{Passed, Failed}
 use Rattle.table_checks.specs.Frames.{framesOf}
-use Rattle.table_checks.specs.Checks.{rowsCheck, Accepted}
-use Rattle.table_checks.specs.laws.Accepted.{length-frames, accepted-size, accepted-valid}
+use Rattle.table_checks.specs.Checks.{loadedCheck, Loadable, Accepted}
+use Rattle.table_checks.specs.laws.Accepted.{length-frames, loaded-both, accepted-size, accepted-valid}
 use Rattle.workload.specs.Grouped.{FineTable, InTable}
 use Rattle.row_judgement.specs.declared.Cause.{Cause}
 use Rattle.row_judgement.specs.declared.Refusal.{Refusal}
@@ -109,44 +109,44 @@ module _ (fs : List Frame) (r : ℕ) {k : Frame} (is : k ≡ row fs r) where
 -- ---- a row
 
 -- A number below the number of rows is one of a row.
-pub row-inside : (rows : List ℕ) {r : ℕ} → r < length rows / 7 → r < length (framesOf rows)
-row-inside rows l = rw (length-frames rows) l
+pub row-inside : (ls : List (List ℕ)) (rows : List ℕ) {r : ℕ} → r < length rows / 7 → r < length (framesOf ls rows)
+row-inside ls rows l = rw (length-frames ls rows) l
 
 -- The claim stands in the table, which is short.
-pub claim-inside : (rows : List ℕ) → Accepted rows → {i : ℕ} → i < length (framesOf rows) → (7 * i + 6 < length rows) × (length rows ≤ 448)
-claim-inside rows accepted {i} l =
+pub claim-inside : (ls : List (List ℕ)) (rows : List ℕ) → Accepted rows → {i : ℕ} → i < length (framesOf ls rows) → (7 * i + 6 < length rows) × (length rows ≤ 448)
+claim-inside ls rows accepted {i} l =
     let size = accepted-size rows accepted in
-    let h : i < length rows / 7 = rw (length-frames rows) at l in
+    let h : i < length rows / 7 = rw (length-frames ls rows) at l in
     (omega arith, size .most)
 
 -- What holds of every refusal, and of the judgement of a row of an accepted table, holds of what judging a row answers.
-pub by-judged : (P : Judged → Type 0) (rows : List ℕ) (r : ℕ) → ((f : Refusal) → P (NotJudged f))
-    → (Accepted rows → r < length rows / 7 → P (Verdict (judge (framesOf rows) (row (framesOf rows) r) (claimOf rows r))))
-    → P (judgeRow rows r)
+pub by-judged : (P : Judged → Type 0) (ls : List (List ℕ)) (rows : List ℕ) (r : ℕ) → ((f : Refusal) → P (NotJudged f))
+    → (Loadable ls → Accepted rows → r < length rows / 7 → P (Verdict (judge (framesOf ls rows) (row (framesOf ls rows) r) (claimOf rows r))))
+    → P (judgeRow ls rows r)
 unfolding judgeRow judgeChecked
-by-judged P rows r refused given = go (rowsCheck rows) refl
+by-judged P ls rows r refused given = go (loadedCheck ls rows) refl
   where
-    go : (checked : Checked) → rowsCheck rows ≡ checked → P (judgeChecked checked rows r)
+    go : (checked : Checked) → loadedCheck ls rows ≡ checked → P (judgeChecked checked ls rows r)
     go (Failed f) e = refused (ofTable f)
     go Passed e =
         cond-cases P (noRow rows r) (λ t. refused _)
-        (λ has. let some : ¬ (length rows / 7 ≤ r) = λ le. has (le→leb _ _ le) in given e (omega arith))
+        (λ has. let some : ¬ (length rows / 7 ≤ r) = λ le. has (le→leb _ _ le) in let both = loaded-both ls rows e in given (both .0) (both .1) (omega arith))
 
 -- Demand 3: where judging a row certifies its frame, the frame meets its claim.
-pub judged-meets : (rows : List ℕ) (r : ℕ) → T (certified (judgeRow rows r)) → MeetsClaim (framesOf rows) r (claimOf rows r)
+pub judged-meets : (ls : List (List ℕ)) (rows : List ℕ) (r : ℕ) → T (certified (judgeRow ls rows r)) → MeetsClaim (framesOf ls rows) r (claimOf rows r)
 unfolding certified
-judged-meets rows r =
-    by-judged (λ j. T (certified j) → MeetsClaim (framesOf rows) r (claimOf rows r)) rows r (λ f t. absurd t)
-    (λ accepted l. certified-meets (accepted-valid rows accepted) (row-inside rows l) (claimOf rows r))
+judged-meets ls rows r =
+    by-judged (λ j. T (certified j) → MeetsClaim (framesOf ls rows) r (claimOf rows r)) ls rows r (λ f t. absurd t)
+    (λ loadable accepted l. certified-meets (accepted-valid rows accepted ls loadable) (row-inside ls rows l) (claimOf rows r))
 
 -- Where a row is judged, its margin is below zero exactly for verdicts 3 and 12.
-pub judged-sign : (rows : List ℕ) (r : ℕ) (j : Judgement) → judgeRow rows r ≡ Verdict j → MarginSign j
-judged-sign rows r =
-    by-judged (λ answer. (j : Judgement) → answer ≡ Verdict j → MarginSign j) rows r
+pub judged-sign : (ls : List (List ℕ)) (rows : List ℕ) (r : ℕ) (j : Judgement) → judgeRow ls rows r ≡ Verdict j → MarginSign j
+judged-sign ls rows r =
+    by-judged (λ answer. (j : Judgement) → answer ≡ Verdict j → MarginSign j) ls rows r
     (λ f j e. absurd (let z : _≡_ {A = ℕ} 0 1 = cc in omega arith))
-    (λ accepted l j e. let is : judge (framesOf rows) (row (framesOf rows) r) (claimOf rows r) ≡ j = cc in subst MarginSign is (margin-sign _ _ _))
+    (λ loadable accepted l j e. let is : judge (framesOf ls rows) (row (framesOf ls rows) r) (claimOf rows r) ≡ j = cc in subst MarginSign is (margin-sign _ _ _))
 
 -- So what the code answers tells all: it is the judgement, a certified frame meets its claim, and the margin has its sign.
-pub answered : (rows : List ℕ) (r : ℕ) {answer : Judged} → answer ≡ judgeRow rows r
-    → (answer ≡ judgeRow rows r) × ((T (certified answer) → MeetsClaim (framesOf rows) r (claimOf rows r)) × ((j : Judgement) → answer ≡ Verdict j → MarginSign j))
-answered rows r e = (e, (λ t. judged-meets rows r (subst (λ j. T (certified j)) e t), λ j is. judged-sign rows r j (sym e ∙ is)))
+pub answered : (ls : List (List ℕ)) (rows : List ℕ) (r : ℕ) {answer : Judged} → answer ≡ judgeRow ls rows r
+    → (answer ≡ judgeRow ls rows r) × ((T (certified answer) → MeetsClaim (framesOf ls rows) r (claimOf rows r)) × ((j : Judgement) → answer ≡ Verdict j → MarginSign j))
+answered ls rows r e = (e, (λ t. judged-meets ls rows r (subst (λ j. T (certified j)) e t), λ j is. judged-sign ls rows r j (sym e ∙ is)))

@@ -16,8 +16,9 @@ use Rattle.table_checks.specs.declared.Checked.{Checked}
 use Rattle.table_checks.specs.declared.Checked.the-variants.{Passed, Failed}
 use Rattle.table_checks.specs.Frames.{framesOf}
 use Rattle.table_checks.specs.Refusal.{numberOf as tableNumberOf, checkReturns}
-use Rattle.table_checks.specs.Checks.{rowsCheck}
-use Rattle.table_checks.specs.laws.Returns.{number-range as table-number-range, number-some as table-number-some, causeOf as tableCauseOf, cause-back as table-cause-back}
+use Rattle.table_checks.specs.Checks.{loadedCheck}
+use Rattle.table_checks.specs.Returns.{loadedReturns}
+use Rattle.table_checks.specs.laws.Returns.{number-range as table-number-range, number-some as table-number-some, causeOf as tableCauseOf, cause-back as table-cause-back, loaded-returned}
 use Rattle.row_judgement.specs.declared.Cause.{Cause}
 use Rattle.row_judgement.specs.declared.Cause.the-variants.{Table, NoSuchRow, NoWindow, TooManyScenarios}
 use Rattle.row_judgement.specs.declared.Refusal.{Refusal}
@@ -32,8 +33,8 @@ use Rattle.row_judgement.specs.laws.Judged.{by-judged, answered}
 
 -- ---- the causes
 
--- The numbers are 1 to 12.
-pub number-range : (cause : Cause) → (1 ≤ numberOf cause) × (numberOf cause ≤ 12)
+-- The numbers are 1 to 14.
+pub number-range : (cause : Cause) → (1 ≤ numberOf cause) × (numberOf cause ≤ 14)
 unfolding numberOf
 number-range (Table cause) = let r = table-number-range cause in omega arith
 number-range NoSuchRow = omega arith
@@ -86,19 +87,22 @@ pub judged-settles : (a b : Judged) → JudgedWhole a → JudgedWhole b → judg
 judged-settles a b p q e = sym (judged-back a p) ∙ ap judgedOf e ∙ judged-back b q
 
 -- and what judging a row answers is such an answer.
-pub judged-whole : (rows : List ℕ) (r : ℕ) → JudgedWhole (judgeRow rows r)
-judged-whole rows r = by-judged JudgedWhole rows r (λ f. tt) (λ accepted l. judge-whole (framesOf rows) (row (framesOf rows) r) (claimOf rows r))
+pub judged-whole : (ls : List (List ℕ)) (rows : List ℕ) (r : ℕ) → JudgedWhole (judgeRow ls rows r)
+judged-whole ls rows r =
+    by-judged JudgedWhole ls rows r (λ f. tt) (λ loadable accepted l. judge-whole (framesOf ls rows) (row (framesOf ls rows) r) (claimOf rows r))
 
-judge-returned : (check : Checked) (rows : List ℕ) (r : ℕ) → judgedReturns (judgeChecked check rows r) ≡ judgeReturns (checkReturns check) rows r
+judge-returned : (check : Checked) (ls : List (List ℕ)) (rows : List ℕ) (r : ℕ) → judgedReturns (judgeChecked check ls rows r) ≡ judgeReturns (checkReturns check) ls rows r
 unfolding numberOf checkReturns judgedReturns judgeReturns judgeChecked
-judge-returned Passed rows r = cond-map judgedReturns (noRow rows r) _ _ ∙ rw (judge-finds (framesOf rows) (row (framesOf rows) r) (claimOf rows r))
-judge-returned (Failed f) rows r = rw (ne-eqb _ _ (table-number-some (f .cause)))
+judge-returned Passed ls rows r = cond-map judgedReturns (noRow rows r) _ _ ∙ rw (judge-finds (framesOf ls rows) (row (framesOf ls rows) r) (claimOf rows r))
+judge-returned (Failed f) ls rows r = rw (ne-eqb _ _ (table-number-some (f .cause)))
 
 -- What the code answers is told in numbers too.
-pub judged-told : (rows : List ℕ) (r : ℕ) {answer : Judged} → answer ≡ judgeRow rows r
-    → (answer ≡ judgeRow rows r) × ((T (certified answer) → MeetsClaim (framesOf rows) r (claimOf rows r)) × (((j : Judgement) → answer ≡ Verdict j → MarginSign j) × (judgedReturns answer ≡ judgeReturns (checkReturns (rowsCheck rows)) rows r)))
+pub judged-told : (ls : List (List ℕ)) (rows : List ℕ) (r : ℕ) {answer : Judged} → answer ≡ judgeRow ls rows r
+    → (answer ≡ judgeRow ls rows r) × ((T (certified answer) → MeetsClaim (framesOf ls rows) r (claimOf rows r)) × (((j : Judgement) → answer ≡ Verdict j → MarginSign j) × (judgedReturns answer ≡ judgeReturns (loadedReturns ls rows) ls rows r)))
 unfolding judgeRow
-judged-told rows r e = let (is, (never-late, sign)) = answered rows r e in (is, (never-late, (sign, ap judgedReturns e ∙ judge-returned (rowsCheck rows) rows r)))
+judged-told ls rows r e =
+    let (is, (never-late, sign)) = answered ls rows r e in
+    (is, (never-late, (sign, ap judgedReturns e ∙ judge-returned (loadedCheck ls rows) ls rows r ∙ rw (loaded-returned ls rows))))
 
 -- ---- the precise bound alone
 
@@ -115,13 +119,13 @@ bounded-back (NotBounded f) = rw (ne-eqb _ _ (number-some (f .cause)), cause-bac
 pub bounded-settles : (a b : Bounded) → boundedReturns a ≡ boundedReturns b → a ≡ b
 bounded-settles a b e = sym (bounded-back a) ∙ ap boundedOf e ∙ bounded-back b
 
-bound-returned : (check : Checked) (rows : List ℕ) (r : ℕ) → boundedReturns (boundChecked check rows r) ≡ boundReturns (checkReturns check) rows r
+bound-returned : (check : Checked) (ls : List (List ℕ)) (rows : List ℕ) (r : ℕ) → boundedReturns (boundChecked check ls rows r) ≡ boundReturns (checkReturns check) ls rows r
 unfolding numberOf checkReturns boundedReturns boundReturns boundChecked boundFrame
-bound-returned Passed rows r = simp (cond-map boundedReturns)
-bound-returned (Failed f) rows r = rw (ne-eqb _ _ (table-number-some (f .cause)))
+bound-returned Passed ls rows r = simp (cond-map boundedReturns)
+bound-returned (Failed f) ls rows r = rw (ne-eqb _ _ (table-number-some (f .cause)))
 
 -- What the code answers is told in numbers too.
-pub bounded-told : (rows : List ℕ) (r : ℕ) {b : Bounded} → b ≡ boundRow rows r
-    → (b ≡ boundRow rows r) × (boundedReturns b ≡ boundReturns (checkReturns (rowsCheck rows)) rows r)
+pub bounded-told : (ls : List (List ℕ)) (rows : List ℕ) (r : ℕ) {b : Bounded} → b ≡ boundRow ls rows r
+    → (b ≡ boundRow ls rows r) × (boundedReturns b ≡ boundReturns (loadedReturns ls rows) ls rows r)
 unfolding boundRow
-bounded-told rows r e = (e, ap boundedReturns e ∙ bound-returned (rowsCheck rows) rows r)
+bounded-told ls rows r e = (e, ap boundedReturns e ∙ bound-returned (loadedCheck ls rows) ls rows r ∙ rw (loaded-returned ls rows))

@@ -1,4 +1,4 @@
--- The frames of an accepted table, as they are put into an area.
+-- The frames of an accepted table by loaded lengths, as they are put into an area.
 use Prim.Native.Nat.{ℕ, _*_, _/_, _<_}
 use mathlib.Core.Path.{_≡_}
 use mathlib.Core.List.{List}
@@ -8,7 +8,7 @@ use lib.ListN.{length, take}
 use Rattle.bus_model.specs.Frame.{row}
 use Rattle.table_checks.specs.Columns.{field}
 use Rattle.table_checks.specs.Frames.{priorityOf, frameAt, framesOf}
-use Rattle.table_checks.specs.Checks.{Accepted}
+use Rattle.table_checks.specs.Checks.{Loadable, Accepted}
 use Rattle.table_checks.specs.laws.Lengths.{length-bounds}
 use Rattle.table_checks.specs.laws.Limits.{identified-cases}
 use Rattle.table_checks.specs.laws.Accepted.{length-frames, frame-row, accepted-size, accepted-limits, accepted-pattern, accepted-valid}
@@ -16,12 +16,12 @@ use Rattle.workload.specs.Stored.{stored}
 use Rattle.workload.specs.Grouped.{Fine, FineTable}
 use Rattle.workload.specs.laws.Stored.{StoredTo, stored-all}
 
-module _ (rows : List ℕ) (accepted : Accepted rows) where
-  row-fine : (i : ℕ) → i < length rows / 7 → Fine (frameAt rows i)
+module _ (ls : List (List ℕ)) (loadable : Loadable ls) (rows : List ℕ) (accepted : Accepted rows) where
+  row-fine : (i : ℕ) → i < length rows / 7 → Fine (frameAt ls rows i)
   unfolding frameAt
   row-fine i l =
       let m = accepted-limits rows accepted i l in
-      let c = length-bounds (field rows i 2) (field rows i 3) (m .payload-max) in
+      let c = length-bounds ls loadable (field rows i 2) (field rows i 3) (m .payload-max) in
       record {
         node-low = m .node-min;
         node-high = m .node-max;
@@ -32,20 +32,21 @@ module _ (rows : List ℕ) (accepted : Accepted rows) where
         offset = m .offset-max;
       }
 
-  pub accepted-fine : FineTable (framesOf rows)
+  pub accepted-fine : FineTable (framesOf ls rows)
   accepted-fine = record {
-    few = omega (arith, length-frames rows, accepted-size rows accepted .most);
-    valid = accepted-valid rows accepted;
-    fine = λ i l. let h : i < length rows / 7 = omega (arith, length-frames rows) in rw (frame-row rows i h) (row-fine i h);
-    hyper = λ j low high. accepted-pattern rows accepted j low high .0;
+    few = omega (arith, length-frames ls rows, accepted-size rows accepted .most);
+    valid = accepted-valid rows accepted ls loadable;
+    fine = λ i l. let h : i < length rows / 7 = omega (arith, length-frames ls rows) in rw (frame-row ls rows i h) (row-fine i h);
+    hyper = λ j low high. accepted-pattern rows accepted ls j low high .0;
   }
 
+module _ (ls : List (List ℕ)) (rows : List ℕ) (accepted : Accepted rows) where
   -- Their priorities are numbers of 32 bits.
-  pub priority-short : (i : ℕ) → i < length rows / 7 → row (framesOf rows) i .priority < 4294967296
+  pub priority-short : (i : ℕ) → i < length rows / 7 → row (framesOf ls rows) i .priority < 4294967296
   unfolding frameAt priorityOf
   priority-short i l =
       let m = accepted-limits rows accepted i l in
-      rw (frame-row rows i l) (
+      rw (frame-row ls rows i l) (
       elim (identified-cases (field rows i 2) (field rows i 1) (m .identified)) [
         | inl a ↦ rw (a .0) (omega (arith, a .1))
         | inr a ↦ rw (a .0) (omega (arith, a .1))
@@ -53,6 +54,6 @@ module _ (rows : List ℕ) (accepted : Accepted rows) where
       )
 
   -- Where they are all put, they are the frames of the area.
-  pub all-stored : {area : List ℕ} {i : ℕ} → StoredTo (frameAt rows) area i → i ≡ length rows / 7 → stored (take (6 * (length rows / 7)) area) ≡ framesOf rows
+  pub all-stored : {area : List ℕ} {i : ℕ} → StoredTo (frameAt ls rows) area i → i ≡ length rows / 7 → stored (take (6 * (length rows / 7)) area) ≡ framesOf ls rows
   unfolding framesOf
   all-stored s is = rw is at (stored-all s (omega (arith, accepted-size rows accepted .most)))

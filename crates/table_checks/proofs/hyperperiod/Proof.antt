@@ -1,13 +1,13 @@
 -- `table_checks::hyperperiod` meets its contract: it is found on a copy of the rows, and the limit of accepted tables cuts nothing off.
 use Prim.Native.Nat.{ℕ}
 use mathlib.Core.Path.{_≡_, ap, _∙_}
-use mathlib.Core.List.{List}
+use mathlib.Core.List.{List, []}
 use native.Mathlib.Omega.{arith}
 use borrow.Author.Needs.{needs}
 use lib.ListN.{length, take, length-take}
 use lib.Seq.{take-append-seam}
 use Rattle.bus_model.specs.theory.Hyperperiod.{hyperOf}
-use Rattle.table_checks.specs.Frames.{framesOf}
+use Rattle.table_checks.specs.Frames.{unmeasured}
 use Rattle.table_checks.specs.laws.Accepted.{accepted-size, accepted-periods, accepted-pattern}
 use Rattle.table_checks.proofs.hyperperiod.Statement.{statement}
 use Rattle.table_checks.proofs.hyperperiod.Tie as tie
@@ -37,8 +37,8 @@ returns : tie.Need-returns
 returns c =
     let start = c .before .before .before .before .before .before in
     let node : ℕ = start .args .node in
-    let whole = accepted-pattern _ (start .pre .0) node (start .pre .1 .0) (start .pre .1 .1) .0 in
-    omega (arith, c .bounded-hyperperiod .ensures, ap (λ (t : List ℕ). hyperOf node (framesOf t)) (copied (c .before)))
+    let whole = accepted-pattern _ (start .pre .0) [] node (start .pre .1 .0) (start .pre .1 .1) .0 in
+    omega (arith, c .bounded-hyperperiod .ensures, ap (λ (t : List ℕ). hyperOf node (unmeasured t)) (copied (c .before)))
 
 pub hyperperiod-spec : {M : Type 1} → statement M
 hyperperiod-spec =

@@ -1,18 +1,19 @@
 -- What is known of an accepted table: its size, the limits of its numbers, its nodes' patterns,
--- and that its frames are valid in the sense of the bus model.
+-- and that its frames, by lengths that passed, are valid in the sense of the bus model.
 use Prim.Native.Nat.{ℕ, _+_, _-_, _/_, _≤_, _<_}
-use mathlib.Core.Path.{_≡_, sym, ap, subst, _∙_}
+use mathlib.Core.Path.{_≡_, refl, sym, ap, subst, _∙_}
 use mathlib.Core.Bool.{true, cond}
-use mathlib.Core.List.{List}
+use mathlib.Core.List.{List, [], _∷_, map}
 use native.Mathlib.Nat.{zero-add}
 use native.Mathlib.Omega.{arith}
 use native.Mathlib.Decide.{ℕ-discrete, decLt}
 use borrow.Author.Tests.{eq-eqb, ltb-false}
-use lib.Dec.{T, ltb}
+use lib.Dec.{T, ltb, eqb}
 use lib.ListN.{length, length-map}
-use Rattle.arith.specs.Lists.{range}
+use Rattle.arith.specs.Lists.{sum, keep, range}
+use Rattle.arith.specs.Multiples.{lcm, lcmOf}
 use Rattle.arith.specs.laws.Tests.{by-test}
-use Rattle.arith.specs.laws.Members.{length-range, getD-table, getD-beyond, exists-mem, mem-range}
+use Rattle.arith.specs.laws.Members.{fold-keep, length-range, getD-table, getD-beyond, exists-mem, mem-range}
 use Rattle.bus_model.specs.declared.Frame.{Frame}
 use Rattle.bus_model.specs.Frame.{noFrame, row}
 use Rattle.bus_model.specs.Pattern.{ofNode, hyperperiod, patternReleases}
@@ -20,9 +21,9 @@ use Rattle.bus_model.specs.Valid.{ValidFrame, Valid}
 use Rattle.table_checks.specs.declared.Cause.the-variants.{Duplicate, Hyperperiod, Releases}
 use Rattle.table_checks.specs.declared.Checked.the-variants.{Passed}
 use Rattle.table_checks.specs.Columns.{field}
-use Rattle.table_checks.specs.Frames.{frameAt, framesOf}
+use Rattle.table_checks.specs.Frames.{frameAt, framesOf, unmeasured}
 use Rattle.table_checks.specs.Refusal.{failed}
-use Rattle.table_checks.specs.Checks.{rowsSizeCheck, columnsCheck, isSameFrame, standsEarlier, lineCheck, linesCheck, nodeCheck, nodesCheck, tableCheck, rowsCheck, Accepted}
+use Rattle.table_checks.specs.Checks.{lengthsCheck, rowsSizeCheck, columnsCheck, isSameFrame, standsEarlier, lineCheck, linesCheck, nodeCheck, nodesCheck, tableCheck, rowsCheck, loadedCheck, Accepted, Loadable}
 use Rattle.table_checks.specs.Steps.{Periods}
 use Rattle.table_checks.specs.laws.First.{first-passed, first-each}
 use Rattle.table_checks.specs.laws.Limits.{Limits, not-passed, lines-each, lines-periods}
@@ -33,17 +34,45 @@ use Rattle.table_checks.specs.laws.Sizes.{RowsSize, rows-size}
 -- ---- the frames of a table
 
 -- There is a frame for each row.
-pub length-frames : (t : List ℕ) → length (framesOf t) ≡ length t / 7
+pub length-frames : (ls : List (List ℕ)) (t : List ℕ) → length (framesOf ls t) ≡ length t / 7
 unfolding framesOf
-length-frames t = length-map (range 0 (length t / 7)) (frameAt t) ∙ length-range 0 (length t / 7)
+length-frames ls t = length-map (range 0 (length t / 7)) (frameAt ls t) ∙ length-range 0 (length t / 7)
 
-pub frame-row : (t : List ℕ) (i : ℕ) → i < length t / 7 → row (framesOf t) i ≡ frameAt t i
+pub frame-row : (ls : List (List ℕ)) (t : List ℕ) (i : ℕ) → i < length t / 7 → row (framesOf ls t) i ≡ frameAt ls t i
 unfolding framesOf
-frame-row t i l = getD-table (frameAt t) 0 (length t / 7) i noFrame l ∙ ap (frameAt t) (zero-add i)
+frame-row ls t i l = getD-table (frameAt ls t) 0 (length t / 7) i noFrame l ∙ ap (frameAt ls t) (zero-add i)
 
 -- No frame stands beyond the last row.
-pub no-row : (t : List ℕ) (i : ℕ) → length t / 7 ≤ i → row (framesOf t) i ≡ noFrame
-no-row t i l = getD-beyond (framesOf t) i noFrame (rw (length-frames t) l)
+pub no-row : (ls : List (List ℕ)) (t : List ℕ) (i : ℕ) → length t / 7 ≤ i → row (framesOf ls t) i ≡ noFrame
+no-row ls t i l = getD-beyond (framesOf ls t) i noFrame (rw (length-frames ls t) l)
+
+-- ---- a node's pattern is the same by any lengths
+
+module _ (t : List ℕ) (j : ℕ) {B : Type 0} (F : List Frame → B) (step : ℕ → B → B) (more : (g : Frame) (gs : List Frame) → F (g ∷ gs) ≡ step (g .period) (F gs)) where
+  -- what a row's frame adds to a fold over the node's frames that looks at their periods
+  abbrev added : ℕ → B → B
+  added i b = cond (eqb (field t i 0) j) (step (field t i 4) b) b
+
+  fold-more : (ls : List (List ℕ)) (i : ℕ) (is : List ℕ) → F (ofNode (map (frameAt ls t) (i ∷ is)) j) ≡ added i (F (ofNode (map (frameAt ls t) is) j))
+  unfolding ofNode frameAt
+  fold-more ls i is = fold-keep F (λ g. step (g .period)) more (λ g. eqb (g .node) j) (frameAt ls t i) (map (frameAt ls t) is)
+
+  fold-same : (ls : List (List ℕ)) (is : List ℕ) → F (ofNode (map (frameAt ls t) is) j) ≡ F (ofNode (map (frameAt [] t) is) j)
+  unfolding ofNode keep
+  fold-same ls [] = refl
+  fold-same ls (i ∷ is) = fold-more ls i is ∙ ap (added i) (fold-same ls is) ∙ sym (fold-more [] i is)
+
+module _ (ls : List (List ℕ)) (t : List ℕ) (j : ℕ) where
+  pub hyper-same : hyperperiod (ofNode (framesOf ls t) j) ≡ hyperperiod (ofNode (unmeasured t) j)
+  unfolding framesOf
+  hyper-same = fold-same t j hyperperiod lcm (λ g gs. unfold hyperperiod lcmOf in refl) ls (range 0 (length t / 7))
+
+  pub releases-same : patternReleases (ofNode (framesOf ls t) j) ≡ patternReleases (ofNode (unmeasured t) j)
+  unfolding framesOf patternReleases
+  releases-same =
+      let h = hyperperiod (ofNode (unmeasured t) j) in
+      ap (λ n. sum (λ g. n / g .period) (ofNode (framesOf ls t) j)) hyper-same
+      ∙ fold-same t j (sum (λ g. h / g .period)) (λ p s. h / p + s) (λ g gs. unfold sum in refl) ls (range 0 (length t / 7))
 
 -- ---- no frame stands twice
 
@@ -55,6 +84,11 @@ line-differs t i m e l p q =
     by-test (standsEarlier t i)
     (λ s. not-passed {cause = Duplicate} {place = i + 1} (simp s at (first-passed (columnsCheck t i) (cond (standsEarlier t i) (failed Duplicate (i + 1)) Passed) e .1)))
     (λ s. subst T s (exists-mem (isSameFrame t i) (mem-range 0 i m (omega arith) (omega arith)) (rw same tt)))
+
+-- Where lengths and rows pass, both do.
+pub loaded-both : (ls : List (List ℕ)) (rows : List ℕ) → loadedCheck ls rows ≡ Passed → Loadable ls × Accepted rows
+unfolding loadedCheck
+loaded-both ls rows e = first-passed (lengthsCheck ls) (rowsCheck rows) e
 
 module _ (rows : List ℕ) (accepted : Accepted rows) where
   table-passed : tableCheck rows ≡ Passed
@@ -68,7 +102,7 @@ module _ (rows : List ℕ) (accepted : Accepted rows) where
 
   lines-passed : linesCheck rows ≡ Passed
   unfolding tableCheck
-  lines-passed = first-passed (linesCheck rows) (nodesCheck (framesOf rows)) table-passed .0
+  lines-passed = first-passed (linesCheck rows) (nodesCheck (unmeasured rows)) table-passed .0
 
   -- The numbers of each row are within their limits.
   pub accepted-limits : (i : ℕ) → i < length rows / 7 → Limits rows i
@@ -79,54 +113,58 @@ module _ (rows : List ℕ) (accepted : Accepted rows) where
 
   -- ---- patterns
 
-  node-passed : (j : ℕ) → 1 ≤ j → j ≤ 16 → nodeCheck (framesOf rows) j ≡ Passed
+  node-passed : (j : ℕ) → 1 ≤ j → j ≤ 16 → nodeCheck (unmeasured rows) j ≡ Passed
   unfolding tableCheck nodesCheck
   node-passed j low high =
       let z : 1 + (j - 1) ≡ j = omega arith in
-      rw z at (first-each (nodeCheck (framesOf rows)) 16 1 (first-passed (linesCheck rows) (nodesCheck (framesOf rows)) table-passed .1) (j - 1) (omega arith))
+      rw z at (first-each (nodeCheck (unmeasured rows)) 16 1 (first-passed (linesCheck rows) (nodesCheck (unmeasured rows)) table-passed .1) (j - 1) (omega arith))
 
-  -- Each node's pattern is within its limits.
-  pub accepted-pattern : (j : ℕ) → 1 ≤ j → j ≤ 16 → (hyperperiod (ofNode (framesOf rows) j) ≤ 1000000) × (patternReleases (ofNode (framesOf rows) j) ≤ 256)
+  pattern-limits : (j : ℕ) → 1 ≤ j → j ≤ 16 → (hyperperiod (ofNode (unmeasured rows) j) ≤ 1000000) × (patternReleases (ofNode (unmeasured rows) j) ≤ 256)
   unfolding nodeCheck
-  accepted-pattern j low high =
+  pattern-limits j low high =
       let e = node-passed j low high in
-      let gs : List Frame = ofNode (framesOf rows) j in
+      let gs : List Frame = ofNode (unmeasured rows) j in
       by-test (ltb 1000000 (hyperperiod gs)) (λ h. not-passed {cause = Hyperperiod} {place = j} (simp h at e))
       (λ h. by-test (ltb 256 (patternReleases gs)) (λ r. not-passed {cause = Releases} {place = j} (simp (h, r) at e))
       (λ r. (ltb-false _ _ h, ltb-false _ _ r)))
 
+  -- Each node's pattern is within its limits, whatever the lengths are.
+  pub accepted-pattern : (ls : List (List ℕ)) (j : ℕ) → 1 ≤ j → j ≤ 16 → (hyperperiod (ofNode (framesOf ls rows) j) ≤ 1000000) × (patternReleases (ofNode (framesOf ls rows) j) ≤ 256)
+  accepted-pattern ls j low high = rw (hyper-same ls rows j, releases-same ls rows j) (pattern-limits j low high)
+
   -- ---- the frames are valid
 
-  valid-frame : (i : ℕ) → i < length rows / 7 → ValidFrame (frameAt rows i)
-  unfolding frameAt
-  valid-frame i l =
-      let m = accepted-limits i l in
-      let c = length-bounds (field rows i 2) (field rows i 3) (m .payload-max) in
-      record { period = m .period-min; length = omega (arith, c .0); node-low = m .node-min; node-high = m .node-max; offset = m .offset-max }
+  module _ (ls : List (List ℕ)) (loadable : Loadable ls) where
+    valid-frame : (i : ℕ) → i < length rows / 7 → ValidFrame (frameAt ls rows i)
+    unfolding frameAt
+    valid-frame i l =
+        let m = accepted-limits i l in
+        let c = length-bounds ls loadable (field rows i 2) (field rows i 3) (m .payload-max) in
+        record { period = m .period-min; length = omega (arith, c .0); node-low = m .node-min; node-high = m .node-max; offset = m .offset-max }
 
-  no-duplicate : (i j : ℕ) → i < j → j < length rows / 7 → frameAt rows i .priority ≡ frameAt rows j .priority → ⊥
-  unfolding frameAt linesCheck
-  no-duplicate i j l h e =
-      let p = priority-same _ _ _ _ (accepted-limits i (omega arith) .identified) (accepted-limits j h .identified) e in
-      line-differs rows j i (rw zero-add at (first-each (lineCheck rows) (length rows / 7) 0 lines-passed j h)) l (p .1) (p .0)
+    no-duplicate : (i j : ℕ) → i < j → j < length rows / 7 → frameAt ls rows i .priority ≡ frameAt ls rows j .priority → ⊥
+    unfolding frameAt linesCheck
+    no-duplicate i j l h e =
+        let p = priority-same _ _ _ _ (accepted-limits i (omega arith) .identified) (accepted-limits j h .identified) e in
+        line-differs rows j i (rw zero-add at (first-each (lineCheck rows) (length rows / 7) 0 lines-passed j h)) l (p .1) (p .0)
 
-  pub accepted-valid : Valid (framesOf rows)
-  accepted-valid = record { frame = frame; distinct = distinct }
-    where
-      frame : (i : ℕ) → i < length (framesOf rows) → ValidFrame (row (framesOf rows) i)
-      frame i l =
-          let h : i < length rows / 7 = rw (length-frames rows) at l in
-          rw (frame-row rows i h) (valid-frame i h)
+    pub accepted-valid : Valid (framesOf ls rows)
+    accepted-valid = record { frame = frame; distinct = distinct }
+      where
+        frame : (i : ℕ) → i < length (framesOf ls rows) → ValidFrame (row (framesOf ls rows) i)
+        frame i l =
+            let h : i < length rows / 7 = rw (length-frames ls rows) at l in
+            rw (frame-row ls rows i h) (valid-frame i h)
 
-      distinct : (i j : ℕ) → i < length (framesOf rows) → j < length (framesOf rows) → row (framesOf rows) i .priority ≡ row (framesOf rows) j .priority → i ≡ j
-      distinct i j a b e =
-          let a′ : i < length rows / 7 = rw (length-frames rows) at a in
-          let b′ : j < length rows / 7 = rw (length-frames rows) at b in
-          let same : frameAt rows i .priority ≡ frameAt rows j .priority = rw (frame-row rows i a′, frame-row rows j b′) at e in
-          elim (ℕ-discrete i j) [
-            | yes is ↦ is
-            | no ne ↦ elim (decLt i j) [
-              | yes l ↦ absurd (no-duplicate i j l b′ same)
-              | no l ↦ absurd (no-duplicate j i (omega arith) a′ (sym same))
+        distinct : (i j : ℕ) → i < length (framesOf ls rows) → j < length (framesOf ls rows) → row (framesOf ls rows) i .priority ≡ row (framesOf ls rows) j .priority → i ≡ j
+        distinct i j a b e =
+            let a′ : i < length rows / 7 = rw (length-frames ls rows) at a in
+            let b′ : j < length rows / 7 = rw (length-frames ls rows) at b in
+            let same : frameAt ls rows i .priority ≡ frameAt ls rows j .priority = rw (frame-row ls rows i a′, frame-row ls rows j b′) at e in
+            elim (ℕ-discrete i j) [
+              | yes is ↦ is
+              | no ne ↦ elim (decLt i j) [
+                | yes l ↦ absurd (no-duplicate i j l b′ same)
+                | no l ↦ absurd (no-duplicate j i (omega arith) a′ (sym same))
+              ]
             ]
-          ]

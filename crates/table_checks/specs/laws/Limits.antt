@@ -46,7 +46,7 @@ column-within t i j e =
     (λ m. by-test (within j (field t i (j - 1)) (field t i j)) (λ w. w)
     (λ w. not-passed {cause = Limit} {place = i + 1} (simp (u, m, w) at e))))
 
-between-true : (low high v : ℕ) → between low high v ≡ true → (low ≤ v) × (v ≤ high)
+pub between-true : (low high v : ℕ) → between low high v ≡ true → (low ≤ v) × (v ≤ high)
 unfolding between
 between-true low high v e = let b = and-both (leb low v) (leb v high) e in (leb-true low v (b .0), leb-true v high (b .1))
 

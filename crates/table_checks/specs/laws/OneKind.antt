@@ -20,26 +20,26 @@ use Rattle.table_checks.specs.Checks.{firstOf, nodeCheck, nodesCheck}
 use Rattle.table_checks.specs.laws.Rank.{shorts, longs}
 
 -- the frames of a table under a rank, given by kind and identifier
-abbrev pub framesBy : (ℕ → ℕ → ℕ) → List ℕ → List Frame
-framesBy rank t = map (λ i. recast (λ g. rank (field t i 2) (field t i 1)) (λ g. g .offset) (frameAt t i)) (range 0 (length t / 7))
+abbrev pub framesBy : (ℕ → ℕ → ℕ) → List (List ℕ) → List ℕ → List Frame
+framesBy rank ls t = map (λ i. recast (λ g. rank (field t i 2) (field t i 1)) (λ g. g .offset) (frameAt ls t i)) (range 0 (length t / 7))
 
 -- "Rank" as document 01 had it: kind 11 goes ahead of kind 29; within a kind the smaller identifier goes first
 abbrev pub formerRank : ℕ → ℕ → ℕ
 formerRank kind identifier = cond (eqb kind 11) identifier (2048 + identifier)
 
 -- A table's frames are those under today's rank.
-pub frames-ranked : (t : List ℕ) → framesOf t ≡ framesBy priorityOf t
+pub frames-ranked : (ls : List (List ℕ)) (t : List ℕ) → framesOf ls t ≡ framesBy priorityOf ls t
 unfolding framesOf frameAt
-frames-ranked t = refl
+frames-ranked ls t = refl
 
 -- The rank rises with the identifiers of a kind.
 abbrev pub RisesIn : ℕ → (ℕ → ℕ → ℕ) → Type 0
 RisesIn kind rank = (a b : ℕ) → a < b → rank kind a < rank kind b
 
-module _ (t : List ℕ) (kind : ℕ) (all : (i : ℕ) → i < length t / 7 → field t i 2 ≡ kind) where
+module _ (ls : List (List ℕ)) (t : List ℕ) (kind : ℕ) (all : (i : ℕ) → i < length t / 7 → field t i 2 ≡ kind) where
   -- the frames with their identifiers for priorities
   abbrev plain : List Frame
-  plain = framesBy (λ k i. i) t
+  plain = framesBy (λ k i. i) ls t
 
   module _ (rank : ℕ → ℕ → ℕ) (rises : RisesIn kind rank) where
     abbrev ranks : Frame → ℕ
@@ -48,14 +48,14 @@ module _ (t : List ℕ) (kind : ℕ) (all : (i : ℕ) → i < length t / 7 → f
     keeps : KeepsOrder ranks plain
     keeps = keeps-rising (rank kind) (λ f g m n less. rises (f .priority) (g .priority) less)
 
-    by-plain : framesBy rank t ≡ map (recast ranks (λ g. g .offset)) plain
+    by-plain : framesBy rank ls t ≡ map (recast ranks (λ g. g .offset)) plain
     by-plain = map-same (range 0 (length t / 7)) (λ i m. let (low, high) = of-range 0 (length t / 7) m in rw (all i (omega arith))) ∙ sym (map-map _ _ (range 0 (length t / 7)))
 
-    as-plain : SameAnswers (framesBy rank t) plain
+    as-plain : SameAnswers (framesBy rank ls t) plain
     as-plain = rw by-plain (ranked-answers ranks keeps)
 
   -- Two ranks that rise with the identifiers of the kind give the same answers.
-  pub one-kind : (rank other : ℕ → ℕ → ℕ) → RisesIn kind rank → RisesIn kind other → SameAnswers (framesBy rank t) (framesBy other t)
+  pub one-kind : (rank other : ℕ → ℕ → ℕ) → RisesIn kind rank → RisesIn kind other → SameAnswers (framesBy rank ls t) (framesBy other ls t)
   one-kind rank other rises rises′ = answers-through (as-plain rank rises) (as-plain other rises′)
 
 -- Both ranks rise within each kind.
@@ -68,9 +68,9 @@ former-rises kind (inl e) a b less = rw e (omega arith)
 former-rises kind (inr e) a b less = rw e (omega arith)
 
 -- So tables of one kind keep all the answers that document 01's rank gave,
-pub answers-kept : (t : List ℕ) (kind : ℕ) → (kind ≡ 11) ⊎ (kind ≡ 29) → ((i : ℕ) → i < length t / 7 → field t i 2 ≡ kind)
-    → SameAnswers (framesOf t) (framesBy formerRank t)
-answers-kept t kind is all = rw (frames-ranked t) (one-kind t kind all priorityOf formerRank (today-rises kind is) (former-rises kind is))
+pub answers-kept : (ls : List (List ℕ)) (t : List ℕ) (kind : ℕ) → (kind ≡ 11) ⊎ (kind ≡ 29) → ((i : ℕ) → i < length t / 7 → field t i 2 ≡ kind)
+    → SameAnswers (framesOf ls t) (framesBy formerRank ls t)
+answers-kept ls t kind is all = rw (frames-ranked ls t) (one-kind ls t kind all priorityOf formerRank (today-rises kind is) (former-rises kind is))
 
 -- and their nodes pass the same checks.
 pub checks-kept : {fs gs : List Frame} → SameAnswers fs gs → nodesCheck fs ≡ nodesCheck gs

@@ -1,23 +1,27 @@
--- The file is read into rows of its own; a refusal of the file is encoded, and a table that was read is judged and its judgement encoded.
+-- A refusal of the lengths is encoded; with lengths that were read the row is judged.
 use Prim.Native.Nat.{ℕ}
-use mathlib.Core.Path.{refl, ap, _∙_}
+use mathlib.Core.Path.{ap, _∙_}
 use mathlib.Core.List.{List}
-use borrow.Author.Needs.{needs}
 use Rattle.arith.specs.laws.Signed.{kept}
-use Rattle.row_judgement.specs.Judge.{judgeRow}
+use Rattle.frame_table.specs.Table.{readCheck}
 use Rattle.certifier.specs.Encode.{judgeFile, judgeRead, encodeJudged, encodeRefusal}
-use Rattle.frame_table.specs.laws.Reading.{ReadRows, read-refused, read-rows}
+use Rattle.lengths_file.specs.laws.Input.{ReadLengths, lengths-read, lengths-refused}
+use borrow.Author.Needs.{needs}
 use Rattle.certifier.proofs.encode.certifier_judge.Statement.{statement}
 use Rattle.certifier.proofs.encode.certifier_judge.Tie as tie
 
-slice-aggregate-read : tie.Need-slice-aggregate-read
-slice-aggregate-read c = search needs
+abbrev start : tie.After-read → tie.Start
+start c = c .before .before .before
+
+-- the lengths of the file
+loaded : (c : tie.After-lengths-of) → let s = start (c .before .before .before) in ReadLengths (s .args .lengths .now) (s .args .table .now) (c .lengths-of .result)
+loaded c = lengths-read _ _ (c .before .before .before .read .ensures .0) (c .before .enum-told .given .1) (c .lengths-of .ensures)
 
 read-requires : tie.Need-read-requires
 read-requires c κs = search needs
 
-enum-known-answer : tie.Need-enum-known-answer
-enum-known-answer c = search needs
+enum-known-checked : tie.Need-enum-known-checked
+enum-known-checked c = search needs
 
 of-table-requires : tie.Need-of-table-requires
 of-table-requires c κs = search needs
@@ -25,49 +29,40 @@ of-table-requires c κs = search needs
 encode-refusal-requires : tie.Need-encode-refusal-requires
 encode-refusal-requires c κs = search needs
 
-enum-known-answer-2 : tie.Need-enum-known-answer-2
-enum-known-answer-2 c = search needs
+enum-told : tie.Need-enum-told
+enum-told c = search needs
 
--- what was read is the table
-table : (c : tie.After-known-told2) → ReadRows (c .before .before .before .before .before .before .before .args .table .now) (c .before .before .before .before .read .last .1 .0) (c .before .answer2 .given .0 .0)
-table c = let r = c .before .before .before .before .read in read-rows _ _ _ refl (r .ensures .0) _ _ (r .ensures .1 .0) (c .before .answer2 .given .1)
+lengths-of-requires : tie.Need-lengths-of-requires
+lengths-of-requires c κs = search needs
 
-array-share-prefix-rows : tie.Need-array-share-prefix-rows
-array-share-prefix-rows c = table c .room
-
-slice-aggregate-encode-judgement-of : tie.Need-slice-aggregate-encode-judgement-of
-slice-aggregate-encode-judgement-of c = table (c .before) .size
-
-encode-judgement-of-requires : tie.Need-encode-judgement-of-requires
-encode-judgement-of-requires c κs = search needs
+judge-table-requires : tie.Need-judge-table-requires
+judge-table-requires c κs = search needs
 
 returns : tie.Need-returns
 unfolding encodeJudged judgeFile judgeRead
 returns c =
-    let r = c .before .before .before .before .before .before in
+    let r = c .before .before .before .before .before in
     kept _ (c .encode-refusal .ok) ∙ c .encode-refusal .ensures
-    ∙ rw (read-refused (r .before .before .before .args .table .now) _ _ refl (r .read .ensures .0) _ (c .before .before .before .answer .given .1)) (ap encodeRefusal (c .before .of-table .ensures))
+    ∙ rw (lengths-refused _ (start r .args .table .now) (r .read .ensures .0) (c .before .before .before .checked .given .1)) (ap encodeRefusal (c .before .of-table .ensures))
 
 returns-2 : tie.Need-returns-2
-unfolding judgeFile judgeRead
+unfolding judgeFile
 returns-2 c =
-    let t = table (c .before .before) in
-    let a = c .before .before .before .before .before .before .before .before .before .args in
-    kept _ (c .encode-judgement-of .ok) ∙ c .encode-judgement-of .ensures
-    ∙ ap encodeJudged (rw (t .passed) (ap (λ (rows : List ℕ). judgeRow rows (a .row)) (t .rows)))
+    let l = loaded (c .before) in
+    let a = start (c .before .before .before .before) .args in
+    kept _ (c .judge-table .ok) ∙ c .judge-table .ensures
+    ∙ ap encodeJudged (rw (l .passed) (ap (λ (ls : List (List ℕ)). judgeRead (readCheck (a .table .now)) ls (a .table .now) (a .row)) (l .is)))
 
 pub certifier-judge-spec : {M : Type 1} → statement M
 certifier-judge-spec =
     tie.close
     (tie.spec
-    slice-aggregate-read
     read-requires
-    enum-known-answer
+    enum-known-checked
     of-table-requires
     encode-refusal-requires
-    enum-known-answer-2
-    array-share-prefix-rows
-    slice-aggregate-encode-judgement-of
-    encode-judgement-of-requires
+    enum-told
+    lengths-of-requires
+    judge-table-requires
     returns
     returns-2)

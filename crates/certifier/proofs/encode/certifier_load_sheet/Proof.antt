@@ -11,7 +11,7 @@ write-requires : tie.Need-write-requires
 write-requires c κs = search needs
 
 encode-answer-requires : tie.Need-encode-answer-requires
-encode-answer-requires c κs = subst Countable (sym (c .before .before .write .ensures .0)) (sheet-countable _ _)
+encode-answer-requires c κs = subst Countable (sym (c .before .before .write .ensures .0)) (sheet-countable _ _ _)
 
 same-length : tie.Need-same-length
 same-length c = search needs

@@ -1,23 +1,27 @@
--- The file is read into rows of its own; a refusal of the file is encoded, and of a table that was read the row's bound is.
+-- A refusal of the lengths is encoded; with lengths that were read the row is bounded.
 use Prim.Native.Nat.{ℕ}
-use mathlib.Core.Path.{refl, ap, _∙_}
+use mathlib.Core.Path.{ap, _∙_}
 use mathlib.Core.List.{List}
-use borrow.Author.Needs.{needs}
 use Rattle.arith.specs.laws.Signed.{kept}
-use Rattle.row_judgement.specs.Judge.{boundRow}
+use Rattle.frame_table.specs.Table.{readCheck}
 use Rattle.certifier.specs.Encode.{boundFile, boundRead, encodeBounded, encodeRefusal}
-use Rattle.frame_table.specs.laws.Reading.{ReadRows, read-refused, read-rows}
+use Rattle.lengths_file.specs.laws.Input.{ReadLengths, lengths-read, lengths-refused}
+use borrow.Author.Needs.{needs}
 use Rattle.certifier.proofs.encode.certifier_precise_bound.Statement.{statement}
 use Rattle.certifier.proofs.encode.certifier_precise_bound.Tie as tie
 
-slice-aggregate-read : tie.Need-slice-aggregate-read
-slice-aggregate-read c = search needs
+abbrev start : tie.After-read → tie.Start
+start c = c .before .before .before
+
+-- the lengths of the file
+loaded : (c : tie.After-lengths-of) → let s = start (c .before .before .before) in ReadLengths (s .args .lengths .now) (s .args .table .now) (c .lengths-of .result)
+loaded c = lengths-read _ _ (c .before .before .before .read .ensures .0) (c .before .enum-told .given .1) (c .lengths-of .ensures)
 
 read-requires : tie.Need-read-requires
 read-requires c κs = search needs
 
-enum-known-answer : tie.Need-enum-known-answer
-enum-known-answer c = search needs
+enum-known-checked : tie.Need-enum-known-checked
+enum-known-checked c = search needs
 
 of-table-requires : tie.Need-of-table-requires
 of-table-requires c κs = search needs
@@ -25,53 +29,40 @@ of-table-requires c κs = search needs
 encode-refusal-requires : tie.Need-encode-refusal-requires
 encode-refusal-requires c κs = search needs
 
-enum-known-answer-2 : tie.Need-enum-known-answer-2
-enum-known-answer-2 c = search needs
+enum-told : tie.Need-enum-told
+enum-told c = search needs
 
--- what was read is the table
-table : (c : tie.After-known-told2) → ReadRows (c .before .before .before .before .before .before .before .args .table .now) (c .before .before .before .before .read .last .1 .0) (c .before .answer2 .given .0 .0)
-table c = let r = c .before .before .before .before .read in read-rows _ _ _ refl (r .ensures .0) _ _ (r .ensures .1 .0) (c .before .answer2 .given .1)
+lengths-of-requires : tie.Need-lengths-of-requires
+lengths-of-requires c κs = search needs
 
-array-share-prefix-rows : tie.Need-array-share-prefix-rows
-array-share-prefix-rows c = table c .room
-
-slice-aggregate-precise-bound : tie.Need-slice-aggregate-precise-bound
-slice-aggregate-precise-bound c = table (c .before) .size
-
-precise-bound-requires : tie.Need-precise-bound-requires
-precise-bound-requires c κs = search needs
-
-encode-bounded-requires : tie.Need-encode-bounded-requires
-encode-bounded-requires c κs = search needs
+bound-table-requires : tie.Need-bound-table-requires
+bound-table-requires c κs = search needs
 
 returns : tie.Need-returns
 unfolding encodeBounded boundFile boundRead
 returns c =
-    let r = c .before .before .before .before .before .before in
+    let r = c .before .before .before .before .before in
     kept _ (c .encode-refusal .ok) ∙ c .encode-refusal .ensures
-    ∙ rw (read-refused (r .before .before .before .args .table .now) _ _ refl (r .read .ensures .0) _ (c .before .before .before .answer .given .1)) (ap encodeRefusal (c .before .of-table .ensures))
+    ∙ rw (lengths-refused _ (start r .args .table .now) (r .read .ensures .0) (c .before .before .before .checked .given .1)) (ap encodeRefusal (c .before .of-table .ensures))
 
 returns-2 : tie.Need-returns-2
-unfolding boundFile boundRead
+unfolding boundFile
 returns-2 c =
-    let t = table (c .before .before .before) in
-    let a = c .before .before .before .before .before .before .before .before .before .before .args in
-    kept _ (c .encode-bounded .ok) ∙ c .encode-bounded .ensures
-    ∙ ap encodeBounded (c .before .precise-bound .ensures .0 ∙ rw (t .passed) (ap (λ (rows : List ℕ). boundRow rows (a .row)) (t .rows)))
+    let l = loaded (c .before) in
+    let a = start (c .before .before .before .before) .args in
+    kept _ (c .bound-table .ok) ∙ c .bound-table .ensures
+    ∙ ap encodeBounded (rw (l .passed) (ap (λ (ls : List (List ℕ)). boundRead (readCheck (a .table .now)) ls (a .table .now) (a .row)) (l .is)))
 
 pub certifier-precise-bound-spec : {M : Type 1} → statement M
 certifier-precise-bound-spec =
     tie.close
     (tie.spec
-    slice-aggregate-read
     read-requires
-    enum-known-answer
+    enum-known-checked
     of-table-requires
     encode-refusal-requires
-    enum-known-answer-2
-    array-share-prefix-rows
-    slice-aggregate-precise-bound
-    precise-bound-requires
-    encode-bounded-requires
+    enum-told
+    lengths-of-requires
+    bound-table-requires
     returns
     returns-2)

@@ -12,7 +12,7 @@ judge-requires : tie.Need-judge-requires
 judge-requires c κs = search needs
 
 encode-judged-requires : tie.Need-encode-judged-requires
-encode-judged-requires c κs = subst Encodable (sym (c .judge .ensures .0)) (judged-encodable _ _)
+encode-judged-requires c κs = subst Encodable (sym (c .judge .ensures .0)) (judged-encodable _ _ _)
 
 returns : tie.Need-returns
 returns c = kept _ (c .encode-judged .ok) ∙ c .encode-judged .ensures ∙ ap encodeJudged (c .before .judge .ensures .0)

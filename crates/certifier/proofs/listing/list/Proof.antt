@@ -1,63 +1,54 @@
--- `certifier::listing::list` meets its contract: what the file is read into is its table, and a file that is turned back is answered with its refusal.
+-- `certifier::listing::list` meets its contract: lengths that are turned back are answered with their refusal, and with others the table is listed.
 use mathlib.Core.Path.{refl}
-use borrow.Author.Needs.{needs}
 use Rattle.frame_table.specs.laws.Areas.{area-refused}
-use Rattle.frame_table.specs.laws.Reading.{ReadRows, read-rows, read-refused}
-use Rattle.frame_table.specs.laws.Returns.{answer-told}
+use Rattle.lengths_file.specs.laws.Input.{ReadLengths, lengths-read, lengths-refused, input-told}
+use borrow.Author.Needs.{needs}
 use Rattle.certifier.proofs.listing.list.Statement.{statement}
 use Rattle.certifier.proofs.listing.list.Tie as tie
 
--- the table of the file
-read : (c : tie.After-known-told) → ReadRows (c .before .before .before .before .before .before .before .before .args .file .now) (c .before .before .before .before .read .last .1 .0) (c .before .answer .given .0 .0)
-read c =
-    let both = c .before .before .before .before .read .ensures in
-    read-rows _ _ _ refl (both .0) _ _ (both .1 .0) (c .before .answer .given .1)
+abbrev start : tie.After-read → tie.Start
+start c = c .before .before .before .before
 
-slice-aggregate-read : tie.Need-slice-aggregate-read
-slice-aggregate-read c = search needs
+-- the lengths of the file
+loaded : (c : tie.After-lengths-of) → let s = start (c .before .before .before) in ReadLengths (s .args .lengths .now) (s .args .file .now) (c .lengths-of .result)
+loaded c = lengths-read _ _ (c .before .before .before .read .ensures .0) (c .before .enum-told .given .1) (c .lengths-of .ensures)
 
 read-requires : tie.Need-read-requires
 read-requires c κs = search needs
 
+enum-known-checked : tie.Need-enum-known-checked
+enum-known-checked c = search needs
+
 enum-told : tie.Need-enum-told
 enum-told c = search needs
 
-enum-known-answer : tie.Need-enum-known-answer
-enum-known-answer c = search needs
+lengths-of-requires : tie.Need-lengths-of-requires
+lengths-of-requires c κs = search needs
 
-array-share-prefix-rows : tie.Need-array-share-prefix-rows
-array-share-prefix-rows c = read c .room
-
-slice-aggregate-list-rows : tie.Need-slice-aggregate-list-rows
-slice-aggregate-list-rows c = read (c .before) .size
-
-list-rows-requires : tie.Need-list-rows-requires
-list-rows-requires c κs = read (c .before .before) .accepted
+list-table-requires : tie.Need-list-table-requires
+list-table-requires c κs = loaded (c .before) .loadable
 
 returns : tie.Need-returns
 returns c =
-    let at-read = c .before .before .before in
-    answer-told _ _ _ (area-refused _ _ _ _ _ (read-refused _ _ _ refl (at-read .read .ensures .0) _ (c .enum-told .given .1)) (c .enum-told .given .1))
+    input-told _ _ _ _ (area-refused _ _ _ _ _ (lengths-refused _ _ (c .before .before .before .read .ensures .0) (c .before .checked .given .1)) refl)
 
 same-length : tie.Need-same-length
 same-length c = search needs
 
 returns-2 : tie.Need-returns-2
 returns-2 c =
-    let table = read (c .before .before .before .before .before) in
-    answer-told _ _ _ (rw (table .passed, ← table .rows) (c .before .before .list-rows .ensures))
+    let l = loaded (c .before .before .before .before) in
+    input-told _ _ _ _ (rw (l .passed, ← l .is) (c .before .before .list-table .ensures))
 
 pub list-spec : {M : Type 1} → statement M
 list-spec =
     tie.close
     (tie.spec
-    slice-aggregate-read
     read-requires
+    enum-known-checked
     enum-told
-    enum-known-answer
-    array-share-prefix-rows
-    slice-aggregate-list-rows
-    list-rows-requires
+    lengths-of-requires
+    list-table-requires
     returns
     same-length
     returns-2)

@@ -11,10 +11,10 @@ use Rattle.load_sheet.proofs.loads.has_frames.Statement.{statement}
 use Rattle.load_sheet.proofs.loads.has_frames.Tie as tie
 
 abbrev Inv-loop : tie.InvT-loop
-Inv-loop rows node i₀ i = Decides (framesOf rows) node i × (i ≤ length rows / 7)
+Inv-loop lengths rows node i₀ i = Decides (framesOf lengths rows) node i × (i ≤ length rows / 7)
 
 abbrev μ-loop : tie.MeasureT-loop
-μ-loop rows node i₀ i = length rows / 7 - i
+μ-loop lengths rows node i₀ i = length rows / 7 - i
 
 loop-holds : tie.Need-loop-holds Inv-loop μ-loop
 loop-holds c = (refl, search needs)
@@ -26,8 +26,8 @@ returns : tie.Need-returns Inv-loop μ-loop
 returns c =
     let at-frame = c .before .before in
     let at-loop = at-frame .before .before in
-    let rows = at-loop .before .before .args .rows .now in
-    found-here _ _ (at-loop .loop .i) _ (omega (arith, length-frames rows, at-frame .before .loop-test .taken)) (at-frame .frame .ensures) (at-loop .loop .inv .0) (c .if1 .taken)
+    let a = at-loop .before .before .args in
+    found-here _ _ (at-loop .loop .i) _ (omega (arith, length-frames (a .lengths) (a .rows .now), at-frame .before .loop-test .taken)) (at-frame .frame .ensures) (at-loop .loop .inv .0) (c .if1 .taken)
 
 add-i : tie.Need-add-i Inv-loop μ-loop
 add-i c = search needs
@@ -39,13 +39,13 @@ loop-again : tie.Need-loop-again Inv-loop μ-loop
 loop-again c =
     let at-frame = c .before .before in
     let at-loop = at-frame .before .before in
-    let rows = at-loop .before .before .args .rows .now in
-    (found-later _ _ (at-loop .loop .i) _ (omega (arith, length-frames rows, at-frame .before .loop-test .taken)) (at-frame .frame .ensures) (at-loop .loop .inv .0) (c .if1 .left), search needs)
+    let a = at-loop .before .before .args in
+    (found-later _ _ (at-loop .loop .i) _ (omega (arith, length-frames (a .lengths) (a .rows .now), at-frame .before .loop-test .taken)) (at-frame .frame .ensures) (at-loop .loop .inv .0) (c .if1 .left), search needs)
 
 returns-2 : tie.Need-returns-2 Inv-loop μ-loop
 returns-2 c =
-    let rows = c .before .before .before .args .rows .now in
-    found-none _ _ (c .before .loop .i) (omega (arith, length-frames rows, c .loop-test .left)) (c .before .loop .inv .0)
+    let a = c .before .before .before .args in
+    found-none _ _ (c .before .loop .i) (omega (arith, length-frames (a .lengths) (a .rows .now), c .loop-test .left)) (c .before .loop .inv .0)
 
 pub has-frames-spec : {M : Type 1} → statement M
 has-frames-spec =

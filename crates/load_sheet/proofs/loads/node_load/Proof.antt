@@ -1,36 +1,44 @@
 -- `load_sheet::loads::node_load` meets its contract: the divisor is the hyperperiod, which is not 0.
+use Prim.Native.Nat.{_≤_}
+use mathlib.Core.Path.{_≡_, sym, _∙_}
 use native.Mathlib.Omega.{arith}
 use borrow.Author.Needs.{needs}
+use Rattle.bus_model.specs.Pattern.{ofNode, hyperperiod}
+use Rattle.table_checks.specs.Frames.{framesOf}
+use Rattle.table_checks.specs.laws.Accepted.{hyper-same}
 use Rattle.load_sheet.specs.Sheet.{nodeLoad}
 use Rattle.load_sheet.specs.laws.Loads.{divisor-limits, load-is}
 use Rattle.load_sheet.proofs.loads.node_load.Statement.{statement}
 use Rattle.load_sheet.proofs.loads.node_load.Tie as tie
 
+-- the hyperperiod is the same by any lengths
+divisor : (c : tie.After-hyperperiod) → let a = c .before .before .args in c .hyperperiod .result ≡ hyperperiod (ofNode (framesOf (a .lengths) (a .rows .now)) (a .node))
+divisor c = let a = c .before .before .args in c .hyperperiod .ensures ∙ sym (hyper-same (a .lengths) (a .rows .now) (a .node))
+
+limits : (c : tie.After-hyperperiod) → (1 ≤ c .hyperperiod .result) × (c .hyperperiod .result ≤ 1000000)
+limits c =
+    let pre = c .before .before .pre in
+    rw (divisor c) (divisor-limits _ _ (pre .0 .0) (pre .0 .1) _ (pre .1 .0) (pre .1 .1))
+
 hyperperiod-requires : tie.Need-hyperperiod-requires
 hyperperiod-requires c κs = search needs
 
 work-requires : tie.Need-work-requires
-work-requires c κs =
-    let start = c .before .before in
-    (start .pre .0, omega (arith, c .hyperperiod .ensures, divisor-limits _ (start .pre .0) _ (start .pre .1 .0) (start .pre .1 .1) .1))
+work-requires c κs = (c .before .before .pre .0, limits c .1)
 
 mul-dividend : tie.Need-mul-dividend
 mul-dividend c = search needs
 
-div-t5 : tie.Need-div-t5
-div-t5 c =
-    let start = c .before .before .before in
-    omega (arith, c .before .hyperperiod .ensures, divisor-limits _ (start .pre .0) _ (start .pre .1 .0) (start .pre .1 .1) .0)
+div-t6 : tie.Need-div-t6
+div-t6 c = omega (arith, limits (c .before) .0)
 
-rem-t6 : tie.Need-rem-t6
-rem-t6 c =
-    let start = c .before .before .before in
-    omega (arith, c .before .hyperperiod .ensures, divisor-limits _ (start .pre .0) _ (start .pre .1 .0) (start .pre .1 .1) .0)
+rem-t7 : tie.Need-rem-t7
+rem-t7 c = omega (arith, limits (c .before) .0)
 
 returns : tie.Need-returns
 unfolding nodeLoad
-returns c = load-is _ _ _ (c .before .hyperperiod .ensures) (c .work .ensures .0)
+returns c = load-is _ _ _ (divisor (c .before)) (c .work .ensures .0)
 
 pub node-load-spec : {M : Type 1} → statement M
 node-load-spec =
-    tie.close (tie.spec hyperperiod-requires work-requires mul-dividend div-t5 rem-t6 returns)
+    tie.close (tie.spec hyperperiod-requires work-requires mul-dividend div-t6 rem-t7 returns)

@@ -11,13 +11,13 @@ use Rattle.load_sheet.proofs.loads.work.Statement.{statement}
 use Rattle.load_sheet.proofs.loads.work.Tie as tie
 
 abbrev Inv-loop : tie.InvT-loop
-Inv-loop rows node h sum₀ i₀ sum i = Down (workOf h node) (framesOf rows) sum i × (sum ≤ 400000000 * (length rows / 7 - i)) × (i ≤ length rows / 7)
+Inv-loop lengths rows node h sum₀ i₀ sum i = Down (workOf h node) (framesOf lengths rows) sum i × (sum ≤ 400000000 * (length rows / 7 - i)) × (i ≤ length rows / 7)
 
 abbrev μ-loop : tie.MeasureT-loop
-μ-loop rows node h sum₀ i₀ sum i = i
+μ-loop lengths rows node h sum₀ i₀ sum i = i
 
 loop-holds : tie.Need-loop-holds Inv-loop μ-loop
-loop-holds c = (work-none _ _ _, search needs, search needs)
+loop-holds c = (work-none _ _ _ _, search needs, search needs)
 
 sub-i : tie.Need-sub-i Inv-loop μ-loop
 sub-i c = search needs
@@ -29,13 +29,13 @@ frame-work-requires : tie.Need-frame-work-requires Inv-loop μ-loop
 frame-work-requires c κs =
     let at-loop = c .before .before in
     let start = at-loop .before .before in
-    let m = frame-limits _ (start .pre .0) (at-loop .loop .i - 1) (omega (arith, at-loop .loop .inv .2, c .before .loop-test .taken)) in
+    let m = frame-limits _ _ (start .pre .0 .0) (start .pre .0 .1) (at-loop .loop .i - 1) (omega (arith, at-loop .loop .inv .2, c .before .loop-test .taken)) in
     (start .pre .1, rw (c .frame .ensures) (m .0), rw (c .frame .ensures) (m .1))
 
 add-sum : tie.Need-add-sum Inv-loop μ-loop
 add-sum c =
     let at-loop = c .before .before .before in
-    omega (arith, accepted-size _ (at-loop .before .before .pre .0) .most, at-loop .loop .inv .1, c .frame-work .ensures .1)
+    omega (arith, accepted-size _ (at-loop .before .before .pre .0 .1) .most, at-loop .loop .inv .1, c .frame-work .ensures .1)
 
 loop-less : tie.Need-loop-less Inv-loop μ-loop
 loop-less c = search needs
@@ -44,7 +44,7 @@ loop-again : tie.Need-loop-again Inv-loop μ-loop
 loop-again c =
     let at-loop = c .before .before .before in
     let some = c .before .before .loop-test .taken in (
-      work-more _ _ _ (at-loop .loop .inv .0) some (c .before .frame .ensures) (c .frame-work .ensures .0),
+      work-more _ _ _ _ (at-loop .loop .inv .0) some (c .before .frame .ensures) (c .frame-work .ensures .0),
       omega (arith, at-loop .loop .inv .1, at-loop .loop .inv .2, some, c .frame-work .ensures .1),
       search needs,
     )
@@ -52,7 +52,7 @@ loop-again c =
 returns : tie.Need-returns Inv-loop μ-loop
 returns c =
     let at-loop = c .before in
-    (down-end _ _ (at-loop .loop .inv .0) (c .loop-test .left), omega (arith, at-loop .loop .inv .1, accepted-size _ (at-loop .before .before .pre .0) .most))
+    (down-end _ _ (at-loop .loop .inv .0) (c .loop-test .left), omega (arith, at-loop .loop .inv .1, accepted-size _ (at-loop .before .before .pre .0 .1) .most))
 
 pub work-spec : {M : Type 1} → statement M
 work-spec =

@@ -10,10 +10,10 @@ use Rattle.load_sheet.proofs.sheet.write_lines.Statement.{statement}
 use Rattle.load_sheet.proofs.sheet.write_lines.Tie as tie
 
 abbrev Inv-loop : tie.InvT-loop
-Inv-loop rows nodes out₀ most₀ i₀ out most i = Written (framesOf rows) nodes out₀ out most i × (length out ≡ length out₀)
+Inv-loop lengths rows nodes out₀ most₀ i₀ out most i = Written (framesOf lengths rows) nodes out₀ out most i × (length out ≡ length out₀)
 
 abbrev μ-loop : tie.MeasureT-loop
-μ-loop rows nodes out₀ most₀ i₀ out most i = length nodes - i
+μ-loop lengths rows nodes out₀ most₀ i₀ out most i = length nodes - i
 
 loop-holds : tie.Need-loop-holds Inv-loop μ-loop
 loop-holds c = (written-none _ _ _, refl)

@@ -29,8 +29,8 @@ returns : tie.Need-returns
 returns c =
     let at-nodes = c .before .before .before in
     let start = at-nodes .before .before .before .before in
-    area-short Passed (sheetOf (start .args .rows .now)) (start .args .out .now) _ _
-    (length-sheet (start .args .rows .now) _ (at-nodes .find-nodes .ensures .1 .0)) refl (c .before .if1 .taken) (c .no-room .ensures)
+    area-short Passed (sheetOf (start .args .lengths) (start .args .rows .now)) (start .args .out .now) _ _
+    (length-sheet (start .args .lengths) (start .args .rows .now) _ (at-nodes .find-nodes .ensures .1 .0)) refl (c .before .if1 .taken) (c .no-room .ensures)
 
 array-share-prefix-nodes : tie.Need-array-share-prefix-nodes
 array-share-prefix-nodes c = search needs
@@ -75,9 +75,9 @@ returns-2 c =
     let start = at-nodes .before .before .before .before in
     let found = at-nodes .find-nodes .ensures in
     let lines = at-lines .write-lines .ensures in
-    area-written Passed (sheetOf (start .args .rows .now)) (start .args .out .now) _ _
-    (length-sheet (start .args .rows .now) _ (found .1 .0)) refl (at-if .if1 .left)
-    (sheet-written (start .args .rows .now) _ _ _ _ _ _ (found .0) (found .1 .0) (lines .0) (lines .1) (at-last .write-last .ensures))
+    area-written Passed (sheetOf (start .args .lengths) (start .args .rows .now)) (start .args .out .now) _ _
+    (length-sheet (start .args .lengths) (start .args .rows .now) _ (found .1 .0)) refl (at-if .if1 .left)
+    (sheet-written (start .args .lengths) (start .args .rows .now) _ _ _ _ _ _ (found .0) (found .1 .0) (lines .0) (lines .1) (at-last .write-last .ensures))
 
 pub write-rows-spec : {M : Type 1} → statement M
 write-rows-spec =

@@ -31,8 +31,8 @@ bound-stored-requires : tie.Need-bound-stored-requires
 bound-stored-requires c κs =
     let s = c .before .before .before .before .before .before in
     let all = c .before .before .store .ensures in
-    let long : length (c .before .before .store .last .1 .0) ≡ 384 = c .before .before .store .kept .1 .0 in
-    ((omega (arith, long, accepted-size _ (s .pre .0) .most), subst FineTable (sym all) (accepted-fine _ (s .pre .0))), subst (λ fs. (s .args .i < length fs) × (c .before .before .before .before .frame .result ≡ row fs (s .args .i))) (sym all) (s .pre .1, c .before .before .before .before .frame .ensures))
+    let long : length (c .before .before .store .last .1 .1 .0) ≡ 384 = c .before .before .store .kept .1 .1 .0 in
+    ((omega (arith, long, accepted-size _ (s .pre .0 .1) .most), subst FineTable (sym all) (accepted-fine _ (s .pre .0 .0) _ (s .pre .0 .1))), subst (λ fs. (s .args .i < length fs) × (c .before .before .before .before .frame .result ≡ row fs (s .args .i))) (sym all) (s .pre .1, c .before .before .before .before .frame .ensures))
 
 returns : tie.Need-returns
 returns c = c .bound-stored .ensures ∙ ap (λ fs. boundFrame fs (c .before .before .before .before .before .before .before .args .i)) (c .before .before .before .store .ensures)

@@ -12,10 +12,10 @@ use Rattle.row_judgement.proofs.frames.store.Statement.{statement}
 use Rattle.row_judgement.proofs.frames.store.Tie as tie
 
 abbrev Inv-loop : tie.InvT-loop
-Inv-loop rows frames₀ i₀ frames i = StoredTo (frameAt rows) frames i × (i ≤ length rows / 7)
+Inv-loop lengths rows frames₀ i₀ frames i = StoredTo (frameAt lengths rows) frames i × (i ≤ length rows / 7)
 
 abbrev μ-loop : tie.MeasureT-loop
-μ-loop rows frames₀ i₀ frames i = length rows / 7 - i
+μ-loop lengths rows frames₀ i₀ frames i = length rows / 7 - i
 
 loop-holds : tie.Need-loop-holds Inv-loop μ-loop
 loop-holds c = (record { size = c .before .before .pre .1; each = λ m l. absurd (omega arith) }, omega arith)
@@ -29,7 +29,7 @@ put-requires c κs =
     let l = c .before .before .before .loop in
     let inside = c .before .before .loop-test .taken in
     let few = accepted-size _ (s .pre .0) .most in
-    (omega (arith, l .inv .0 .size, few), omega (arith, l .inv .0 .size), rw (c .frame .ensures) (priority-short _ (s .pre .0) _ inside))
+    (omega (arith, l .inv .0 .size, few), omega (arith, l .inv .0 .size), rw (c .frame .ensures) (priority-short _ _ (s .pre .0) _ inside))
 
 add-i : tie.Need-add-i Inv-loop μ-loop
 add-i c = search needs
@@ -44,7 +44,7 @@ loop-again c =
     let l = t .before .loop in
     let s = t .before .before .before .before in
     let few = accepted-size _ (s .pre .0) .most in (
-      put-more (l .inv .0) (omega (arith, few, t .loop-test .taken)) (f .frame .ensures ∙ frame-row _ _ (t .loop-test .taken)) (c .before .before .put .ensures),
+      put-more (l .inv .0) (omega (arith, few, t .loop-test .taken)) (f .frame .ensures ∙ frame-row _ _ _ (t .loop-test .taken)) (c .before .before .put .ensures),
       omega (arith, t .loop-test .taken),
     )
 
@@ -55,7 +55,7 @@ returns : tie.Need-returns Inv-loop μ-loop
 returns c =
     let s = c .before .before .before .before in
     let l = c .before .loop in
-    all-stored _ (s .pre .0) (l .inv .0) (omega (arith, l .inv .1, c .loop-test .left))
+    all-stored _ _ (s .pre .0) (l .inv .0) (omega (arith, l .inv .1, c .loop-test .left))
 
 pub store-spec : {M : Type 1} → statement M
 store-spec =

@@ -18,7 +18,7 @@ frame-requires : tie.Need-frame-requires
 frame-requires c κs = search needs
 
 place : (c : tie.Start) → (7 * c .args .i + 6 < length (c .args .rows .now)) × (length (c .args .rows .now) ≤ 448)
-place c = claim-inside (c .args .rows .now) (c .pre .0) (c .pre .1)
+place c = claim-inside (c .args .lengths) (c .args .rows .now) (c .pre .0 .1) (c .pre .1)
 
 mul-claim : tie.Need-mul-claim
 mul-claim c = record { fits = omega (arith, place (c .before .before)) }
@@ -48,15 +48,15 @@ judge-stored-requires : tie.Need-judge-stored-requires
 judge-stored-requires c κs =
     let s = c .before .before .before .before .before .before .before in
     let all = c .before .before .store .ensures in
-    let long : length (c .before .before .store .last .1 .0) ≡ 384 = c .before .before .store .kept .1 .0 in
-    ((omega (arith, long, accepted-size _ (s .pre .0) .most), subst FineTable (sym all) (accepted-fine _ (s .pre .0))), subst (λ fs. InTable fs (c .before .before .before .before .before .frame .result)) (sym all) (record { at = s .args .i; inside = s .pre .1; is = c .before .before .before .before .before .frame .ensures }))
+    let long : length (c .before .before .store .last .1 .1 .0) ≡ 384 = c .before .before .store .kept .1 .1 .0 in
+    ((omega (arith, long, accepted-size _ (s .pre .0 .1) .most), subst FineTable (sym all) (accepted-fine _ (s .pre .0 .0) _ (s .pre .0 .1))), subst (λ fs. InTable fs (c .before .before .before .before .before .frame .result)) (sym all) (record { at = s .args .i; inside = s .pre .1; is = c .before .before .before .before .before .frame .ensures }))
 
 returns : tie.Need-returns
 returns c =
     let s = c .before .before .before .before .before .before .before .before in
     c .judge-stored .ensures
     ∙ ap (λ fs. judge fs (c .before .before .before .before .before .before .frame .result) (claimOf (s .args .rows .now) (s .args .i))) (c .before .before .before .store .ensures)
-    ∙ ap (λ k. judge (framesOf (s .args .rows .now)) k (claimOf (s .args .rows .now) (s .args .i))) (c .before .before .before .before .before .before .frame .ensures)
+    ∙ ap (λ k. judge (framesOf (s .args .lengths) (s .args .rows .now)) k (claimOf (s .args .rows .now) (s .args .i))) (c .before .before .before .before .before .before .frame .ensures)
 
 pub judge-row-spec : {M : Type 1} → statement M
 judge-row-spec =

@@ -3,14 +3,14 @@ use Prim.Native.Nat.{_-_, _≤_}
 use mathlib.Core.Path.{_≡_, refl, _∙_}
 use native.Mathlib.Omega.{arith}
 use borrow.Author.Needs.{needs}
-use Rattle.table_checks.specs.Frames.{framesOf}
+use Rattle.table_checks.specs.Frames.{unmeasured}
 use Rattle.table_checks.specs.Checks.{firstOf, nodeCheck, nodesCheck}
 use Rattle.table_checks.specs.laws.First.{first-stop, first-go, first-end}
 use Rattle.table_checks.proofs.checks.nodes.Statement.{statement}
 use Rattle.table_checks.proofs.checks.nodes.Tie as tie
 
 abbrev Inv-loop : tie.InvT-loop
-Inv-loop t j₀ j = (firstOf (nodeCheck (framesOf t)) (17 - j) j ≡ nodesCheck (framesOf t)) × (j ≤ 17)
+Inv-loop t j₀ j = (firstOf (nodeCheck (unmeasured t)) (17 - j) j ≡ nodesCheck (unmeasured t)) × (j ≤ 17)
 
 abbrev μ-loop : tie.MeasureT-loop
 μ-loop t j₀ j = 17 - j

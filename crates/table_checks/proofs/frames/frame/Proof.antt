@@ -8,7 +8,7 @@ use Rattle.table_checks.proofs.frames.frame.Statement.{statement}
 use Rattle.table_checks.proofs.frames.frame.Tie as tie
 
 returns : tie.Need-returns
-returns c = sym (no-row _ _ (c .if1 .taken))
+returns c = sym (no-row _ _ _ (c .if1 .taken))
 
 mul-at : tie.Need-mul-at
 mul-at c = search needs
@@ -40,11 +40,11 @@ mul-payload c = search needs
 shared-slice-read-payload : tie.Need-shared-slice-read-payload
 shared-slice-read-payload c = search needs
 
-mul-t7 : tie.Need-mul-t7
-mul-t7 c = search needs
+mul-t8 : tie.Need-mul-t8
+mul-t8 c = search needs
 
-shared-slice-read-t11 : tie.Need-shared-slice-read-t11
-shared-slice-read-t11 c = search needs
+shared-slice-read-t12 : tie.Need-shared-slice-read-t12
+shared-slice-read-t12 c = search needs
 
 priority-requires : tie.Need-priority-requires
 priority-requires c κs = search needs
@@ -52,29 +52,29 @@ priority-requires c κs = search needs
 largest-length-requires : tie.Need-largest-length-requires
 largest-length-requires c κs = search needs
 
-add-t8 : tie.Need-add-t8
-add-t8 c = search needs
+add-t9 : tie.Need-add-t9
+add-t9 c = search needs
 
-mul-t17 : tie.Need-mul-t17
-mul-t17 c = search needs
+mul-t18 : tie.Need-mul-t18
+mul-t18 c = search needs
 
-shared-slice-read-t19 : tie.Need-shared-slice-read-t19
-shared-slice-read-t19 c = search needs
+shared-slice-read-t20 : tie.Need-shared-slice-read-t20
+shared-slice-read-t20 c = search needs
 
-add-t20 : tie.Need-add-t20
-add-t20 c = search needs
+add-t21 : tie.Need-add-t21
+add-t21 c = search needs
 
-mul-t21 : tie.Need-mul-t21
-mul-t21 c = search needs
+mul-t22 : tie.Need-mul-t22
+mul-t22 c = search needs
 
-shared-slice-read-t23 : tie.Need-shared-slice-read-t23
-shared-slice-read-t23 c = search needs
+shared-slice-read-t24 : tie.Need-shared-slice-read-t24
+shared-slice-read-t24 c = search needs
 
 returns-2 : tie.Need-returns-2
 unfolding frameAt
 returns-2 c =
     let start = c .before .before .before .before .before .before .before .before .before .before in
-    rw (frame-row (start .args .rows .now) (start .args .i) (search needs))
+    rw (frame-row (start .args .lengths) (start .args .rows .now) (start .args .i) (search needs))
     (simp (add-zero, c .before .before .before .priority .ensures, c .before .before .largest-length .ensures))
 
 pub frame-spec : {M : Type 1} → statement M
@@ -92,14 +92,14 @@ frame-spec =
     add-payload
     mul-payload
     shared-slice-read-payload
-    mul-t7
-    shared-slice-read-t11
+    mul-t8
+    shared-slice-read-t12
     priority-requires
     largest-length-requires
-    add-t8
-    mul-t17
-    shared-slice-read-t19
-    add-t20
-    mul-t21
-    shared-slice-read-t23
+    add-t9
+    mul-t18
+    shared-slice-read-t20
+    add-t21
+    mul-t22
+    shared-slice-read-t24
     returns-2)

@@ -1,4 +1,4 @@
--- `console::read_table` meets its contract: the whole of standard input is within the buffer.
+-- `console::read_input` meets its contract: the whole of standard input is within the buffer.
 use Prim.Native.Nat.{ℕ}
 use mathlib.Core.Path.{sym, subst}
 use mathlib.Core.List.{List}
@@ -7,8 +7,8 @@ use lib.ListN.{length}
 use lib.Seq.{length-take-le}
 use Rattle.console.specs.declared.Stream.{Stream}
 use Rattle.console.specs.Steps.{Within}
-use Rattle.console.proofs.read_table.Statement.{statement}
-use Rattle.console.proofs.read_table.Tie as tie
+use Rattle.console.proofs.read_input.Statement.{statement}
+use Rattle.console.proofs.read_input.Tie as tie
 
 read-requires : tie.Need-read-requires
 read-requires c κs = search needs
@@ -19,8 +19,8 @@ enum-known-stream c = search needs
 enum-known-stream-2 : tie.Need-enum-known-stream-2
 enum-known-stream-2 c = search needs
 
-print-length-requires : tie.Need-print-length-requires
-print-length-requires c κs = search needs
+print-size-requires : tie.Need-print-size-requires
+print-size-requires c κs = search needs
 
 enum-told : tie.Need-enum-told
 enum-told c = search needs
@@ -53,14 +53,14 @@ same-length-3 c = search needs
 returns-3 : tie.Need-returns-3
 returns-3 c = search needs
 
-pub read-table-spec : {M : Type 1} → statement M
-read-table-spec =
+pub read-input-spec : {M : Type 1} → statement M
+read-input-spec =
     tie.close
     (tie.spec
     read-requires
     enum-known-stream
     enum-known-stream-2
-    print-length-requires
+    print-size-requires
     enum-told
     slice-aggregate-complain
     complain-requires

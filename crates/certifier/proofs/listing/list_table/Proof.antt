@@ -1,0 +1,62 @@
+-- `certifier::listing::list_table` meets its contract: what the file is read into is its table, and a file that is turned back is answered with its refusal.
+use mathlib.Core.Path.{refl}
+use borrow.Author.Needs.{needs}
+use Rattle.frame_table.specs.laws.Areas.{area-refused}
+use Rattle.frame_table.specs.laws.Reading.{ReadRows, read-rows, read-refused}
+use Rattle.certifier.proofs.listing.list_table.Statement.{statement}
+use Rattle.certifier.proofs.listing.list_table.Tie as tie
+
+-- the table of the file
+read : (c : tie.After-known-told) → ReadRows (c .before .before .before .before .before .before .before .before .args .file .now) (c .before .before .before .before .read .last .1 .0) (c .before .answer .given .0 .0)
+read c =
+    let both = c .before .before .before .before .read .ensures in
+    read-rows _ _ _ refl (both .0) _ _ (both .1 .0) (c .before .answer .given .1)
+
+slice-aggregate-read : tie.Need-slice-aggregate-read
+slice-aggregate-read c = search needs
+
+read-requires : tie.Need-read-requires
+read-requires c κs = search needs
+
+enum-told : tie.Need-enum-told
+enum-told c = search needs
+
+enum-known-answer : tie.Need-enum-known-answer
+enum-known-answer c = search needs
+
+array-share-prefix-rows : tie.Need-array-share-prefix-rows
+array-share-prefix-rows c = read c .room
+
+slice-aggregate-list-rows : tie.Need-slice-aggregate-list-rows
+slice-aggregate-list-rows c = read (c .before) .size
+
+list-rows-requires : tie.Need-list-rows-requires
+list-rows-requires c κs = (c .before .before .before .before .before .before .before .before .before .before .pre, read (c .before .before) .accepted)
+
+returns : tie.Need-returns
+returns c =
+    let at-read = c .before .before .before in
+    area-refused _ _ _ _ _ (read-refused _ _ _ refl (at-read .read .ensures .0) _ (c .enum-told .given .1)) (c .enum-told .given .1)
+
+same-length : tie.Need-same-length
+same-length c = search needs
+
+returns-2 : tie.Need-returns-2
+returns-2 c =
+    let table = read (c .before .before .before .before .before) in
+    rw (table .passed, ← table .rows) (c .before .before .list-rows .ensures)
+
+pub list-table-spec : {M : Type 1} → statement M
+list-table-spec =
+    tie.close
+    (tie.spec
+    slice-aggregate-read
+    read-requires
+    enum-told
+    enum-known-answer
+    array-share-prefix-rows
+    slice-aggregate-list-rows
+    list-rows-requires
+    returns
+    same-length
+    returns-2)

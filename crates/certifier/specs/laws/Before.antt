@@ -1,0 +1,112 @@
+-- With document 01's lengths loaded every answer is as before: the definitions as they stood without loaded lengths, and the laws that they are
+-- the same.
+use Prim.Native.Nat.{ℕ, zero, suc, _+_, _/_}
+use mathlib.Core.Path.{_≡_, refl, sym, ap, ap₂}
+use mathlib.Core.Bool.{cond}
+use mathlib.Core.List.{List, [], _++_}
+use lib.ListN.{length}
+use Rattle.bus_model.specs.Frame.{row}
+use Rattle.bus_model.specs.Judgement.{judge}
+use Rattle.table_checks.specs.declared.Checked.{Checked}
+use Rattle.table_checks.specs.declared.Checked.the-variants.{Passed, Failed}
+use Rattle.table_checks.specs.Columns.{field}
+use Rattle.table_checks.specs.Frames.{standardLengths, framesOf, unmeasured}
+use Rattle.table_checks.specs.Checks.{first, firstOf, rowsSizeCheck, linesCheck, nodeCheck, nodesCheck, tableCheck, rowsCheck, loadedCheck}
+use Rattle.table_checks.specs.laws.Lengths.{standard-loadable}
+use Rattle.table_checks.specs.laws.Accepted.{hyper-same, releases-same}
+use Rattle.table_checks.specs.laws.Before.{framesBefore, frames-before}
+use Rattle.row_judgement.specs.declared.Cause.the-variants.{NoSuchRow}
+use Rattle.row_judgement.specs.declared.Judged.{Judged}
+use Rattle.row_judgement.specs.declared.Judged.the-variants.{Verdict, NotJudged}
+use Rattle.row_judgement.specs.declared.Bounded.{Bounded}
+use Rattle.row_judgement.specs.declared.Bounded.the-variants.{NotBounded}
+use Rattle.row_judgement.specs.Refusal.{ofTable}
+use Rattle.row_judgement.specs.Judge.{claimOf, noRow, judgeChecked, judgeRow, boundFrame, boundChecked, boundRow}
+use Rattle.certifier.specs.Listing.{listingLine, lineOf, linesFrom, listingOf}
+
+-- ---- before
+
+unfoldable pub rowsCheckBefore : List ℕ → Checked
+rowsCheckBefore rows = first (rowsSizeCheck (length rows)) (first (linesCheck rows) (nodesCheck (framesBefore rows)))
+
+unfoldable pub judgeCheckedBefore : Checked → List ℕ → ℕ → Judged
+judgeCheckedBefore (Failed f) rows r = NotJudged (ofTable f)
+judgeCheckedBefore Passed rows r =
+    cond (noRow rows r) (NotJudged (record { cause = NoSuchRow; place = 0 }))
+    (Verdict (judge (framesBefore rows) (row (framesBefore rows) r) (claimOf rows r)))
+
+unfoldable pub judgeRowBefore : List ℕ → ℕ → Judged
+judgeRowBefore rows r = judgeCheckedBefore (rowsCheckBefore rows) rows r
+
+unfoldable pub boundCheckedBefore : Checked → List ℕ → ℕ → Bounded
+boundCheckedBefore (Failed f) rows r = NotBounded (ofTable f)
+boundCheckedBefore Passed rows r = cond (noRow rows r) (NotBounded (record { cause = NoSuchRow; place = 0 })) (boundFrame (framesBefore rows) r)
+
+unfoldable pub boundRowBefore : List ℕ → ℕ → Bounded
+boundRowBefore rows r = boundCheckedBefore (rowsCheckBefore rows) rows r
+
+unfoldable pub lineBefore : List ℕ → ℕ → List ℕ
+lineBefore rows i = listingLine (field rows i 1) (judge (framesBefore rows) (row (framesBefore rows) i) (claimOf rows i))
+
+unfoldable pub linesBefore : List ℕ → ℕ → ℕ → List ℕ
+linesBefore rows zero i = []
+linesBefore rows (suc n) i = lineBefore rows i ++ linesBefore rows n (i + 1)
+
+unfoldable pub listingBefore : List ℕ → List ℕ
+listingBefore rows = linesBefore rows (length rows / 7) 0
+
+-- ---- the checks are the same: they ask for no length
+
+firstOf-same : (c d : ℕ → Checked) → ((n : ℕ) → c n ≡ d n) → (m n : ℕ) → firstOf c m n ≡ firstOf d m n
+unfolding firstOf
+firstOf-same c d same zero n = refl
+firstOf-same c d same (suc m) n = ap₂ first (same n) (firstOf-same c d same m (n + 1))
+
+node-same : (ls : List (List ℕ)) (t : List ℕ) (j : ℕ) → nodeCheck (framesOf ls t) j ≡ nodeCheck (unmeasured t) j
+unfolding nodeCheck
+node-same ls t j = rw (hyper-same ls t j, releases-same ls t j)
+
+pub rows-check-before : (rows : List ℕ) → rowsCheck rows ≡ rowsCheckBefore rows
+unfolding rowsCheck rowsCheckBefore tableCheck nodesCheck
+rows-check-before rows =
+    rw (← frames-before rows)
+    (ap (λ (c : Checked). first (rowsSizeCheck (length rows)) (first (linesCheck rows) c))
+    (sym (firstOf-same (nodeCheck (framesOf standardLengths rows)) (nodeCheck (unmeasured rows)) (node-same standardLengths rows) 16 1)))
+
+loaded-before : (rows : List ℕ) → loadedCheck standardLengths rows ≡ rowsCheckBefore rows
+unfolding loadedCheck
+loaded-before rows = rw standard-loadable (rows-check-before rows)
+
+-- ---- the answers are the same
+
+-- Every judgement is as before,
+pub judge-before : (rows : List ℕ) (r : ℕ) → judgeRow standardLengths rows r ≡ judgeRowBefore rows r
+unfolding judgeRow judgeRowBefore judgeChecked judgeCheckedBefore
+judge-before rows r = rw (loaded-before rows) (go (rowsCheckBefore rows))
+  where
+    go : (c : Checked) → judgeChecked c standardLengths rows r ≡ judgeCheckedBefore c rows r
+    go (Failed f) = refl
+    go Passed = rw (frames-before rows)
+
+-- every bound,
+pub bound-before : (rows : List ℕ) (r : ℕ) → boundRow standardLengths rows r ≡ boundRowBefore rows r
+unfolding boundRow boundRowBefore boundChecked boundCheckedBefore
+bound-before rows r = rw (loaded-before rows) (go (rowsCheckBefore rows))
+  where
+    go : (c : Checked) → boundChecked c standardLengths rows r ≡ boundCheckedBefore c rows r
+    go (Failed f) = refl
+    go Passed = rw (frames-before rows)
+
+-- and every line.
+line-before : (rows : List ℕ) (i : ℕ) → lineOf standardLengths rows i ≡ lineBefore rows i
+unfolding lineOf lineBefore
+line-before rows i = rw (frames-before rows)
+
+lines-before : (rows : List ℕ) (n i : ℕ) → linesFrom standardLengths rows n i ≡ linesBefore rows n i
+unfolding linesBefore
+lines-before rows zero i = refl
+lines-before rows (suc n) i = ap₂ (λ (x y : List ℕ). x ++ y) (line-before rows i) (lines-before rows n (i + 1))
+
+pub listing-before : (rows : List ℕ) → listingOf standardLengths rows ≡ listingBefore rows
+unfolding listingOf listingBefore
+listing-before rows = lines-before rows (length rows / 7) 0
