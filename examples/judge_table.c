@@ -1,4 +1,4 @@
-/* Judges each row of a frame table file and says in words what was found. */
+/* Judges each row of a frame table file, by the lengths in another, and says in words what was found. */
 #include "certifier.h"
 
 #include <inttypes.h>
@@ -34,7 +34,7 @@ static uint8_t *read_file(const char *path, size_t *len)
     return bytes;
 }
 
-/* Says why a table is refused. */
+/* Says why lengths or a table are refused. */
 static void print_refusal(int number, int place)
 {
     switch (number) {
@@ -61,6 +61,12 @@ static void print_refusal(int number, int place)
         break;
     case CERTIFIER_RELEASES:
         printf("refused at node %d: more than 256 releases in its hyperperiod\n", place);
+        break;
+    case CERTIFIER_LENGTHS_FILE:
+        printf("refused: the lengths are not two lines of nine numbers\n");
+        break;
+    case CERTIFIER_LENGTH_LIMITS:
+        printf("refused at line %d of the lengths: a number is outside 47..400 or smaller than the one before it\n", place);
         break;
     default:
         printf("refused with %d at %d\n", number, place);
@@ -94,26 +100,38 @@ static void print_judgement(size_t line, int64_t answer)
     }
 }
 
-int main(int argc, char **argv)
+/* Judges each row. Answers whether lengths or table are refused. */
+static int judge_all(const uint8_t *lengths, size_t lengths_len, const uint8_t *table, size_t table_len)
 {
-    if (argc != 2) {
-        fprintf(stderr, "usage: judge_table FILE\n");
-        return 2;
-    }
-    size_t len = 0;
-    uint8_t *table = read_file(argv[1], &len);
-    if (table == NULL) {
-        perror(argv[1]);
-        return 2;
-    }
-    int64_t answer = certifier_judge(table, len, 0);
-    for (size_t row = 0; !certifier_refused(answer) && row < len / LINE; row++) {
-        answer = certifier_judge(table, len, row);
+    int64_t answer = certifier_judge(lengths, lengths_len, table, table_len, 0);
+    for (size_t row = 0; !certifier_refused(answer) && row < table_len / LINE; row++) {
+        answer = certifier_judge(lengths, lengths_len, table, table_len, row);
         print_judgement(row + 1, answer);
     }
-    int refused = certifier_refused(answer);
-    if (refused)
+    if (certifier_refused(answer))
         print_refusal(certifier_number(answer), certifier_place(answer));
-    free(table);
-    return refused;
+    return certifier_refused(answer);
+}
+
+int main(int argc, char **argv)
+{
+    if (argc != 3) {
+        fprintf(stderr, "usage: judge_table LENGTHS TABLE\n");
+        return 2;
+    }
+    size_t len[2] = {0, 0};
+    uint8_t *files[2] = {NULL, NULL};
+    int status = 0;
+    for (int i = 0; i < 2 && status == 0; i++) {
+        files[i] = read_file(argv[i + 1], &len[i]);
+        if (files[i] == NULL) {
+            perror(argv[i + 1]);
+            status = 2;
+        }
+    }
+    if (status == 0)
+        status = judge_all(files[0], len[0], files[1], len[1]);
+    free(files[0]);
+    free(files[1]);
+    return status;
 }

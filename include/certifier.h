@@ -1,13 +1,15 @@
 /*
- * The picker bus certifier for C: judges the claims of a frame table, and writes its load sheet.
+ * The picker bus certifier for C: judges the claims of a frame table, lists them, and writes its load sheet.
  *
+ * Lengths are a file of two lines, kind 11 and then kind 29, each of nine numbers in columns 5 wide and a line feed: the
+ * largest length in ticks of a frame with 0 to 8 payload bytes. They are CERTIFIER_LENGTHS bytes.
  * A table is a file of 1 to 64 lines, each 42 characters and a line feed. Rows count from 0, lines from 1.
- * Each call takes the whole file's bytes, checks it, and answers one number.
+ * Each call takes the whole bytes of both files, checks the lengths and then the table, and answers one number.
  *
- * Memory: a call reads `table_len` bytes from `table` and keeps nothing; `table` may be null only if the length
- * is 0. Where an output area is lent, a call writes its result at the start of it and leaves every byte behind that;
- * where it is turned back, it leaves them all. The area must not overlap the table, and may be null only if its
- * length is 0. A call allocates nothing and needs less than 64 KiB of stack.
+ * Memory: a call reads `lengths_len` bytes from `lengths` and `table_len` bytes from `table` and keeps nothing; a pointer
+ * may be null only if its length is 0. Where an output area is lent, a call writes its result at the start of it and
+ * leaves every byte behind that; where it is turned back, it leaves them all. The area must not overlap what is read, and
+ * may be null only if its length is 0. A call allocates nothing and needs less than 64 KiB of stack.
  * Threads: there is no state between calls, so any number of threads may call at once.
  */
 #ifndef CERTIFIER_H
@@ -20,16 +22,31 @@
 extern "C" {
 #endif
 
+/* The bytes of a file of lengths. */
+#define CERTIFIER_LENGTHS 92
+
 /*
  * Judges the claim of a row: verdict * 10^14 + bound * 10^7 + margin + 10^6, or, where the call is turned back,
  * minus (number * 10000 + place). The functions below take the answer apart.
  */
-int64_t certifier_judge(const uint8_t *table, size_t table_len, uint64_t row);
+int64_t certifier_judge(const uint8_t *lengths, size_t lengths_len, const uint8_t *table, size_t table_len, uint64_t row);
 
 /*
  * The precise bound of a row, in ticks, or, where the call is turned back, minus (number * 10000 + place).
  */
-int64_t certifier_precise_bound(const uint8_t *table, size_t table_len, uint64_t row);
+int64_t certifier_precise_bound(const uint8_t *lengths, size_t lengths_len, const uint8_t *table, size_t table_len,
+                                uint64_t row);
+
+/*
+ * Writes the judgements of the table to `out`, a line a row, in table order: identifier (10), verdict (3), bound (8),
+ * margin (9) and a line feed. Answers how many bytes were written, or, where the call is turned back, minus
+ * (number * 10000 + place).
+ */
+int64_t certifier_list(const uint8_t *lengths, size_t lengths_len, const uint8_t *table, size_t table_len, uint8_t *out,
+                       size_t out_len);
+
+/* The bytes of the longest listing. */
+#define CERTIFIER_LISTING_MOST 1984
 
 /*
  * Writes the load sheet of the table to `out`: a line for each node that has frames, nodes rising, with node (3),
@@ -38,7 +55,8 @@ int64_t certifier_precise_bound(const uint8_t *table, size_t table_len, uint64_t
  * work is the sum over the node's frames of largest length * (hyperperiod / period).
  * Answers how many bytes were written, or, where the call is turned back, minus (number * 10000 + place).
  */
-int64_t certifier_load_sheet(const uint8_t *table, size_t table_len, uint8_t *out, size_t out_len);
+int64_t certifier_load_sheet(const uint8_t *lengths, size_t lengths_len, const uint8_t *table, size_t table_len, uint8_t *out,
+                             size_t out_len);
 
 /* The bytes of the longest load sheet. */
 #define CERTIFIER_LOAD_SHEET_MOST 494
@@ -72,6 +90,8 @@ enum certifier_refusal {
     CERTIFIER_NO_SUCH_ROW = 9,   /* 0 */
     CERTIFIER_BOUND_NO_WINDOW = 11, /* the row; of certifier_precise_bound only */
     CERTIFIER_BOUND_TOO_MANY_SCENARIOS = 12, /* the row; of certifier_precise_bound only */
+    CERTIFIER_LENGTHS_FILE = 13, /* 0: the lengths are not 92 bytes in their notation */
+    CERTIFIER_LENGTH_LIMITS = 14,/* the lengths' line: a number outside 47..400, or smaller than the one before it */
     CERTIFIER_NOT_A_FRAME = 16   /* 0; of certifier_frame_length only: a kind, identifier or payload outside its limits */
 };
 
