@@ -152,8 +152,9 @@ impl Cases {
     fn ranks(&mut self) {
         for (short, long, first) in RANKS {
             let rows = [[1, *short, 11, 8, 1000, 0, 500], [2, *long, 29, 8, 1000, 0, 500]];
-            let exact =
-                |row| View::new(&STANDARD, &rows, row).exact(LIMITS.window).expect("a window").response;
+            let exact = |row| {
+                View::new(&STANDARD, &rows, row).exact(LIMITS.window).expect("a window").response
+            };
             let wanted = if *first == 11 { [159 + 135, 135 + 160] } else { [160 + 135, 134 + 160] };
             assert_eq!([0, 1].map(exact), wanted);
             self.around(0, &rows);

@@ -60,8 +60,8 @@ pub fn split(input: &[u8]) -> (&[u8], &[u8]) {
     input.split_at(input.len().min(FILE))
 }
 
-/// Two lines of nine numbers in columns 5 wide, a line feed after each.
-fn numbers(file: &[u8]) -> Option<LengthTable> {
+/// Two lines of nine numbers in columns 5 wide, a line feed after each; whatever their values.
+pub fn numbers(file: &[u8]) -> Option<LengthTable> {
     if file.len() != FILE {
         return None;
     }

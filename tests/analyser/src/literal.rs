@@ -262,13 +262,14 @@ fn sum(running: &[Running]) -> u64 {
 mod tests {
     use super::*;
     use crate::bounds::rank;
+    use crate::lengths::STANDARD;
     use crate::random::{clustered, Random};
 
     /// The rank by one number is the one by single bits, in tables with many ties.
     #[test]
     fn ranks_agree() {
         let mut random = Random::new(5);
-        for rows in (0..200).map(|_| clustered(&mut random, 16, 8, (110, 300))) {
+        for rows in (0..200).map(|_| clustered(&mut random, &STANDARD, 16, 8, (110, 300))) {
             for row in &rows {
                 rows.iter().for_each(|of| assert_eq!(rank(row) < rank(of), goes_ahead(row, of)));
             }

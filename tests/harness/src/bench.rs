@@ -5,6 +5,7 @@ use crate::lent::Lent;
 use crate::{library, yardstick};
 use analyser::bounds::{rank, View};
 use analyser::judgement::{Search, LIMITS};
+use analyser::lengths::{self, LengthTable};
 use analyser::listing::list_rows_by;
 use analyser::random::Random;
 use analyser::table::{self, Row};
@@ -26,7 +27,7 @@ analyser: passes over scenarios that cannot exceed one seen; plain: goes through
 faster: how many times as fast as plain enumeration the library is
 >: stopped, or at least so much because of that";
 
-/// Who lists a table.
+/// Who lists an input, which is a file of lengths and then that of a table.
 struct Lister {
     name: &'static str,
     list: fn(&[u8]) -> String,
@@ -34,9 +35,15 @@ struct Lister {
 
 const LISTERS: [Lister; 4] = [
     Lister { name: "library", list: library_listing },
-    Lister { name: "yardstick", list: |file| yardstick::list(&accepted(file)) },
-    Lister { name: "analyser", list: |file| list_rows_by(Search::Pruned, &accepted(file)) },
-    Lister { name: "plain", list: |file| list_rows_by(Search::Plain, &accepted(file)) },
+    Lister { name: "yardstick", list: |input| list_by(input, yardstick::list) },
+    Lister {
+        name: "analyser",
+        list: |input| list_by(input, |lengths, rows| list_rows_by(Search::Pruned, lengths, rows)),
+    },
+    Lister {
+        name: "plain",
+        list: |input| list_by(input, |lengths, rows| list_rows_by(Search::Plain, lengths, rows)),
+    },
 ];
 
 /// Those who take turns in one process, and after how many seconds that is stopped.
@@ -76,7 +83,7 @@ pub fn bench() -> io::Result<bool> {
         ]);
         for table in &tables {
             same &= measure_table(table).unwrap_or_else(|error| {
-                println!("{}: {error}", table.0);
+                println!("{}: {error}", table.name);
                 false
             });
         }
@@ -85,16 +92,16 @@ pub fn bench() -> io::Result<bool> {
 }
 
 /// Prints the line of a table; false if two listings differ.
-fn measure_table((name, rows): &Table) -> io::Result<bool> {
-    let file = table::file_of(rows);
+fn measure_table(Table { name, lengths, rows }: &Table) -> io::Result<bool> {
+    let input = input_of(lengths, rows);
     let mut found = Vec::new();
     for (names, cap) in PROCESSES {
-        found.extend(measure(names, cap, &file)?);
+        found.extend(measure(names, cap, &input)?);
     }
     let [library, yardstick, analyser, plain] = &found[..] else {
         unreachable!("one for each lister")
     };
-    let (scenarios, window) = extent(rows);
+    let (scenarios, window) = extent(lengths, rows);
     print_line(&[
         name,
         &rows.len().to_string(),
@@ -123,11 +130,11 @@ fn print_line(columns: &[&str]) {
 }
 
 /// Scenario count and window of the lowest row that has a window.
-fn extent(rows: &[Row]) -> (String, String) {
+fn extent(lengths: &LengthTable, rows: &[Row]) -> (String, String) {
     let mut by_rank: Vec<usize> = (0..rows.len()).collect();
     by_rank.sort_by_key(|row| std::cmp::Reverse(rank(&rows[*row])));
     for row in by_rank {
-        let view = View::new(rows, row);
+        let view = View::new(lengths, rows, row);
         if let Some(window) = view.rough_window(LIMITS.window) {
             return (count_text(&view), window.to_string());
         }
@@ -183,11 +190,11 @@ fn median(numbers: &[f64]) -> f64 {
 }
 
 /// Runs the named listers as a process that is stopped at the cap.
-fn measure(names: &[&str], cap: u64, file: &[u8]) -> io::Result<Vec<Measured>> {
+fn measure(names: &[&str], cap: u64, input: &[u8]) -> io::Result<Vec<Measured>> {
     let mut command = Command::new(std::env::current_exe()?);
     command.arg("time").args(names).stdin(Stdio::piped()).stdout(Stdio::piped());
     let mut child = command.spawn()?;
-    child.stdin.take().expect("a pipe").write_all(file)?;
+    child.stdin.take().expect("a pipe").write_all(input)?;
     if !ends_within(&mut child, Duration::from_secs(cap))? {
         let stopped = |_| Measured { times: vec![cap as f64], listing: None };
         return Ok(names.iter().map(stopped).collect());
@@ -219,22 +226,22 @@ fn ends_within(child: &mut Child, cap: Duration) -> io::Result<bool> {
     Ok(true)
 }
 
-/// Lists the table on standard input by the named listers in turns, and prints for each of them the
+/// Lists the input on standard input by the named listers in turns, and prints for each of them the
 /// times in seconds and the listing.
 pub fn time(names: &[&str]) -> io::Result<bool> {
     let find = |name: &&str| LISTERS.iter().find(|lister| lister.name == *name);
     let listers: Option<Vec<&Lister>> = names.iter().map(find).collect();
     let listers = listers.ok_or_else(|| io::Error::other("no such lister"))?;
-    let mut file = Vec::new();
-    io::stdin().read_to_end(&mut file)?;
-    for (times, listing) in take_turns(&listers, &file) {
+    let mut input = Vec::new();
+    io::stdin().read_to_end(&mut input)?;
+    for (times, listing) in take_turns(&listers, &input) {
         println!("{}\n{listing}", times.join(" "));
     }
     Ok(true)
 }
 
 /// The times and the listing of each lister.
-fn take_turns(listers: &[&Lister], file: &[u8]) -> Vec<(Vec<String>, String)> {
+fn take_turns(listers: &[&Lister], input: &[u8]) -> Vec<(Vec<String>, String)> {
     let mut found = vec![(Vec::new(), String::new()); listers.len()];
     let begin = Instant::now();
     for turn in 0..MOST_TURNS {
@@ -243,21 +250,31 @@ fn take_turns(listers: &[&Lister], file: &[u8]) -> Vec<(Vec<String>, String)> {
         }
         for (lister, (times, listing)) in listers.iter().zip(&mut found) {
             let start = Instant::now();
-            *listing = (lister.list)(file);
+            *listing = (lister.list)(input);
             times.push(start.elapsed().as_secs_f64().to_string());
         }
     }
     found
 }
 
-fn accepted(file: &[u8]) -> Vec<Row> {
-    table::parse(file).expect("an accepted table")
+/// The listing of accepted lengths and rows.
+fn list_by(input: &[u8], list: fn(&LengthTable, &[Row]) -> String) -> String {
+    let (lengths, file) = lengths::split(input);
+    let lengths = lengths::parse(lengths).expect("accepted lengths");
+    list(&lengths, &table::parse(file).expect("an accepted table"))
 }
 
-pub fn library_listing(file: &[u8]) -> String {
+/// The file of lengths, and that of a table.
+pub fn input_of(lengths: &LengthTable, rows: &[Row]) -> Vec<u8> {
+    [lengths::file_of(lengths), table::file_of(rows)].concat()
+}
+
+pub fn library_listing(input: &[u8]) -> String {
     let random = &mut Random::new(0);
+    let (lengths, file) = lengths::split(input);
     let mut out = Lent::new(random, &[0; ROOM]);
-    let written = library::list(&mut Lent::new(random, file), &mut out);
+    let [mut lengths, mut file] = [lengths, file].map(|bytes| Lent::new(random, bytes));
+    let written = library::list(&mut lengths, &mut file, &mut out);
     let written = usize::try_from(written).expect("an accepted table");
     String::from_utf8_lossy(&out.contents()[..written]).into()
 }

@@ -3,13 +3,21 @@
 use crate::bench_tables::{
     alike, crowded, late_jump, long_windows, many_looks, no_windows, Bursts, Drawing, Filled,
 };
+use analyser::lengths::{LengthTable, STANDARD};
 use analyser::table::{self, Row};
 
-/// A name and the rows.
-pub type Table = (String, Vec<Row>);
+pub struct Table {
+    pub name: String,
+    pub lengths: LengthTable,
+    pub rows: Vec<Row>,
+}
 
-pub fn groups() -> [(&'static str, Vec<Table>); 9] {
-    [
+/// A name and the rows.
+type Named = (String, Vec<Row>);
+
+/// All but the last are by document 01's lengths.
+pub fn groups() -> Vec<(&'static str, Vec<Table>)> {
+    let groups = [
         ("A realistic table: 12 nodes, periods 2500 to 500000", realistic()),
         ("Drawn as in document 002, appendix A", drawn()),
         ("Most scenarios, none to be ruled out early", many_scenarios()),
@@ -19,10 +27,29 @@ pub fn groups() -> [(&'static str, Vec<Table>); 9] {
         ("Growth with the window", growing_window()),
         ("Growth with alignments, 16 nodes", growing_alignments()),
         ("Worst found", worst()),
-    ]
+    ];
+    let by_standard = |(title, tables)| (title, by_lengths(STANDARD, tables));
+    let stretched = ("The realistic table, frames stretched by isolators", stretched());
+    groups.into_iter().map(by_standard).chain([stretched]).collect()
 }
 
-fn realistic() -> Vec<Table> {
+fn by_lengths(lengths: LengthTable, tables: Vec<Named>) -> Vec<Table> {
+    let table = |(name, rows)| Table { name, lengths, rows };
+    tables.into_iter().map(table).collect()
+}
+
+/// Each length longer by ten ticks, or by a half.
+fn stretched() -> Vec<Table> {
+    let longer = STANDARD.map(|line| line.map(|length| length + 10));
+    let by_half = STANDARD.map(|line| line.map(|length| length * 3 / 2));
+    let named = |(how, lengths)| {
+        let tables = by_lengths(lengths, realistic()).into_iter();
+        tables.map(move |table| Table { name: format!("{how}, {}", table.name), ..table })
+    };
+    [("10 longer", longer), ("by half", by_half)].into_iter().flat_map(named).collect()
+}
+
+fn realistic() -> Vec<Named> {
     let table = |(claims, deadlines)| {
         let drawing = Drawing { seed: 2, nodes: 12, unit: 500, deadlines };
         (format!("offsets in ms, claims {claims}"), drawing.rows())
@@ -30,7 +57,7 @@ fn realistic() -> Vec<Table> {
     [("periods", true), ("1", false)].map(table).into()
 }
 
-fn drawn() -> Vec<Table> {
+fn drawn() -> Vec<Named> {
     let mut tables = Vec::new();
     for (seed, nodes) in [(3, 7), (4, 11), (5, 15)] {
         for (unit, offsets) in [(2500, "in steps"), (1, "fine")] {
@@ -44,7 +71,7 @@ fn drawn() -> Vec<Table> {
     tables
 }
 
-fn many_scenarios() -> Vec<Table> {
+fn many_scenarios() -> Vec<Named> {
     vec![
         ("16 nodes x 2".into(), alike(&[2; 16], 30_000, 10, 23)),
         ("4 nodes x 16".into(), alike(&[16; 4], 60_000, 17, 40)),
@@ -55,7 +82,7 @@ fn many_scenarios() -> Vec<Table> {
 const LONGEST: Filled = Filled { second: 1199, gap: 371_000, judged: 1_000_000 };
 const MANY_INSTANCES: Filled = Filled { second: 1366, gap: 30_000, judged: 4000 };
 
-fn long_searches() -> Vec<Table> {
+fn long_searches() -> Vec<Named> {
     vec![
         ("one scenario a row".into(), long_windows()),
         ("no window up to 1000000".into(), no_windows()),
@@ -64,19 +91,19 @@ fn long_searches() -> Vec<Table> {
     ]
 }
 
-fn growing_rows() -> Vec<Table> {
+fn growing_rows() -> Vec<Named> {
     let table = |judged| (format!("{judged} judged"), alike(&[2; 16], 30_000, 10, judged));
     [1, 4, 16].map(table).into()
 }
 
-fn growing_scenarios() -> Vec<Table> {
+fn growing_scenarios() -> Vec<Named> {
     let table = |counts: [u32; 2]| {
         (format!("{} x {} x 2 scenarios", counts[0], counts[1]), LONGEST.rows(counts))
     };
     [[4, 4], [16, 16], [128, 128]].map(table).into()
 }
 
-fn growing_window() -> Vec<Table> {
+fn growing_window() -> Vec<Named> {
     let table = |(second, gap)| {
         let filled = Filled { second, gap, judged: 1_000_000 };
         (format!("periods 62 and {second}"), filled.rows([64, 64]))
@@ -84,7 +111,7 @@ fn growing_window() -> Vec<Table> {
     [(1250, 24_000), (1220, 52_000), (1205, 130_000), (1199, 371_000)].map(table).into()
 }
 
-fn growing_alignments() -> Vec<Table> {
+fn growing_alignments() -> Vec<Named> {
     let table = |(alignments, period, load): (u32, u32, &str)| {
         let rows = crowded(16, 8, period, alignments).rows;
         (format!("{alignments} alignments, load {load}"), rows)
@@ -101,7 +128,7 @@ fn growing_alignments() -> Vec<Table> {
     .into()
 }
 
-fn worst() -> Vec<Table> {
+fn worst() -> Vec<Named> {
     let built = [
         ("12650 instances, 256 alignments a node".into(), many_looks()),
         ("255 own alignments, a late jump".into(), late_jump()),
@@ -112,7 +139,7 @@ fn worst() -> Vec<Table> {
     built.into_iter().chain(FILES.map(read)).collect()
 }
 
-fn read((name, file): (&str, &[u8])) -> Table {
+fn read((name, file): (&str, &[u8])) -> Named {
     (name.into(), table::parse(file).expect("an accepted table"))
 }
 

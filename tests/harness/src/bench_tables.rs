@@ -1,6 +1,6 @@
 //! Tables for measuring time: drawn as in document 002, and built to be as much work as possible.
 
-use analyser::bounds::length;
+use analyser::lengths::{length, STANDARD};
 use analyser::random::Random;
 use analyser::table::{self, Row, MOST_LINES, NODE, PERIOD};
 
@@ -229,7 +229,7 @@ fn accepts(rows: &[Row], row: Row) -> bool {
     table::check(&[rows, &[row]].concat().concat()).is_ok()
 }
 
-/// The load in parts of a million.
+/// The load in parts of a million, by document 01's lengths.
 fn load(rows: &[Row]) -> u64 {
-    rows.iter().map(|row| length(row) * 1_000_000 / u64::from(row[PERIOD])).sum()
+    rows.iter().map(|row| length(&STANDARD, row) * 1_000_000 / u64::from(row[PERIOD])).sum()
 }

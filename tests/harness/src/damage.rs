@@ -31,7 +31,7 @@ const PERIODS: &[u32] = &[
 const PAIRS: &[[u32; 2]] = &[[101, 9901], [1000, 1001], [999, 1000], [1, 255], [1, 256]];
 
 /// Columns that break the notation.
-const BROKEN: &[&[u8]] = &[
+pub const BROKEN: &[&[u8]] = &[
     b"", b"00", b"01", b"-1", b"+1", b"\t1", b"1 ", b"1x", b"x", b"/", b":", b"\xff", b"\0",
     b"1 1", b"\n1", b"0x1", b"1.0", b" 0 ",
 ];
@@ -121,12 +121,12 @@ pub fn damage_file(random: &mut Random, file: &mut Vec<u8>) {
     let column = random.below(FIELDS as u64) as usize;
     match random.below(8) {
         0 => file[line * LINE + LINE - 1] = random.pick(b" \r0x\0\x0b"),
-        1..=3 => overwrite(file, line, column, random.pick(BROKEN)),
-        4 => overwrite(file, line, column, &b"9999999999"[..WIDTHS[column]]),
+        1..=3 => overwrite(field(file, line, column), random.pick(BROKEN)),
+        4 => overwrite(field(file, line, column), &b"9999999999"[..WIDTHS[column]]),
         5 => {
-            overwrite(file, line, IDENTIFIER, random.pick(LONG_IDENTIFIERS));
+            overwrite(field(file, line, IDENTIFIER), random.pick(LONG_IDENTIFIERS));
             if random.percent(40) {
-                overwrite(file, line, KIND, random.pick(BROKEN));
+                overwrite(field(file, line, KIND), random.pick(BROKEN));
             }
         }
         6 => file[line * LINE + random.below(LINE as u64) as usize] = random.word() as u8,
@@ -134,10 +134,14 @@ pub fn damage_file(random: &mut Random, file: &mut Vec<u8>) {
     }
 }
 
-/// Puts a text into a column, right-justified; of a longer one the end.
-fn overwrite(file: &mut [u8], line: usize, column: usize, text: &[u8]) {
+/// A column of a line.
+fn field(file: &mut [u8], line: usize, column: usize) -> &mut [u8] {
     let start = line * LINE + WIDTHS[..column].iter().sum::<usize>();
-    let field = &mut file[start..start + WIDTHS[column]];
+    &mut file[start..start + WIDTHS[column]]
+}
+
+/// Puts a text into a column, right-justified; of a longer one the end.
+pub fn overwrite(field: &mut [u8], text: &[u8]) {
     let text = &text[text.len().saturating_sub(field.len())..];
     let spaces = field.len() - text.len();
     field[..spaces].fill(b' ');
@@ -154,7 +158,7 @@ pub fn damage_words(random: &mut Random, words: &mut Vec<u32>) {
 }
 
 /// Cuts, lengthens or repeats what has so many elements a line.
-fn change_length<T: Element>(random: &mut Random, list: &mut Vec<T>, line: usize, most: usize) {
+pub fn change_length<T: Element>(random: &mut Random, list: &mut Vec<T>, line: usize, most: usize) {
     let len = list.len();
     let wanted = match random.below(8) {
         0 => 0,

@@ -2,9 +2,11 @@
 
 use crate::call::{sheet_size, Call, OnFile, OnRows, LISTED};
 use crate::damage::{damage_file, damage_rows, damage_words, file_of};
-use crate::tables::{self, claim_all, is_cheap};
+use crate::lengths::{table_of, Given};
+use crate::tables::{self, claim_all, is_cheap, Drawn};
+use analyser::lengths::{self, LengthTable, STANDARD};
 use analyser::random::Random;
-use analyser::table::{self, Row, FIELDS, LINE};
+use analyser::table::{self, Row, FIELDS, LINE, MOST_LINES};
 
 /// The generator of one number's draws.
 pub fn generator(seed: u64, number: u64) -> Random {
@@ -23,30 +25,79 @@ enum Task {
     Copy,
 }
 
+/// The chance of faults in a table, in percent; and in one whose lengths have some.
+const FAULTY: u64 = 45;
+const BOTH_FAULTY: u64 = 85;
+
+/// Lengths and a table, each damaged or not, and what is asked of them; or the lengths alone.
 pub fn draw(random: &mut Random) -> Call {
-    let mut drawn = tables::draw(random);
+    let drawn = tables::draw(random);
+    let faults = if random.percent(25) { random.between(1, 3) } else { 0 };
+    let given = Given::damaged(random, &drawn.lengths, faults);
+    if random.percent(6) {
+        return on_lengths(random, given);
+    }
+    let chance = if faults > 0 { BOTH_FAULTY } else { FAULTY };
+    let mut call = on_table(random, drawn, given, chance);
+    if random.percent(2) {
+        add_lines(random, &mut call);
+    }
+    call
+}
+
+/// As it was drawn before there were lengths; document 01's are loaded.
+pub fn draw_before(random: &mut Random) -> Call {
+    let drawn = tables::draw_by(random, STANDARD);
+    on_table(random, drawn, Given::document_01(), FAULTY)
+}
+
+/// Makes a file longer than any table, by its own lines.
+fn add_lines(random: &mut Random, call: &mut Call) {
+    if let Call::File(_, file, _) = call {
+        let size = (MOST_LINES + random.between(1, 9) as usize) * LINE;
+        *file = file.iter().copied().cycle().take(size).collect();
+    }
+}
+
+/// Reads the file of lengths, or writes one.
+fn on_lengths(random: &mut Random, given: Given) -> Call {
+    if random.percent(50) {
+        return Call::WriteLengths(given.numbers, area(random, lengths::FILE));
+    }
+    let table = file_of(&tables::one_of_each(random));
+    let size = area(random, sheet_size(&table));
+    Call::ReadLengths(given.file, table, size)
+}
+
+/// Asks for something of a table, which is damaged with this chance.
+fn on_table(random: &mut Random, mut drawn: Drawn, given: Given, chance: u64) -> Call {
     let task = task(random, drawn.row, drawn.rows.len());
     if task == Task::List {
-        claim_all(random, &mut drawn.rows);
+        claim_all(random, &drawn.lengths, &mut drawn.rows);
     }
-    let faults = if random.percent(45) { random.between(1, 3) } else { 0 };
+    let faults = if random.percent(chance) { random.between(1, 3) } else { 0 };
     let cheap = (faults == 0).then_some(drawn.row);
     let in_rows = random.below(faults + 1);
     (0..in_rows).for_each(|_| damage_rows(random, &mut drawn.rows));
     if random.percent(50) {
         let mut file = file_of(&drawn.rows);
         (in_rows..faults).for_each(|_| damage_file(random, &mut file));
+        let by = lengths::parse(&given.file).ok();
         let accepted = table::parse(&file).unwrap_or_default();
-        on_file(random, file, affordable(task, &accepted, cheap))
+        let task = affordable(task, &drawn.lengths, by, &accepted, cheap);
+        on_file(random, given.file, file, task)
     } else {
         let mut words = drawn.rows.concat();
         (in_rows..faults).for_each(|_| damage_words(random, &mut words));
+        let numbers = table_of(&given.numbers);
+        let by = lengths::check(&numbers).map(|()| numbers).ok();
         let accepted = table::check(&words).unwrap_or_default();
-        on_rows(random, words, affordable(task, &accepted, cheap))
+        let task = affordable(task, &drawn.lengths, by, &accepted, cheap);
+        on_rows(random, given.numbers, words, task)
     }
 }
 
-fn on_file(random: &mut Random, file: Vec<u8>, task: Task) -> Call {
+fn on_file(random: &mut Random, lengths: Vec<u8>, file: Vec<u8>, task: Task) -> Call {
     let lines = file.len() / LINE;
     let operation = match task {
         Task::Judge(row) => OnFile::Judge(row),
@@ -55,10 +106,10 @@ fn on_file(random: &mut Random, file: Vec<u8>, task: Task) -> Call {
         Task::LoadSheet => OnFile::LoadSheet(area(random, sheet_size(&file))),
         Task::Copy => OnFile::Read(area(random, lines * FIELDS)),
     };
-    Call::File(file, operation)
+    Call::File(lengths, file, operation)
 }
 
-fn on_rows(random: &mut Random, words: Vec<u32>, task: Task) -> Call {
+fn on_rows(random: &mut Random, lengths: Vec<u32>, words: Vec<u32>, task: Task) -> Call {
     let lines = words.len() / FIELDS;
     let operation = match task {
         Task::Judge(row) => OnRows::Judge(row),
@@ -66,7 +117,7 @@ fn on_rows(random: &mut Random, words: Vec<u32>, task: Task) -> Call {
         Task::List | Task::LoadSheet => OnRows::Check,
         Task::Copy => OnRows::Write(area(random, lines * LINE)),
     };
-    Call::Rows(words, operation)
+    Call::Rows(lengths, words, operation)
 }
 
 fn task(random: &mut Random, row: usize, lines: usize) -> Task {
@@ -80,15 +131,26 @@ fn task(random: &mut Random, row: usize, lines: usize) -> Task {
     }
 }
 
-/// The task, or a cheap one if it is too much work; one row may be known to be cheap.
-fn affordable(task: Task, rows: &[Row], cheap: Option<usize>) -> Task {
+/// The task, or a cheap one if it is too much work by the lengths that are given. By those that the
+/// table was drawn for one row may be known to be cheap. Where lengths are refused, nothing is much.
+fn affordable(
+    task: Task,
+    drawn: &LengthTable,
+    by: Option<LengthTable>,
+    rows: &[Row],
+    cheap: Option<usize>,
+) -> Task {
+    let Some(by) = by else {
+        return task;
+    };
     let asked = match task {
         Task::Judge(row) | Task::PreciseBound(row) => rows_at(rows, row),
         Task::List => 0..rows.len(),
         Task::LoadSheet | Task::Copy => 0..0,
     };
+    let cheap = cheap.filter(|_| by == *drawn);
     let mut asked = asked.filter(|row| Some(*row) != cheap);
-    if asked.all(|row| is_cheap(rows, row)) {
+    if asked.all(|row| is_cheap(&by, rows, row)) {
         task
     } else {
         Task::Copy

@@ -4,6 +4,7 @@ use crate::answer::{refusal, Judged};
 use crate::call::Call;
 use analyser::bounds::View;
 use analyser::judgement::LIMITS;
+use analyser::lengths::{LengthTable, FILE, PAYLOADS, STANDARD};
 use analyser::random::first_bits;
 use analyser::table::{
     self, Refusal, Row, CLAIM, IDENTIFIER, KIND, MOST_LINES, NODE, NODES, OFFSET, PAYLOAD, PERIOD,
@@ -83,7 +84,7 @@ const ALL: &[(&str, Test, Test)] = &[
     ),
     (
         "row lines-1",
-        |s| s.is_served() && s.call.row() == Some(s.call.lines() as u64 - 1),
+        |s| s.is_served() && s.call.row().is_some_and(|row| row + 1 == s.call.lines() as u64),
         |s| s.is_refused(9) && s.call.row() == Some(s.call.lines() as u64),
     ),
     ("window 1000000", |s| s.window == Some(LIMITS.window), |s| s.window > Some(LIMITS.window)),
@@ -92,9 +93,39 @@ const ALL: &[(&str, Test, Test)] = &[
         |s| s.scenarios == Some(LIMITS.scenarios),
         |s| s.scenarios.is_some_and(|count| is_beside(count, LIMITS.scenarios)),
     ),
+    (
+        "own lengths",
+        |s| s.serves_lengths(|lengths| *lengths == STANDARD),
+        |s| s.serves_lengths(|lengths| *lengths != STANDARD),
+    ),
+    (
+        "lengths of 92 bytes",
+        |s| s.lengths_size() == Some(FILE) && s.serves_lengths(|_| true),
+        |s| s.is_refused(13) && s.lengths_size() == Some(FILE + 1),
+    ),
+    (
+        "not of 91",
+        |s| s.lengths_size() == Some(FILE) && s.serves_lengths(|_| true),
+        |s| s.is_refused(13) && s.lengths_size() == Some(FILE - 1),
+    ),
+    ("length 47", |s| s.serves_length(47), |s| s.refuses_line(|line| line.contains(&46))),
+    ("length 400", |s| s.serves_length(400), |s| s.refuses_line(|line| line.contains(&401))),
+    (
+        "length as before",
+        |s| s.serves_lengths(|lengths| lengths.iter().any(has_equal_neighbours)),
+        |s| {
+            s.refuses_line(|line| {
+                line.windows(2).any(|pair| pair[0].checked_sub(1) == Some(pair[1]))
+            })
+        },
+    ),
     ("claim of rough bound", |s| s.is_judged(1, 0), |s| s.is_judged(12, -1)),
     ("claim of exact bound", |s| s.is_judged(2, 0), |s| s.is_judged(3, -1)),
 ];
+
+fn has_equal_neighbours(line: &[u32; PAYLOADS]) -> bool {
+    line.windows(2).any(|pair| pair[0] == pair[1])
+}
 
 fn is_beside(number: u64, limit: u64) -> bool {
     number > limit && number <= limit + BESIDE
@@ -105,6 +136,8 @@ struct Seen<'a> {
     call: &'a Call,
     rows: Vec<Row>,
     refusal: Option<Refusal>,
+    /// Those that were taken.
+    lengths: Option<LengthTable>,
     judged: Option<Judged>,
     /// The rough bound's window, unless it is far beyond its limit.
     window: Option<u64>,
@@ -118,7 +151,8 @@ impl<'a> Seen<'a> {
         let judges = call.operation().judges() && refusal.is_none();
         let judged = judges.then(|| Judged::new(answer));
         let rows = call.rows();
-        let seen = Seen { call, rows, refusal, judged, window: None, scenarios: None };
+        let lengths = call.lengths().and_then(Result::ok);
+        let seen = Seen { call, rows, refusal, lengths, judged, window: None, scenarios: None };
         match call.row() {
             Some(row) if seen.is_served() || seen.is_refused(11) || seen.is_refused(12) => {
                 seen.with_row(row as usize)
@@ -129,7 +163,8 @@ impl<'a> Seen<'a> {
 
     /// Looks at the row asked for.
     fn with_row(self, row: usize) -> Seen<'a> {
-        let view = View::new(&self.rows, row);
+        let lengths = self.lengths.expect("a row is judged by lengths");
+        let view = View::new(&lengths, &self.rows, row);
         let window = view.rough_window(LIMITS.window + BESIDE);
         let verdict = self.judged.as_ref().map(|judged| judged.verdict);
         let hangs_on_count = !self.is_refused(11) && !matches!(verdict, Some(1 | 11));
@@ -148,6 +183,32 @@ impl<'a> Seen<'a> {
     fn is_judged(&self, verdict: i64, margin: i64) -> bool {
         let judged = self.judged.as_ref();
         judged.is_some_and(|judged| judged.verdict == verdict && judged.margin == margin)
+    }
+
+    /// How many bytes the file of lengths has, where it is a file.
+    fn lengths_size(&self) -> Option<usize> {
+        match self.call {
+            Call::File(file, ..) | Call::ReadLengths(file, ..) => Some(file.len()),
+            Call::Rows(..) | Call::WriteLengths(..) => None,
+        }
+    }
+
+    /// The lengths of a call that is served are such.
+    fn serves_lengths(&self, test: impl Fn(&LengthTable) -> bool) -> bool {
+        self.is_served() && self.lengths.is_some_and(|lengths| test(&lengths))
+    }
+
+    fn serves_length(&self, length: u32) -> bool {
+        self.serves_lengths(|lengths| lengths.iter().flatten().any(|other| *other == length))
+    }
+
+    /// The line of lengths that is turned back is such a line.
+    fn refuses_line(&self, test: fn(&[u32; PAYLOADS]) -> bool) -> bool {
+        let Some(Refusal { number: 14, place }) = self.refusal else {
+            return false;
+        };
+        let lengths = self.call.numbers().expect("14 comes behind 13");
+        lengths.get(place as usize - 1).is_some_and(test)
     }
 
     /// An accepted table has such a row.

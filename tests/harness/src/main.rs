@@ -9,9 +9,11 @@ mod compare;
 mod damage;
 mod frame_lengths;
 mod inputs;
+mod lengths;
 mod lent;
 mod library;
 mod limits;
+mod orders;
 mod repeats;
 mod runs;
 mod simulate;
@@ -28,12 +30,14 @@ use std::process::ExitCode;
 const USAGE: &str = "usage:
   harness random SEED COUNT [--save FILE]
   harness replay SEED NUMBER [--save FILE]
+  harness before SEED COUNT [--save FILE]
+  harness replay-before SEED NUMBER [--save FILE]
   harness simulate SEED COUNT
   harness frame-lengths SEED COUNT
   harness bench
   harness repeats
   harness slow SEED MINUTES [--save FILE]
-  harness time library|yardstick|analyser|plain.. < table";
+  harness time library|yardstick|analyser|plain.. < lengths and table";
 
 fn main() -> ExitCode {
     let words: Vec<String> = std::env::args().skip(1).collect();
@@ -55,7 +59,13 @@ fn run(words: &[&str]) -> io::Result<bool> {
             runs::random(number(seed)?, number(count)?, save(rest)?)
         }
         ["replay", seed, input, rest @ ..] => {
-            runs::replay(number(seed)?, number(input)?, save(rest)?)
+            runs::ANY.replay(number(seed)?, number(input)?, save(rest)?)
+        }
+        ["before", seed, count, rest @ ..] => {
+            runs::before(number(seed)?, number(count)?, save(rest)?)
+        }
+        ["replay-before", seed, input, rest @ ..] => {
+            runs::BEFORE.replay(number(seed)?, number(input)?, save(rest)?)
         }
         ["simulate", seed, count] => Ok(simulate::simulate(number(seed)?, number(count)?)),
         ["frame-lengths", seed, count] => Ok(frame_lengths::run(number(seed)?, number(count)?)),

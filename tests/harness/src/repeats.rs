@@ -1,6 +1,6 @@
 //! How often the yardstick looks for a greatest work that it has looked for before.
 
-use crate::bench_groups::groups;
+use crate::bench_groups::{groups, Table};
 use crate::yardstick;
 
 const LEGEND: &str = "Greatest works that the yardstick looks for in whole listings.
@@ -11,8 +11,8 @@ pub fn repeats() -> bool {
     println!("{LEGEND}");
     for (title, tables) in groups() {
         println!("\n{title}\n{:<42}{:>10}{:>10}", "", "looks", "repeated");
-        for (name, rows) in &tables {
-            let (looks, repeated) = yardstick::count_looks(rows);
+        for Table { name, lengths, rows } in &tables {
+            let (looks, repeated) = yardstick::count_looks(lengths, rows);
             println!("{name:<42}{looks:>10}{repeated:>10}");
         }
     }

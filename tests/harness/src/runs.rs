@@ -1,10 +1,12 @@
 //! The library beside the analyser on random inputs.
 
 use crate::call::Call;
-use crate::compare::compare;
-use crate::inputs::{draw, generator};
+use crate::compare::{compare, Lengths};
+use crate::inputs::{draw, draw_before, generator};
 use crate::limits::Limits;
+use crate::orders::Orders;
 use crate::tally::Tally;
+use analyser::random::Random;
 use std::io;
 use std::panic::catch_unwind;
 
@@ -14,74 +16,119 @@ const ENOUGH: u64 = 10_000;
 /// So many differences are printed.
 const MOST_PRINTED: u64 = 10;
 
+/// Inputs that a seed and a number settle, and the lengths by which the analyser answers them.
+#[derive(Clone, Copy)]
+pub struct Source {
+    draw: fn(&mut Random) -> Call,
+    by: Lengths,
+}
+
+/// Lengths and tables of every kind.
+pub const ANY: Source = Source { draw, by: Lengths::Loaded };
+
+/// Inputs as before there were lengths, with document 01's loaded; the analyser has its constant.
+pub const BEFORE: Source = Source { draw: draw_before, by: Lengths::Constant };
+
 /// Compares so many inputs; true if nothing differs. The first that does is saved if wanted.
 pub fn random(seed: u64, count: u64, save: Option<&str>) -> io::Result<bool> {
     println!("seed {seed}");
     let mut tally = Tally::new();
     let mut limits = Limits::new();
-    let mut differences = 0;
-    for number in 0..count {
-        match compare_one(seed, number) {
-            Ok((call, answer)) => {
-                tally.add(&call, answer);
-                limits.add(&call, answer);
-            }
-            Err(difference) => {
-                if differences < MOST_PRINTED {
-                    println!("{difference}");
-                }
-                if differences == 0 {
-                    save_input(seed, number, save)?;
-                }
-                differences += 1;
-            }
-        }
-    }
+    let mut orders = Orders::new();
+    let differences = ANY.run(seed, count, save, |call, answer| {
+        tally.add(call, answer);
+        limits.add(call, answer);
+        orders.add(call, answer);
+    })?;
     tally.print();
     limits.print();
-    let complete = count < ENOUGH || is_complete(&tally, &limits);
+    orders.print();
+    let faults = [tally.faults(), limits.faults(), orders.faults()].concat();
+    let complete = count < ENOUGH || is_complete(&faults);
     println!("{} listings by the yardstick as well", tally.listings());
     println!("{count} inputs, {differences} differences");
     Ok(differences == 0 && complete)
 }
 
+/// The same for inputs as before there were lengths.
+pub fn before(seed: u64, count: u64, save: Option<&str>) -> io::Result<bool> {
+    println!("seed {seed}");
+    let mut tally = Tally::with_good_lengths();
+    let differences = BEFORE.run(seed, count, save, |call, answer| tally.add(call, answer))?;
+    tally.print();
+    let complete = count < ENOUGH || is_complete(&tally.faults());
+    println!("{} listings by the yardstick as well", tally.listings());
+    println!(
+        "{count} inputs as before with document 01's lengths loaded, {differences} differences"
+    );
+    Ok(differences == 0 && complete)
+}
+
 /// Prints what must have occurred and did not; true if there is nothing.
-fn is_complete(tally: &Tally, limits: &Limits) -> bool {
-    let faults = [tally.faults(), limits.faults()].concat();
+fn is_complete(faults: &[String]) -> bool {
     faults.iter().for_each(|fault| println!("{fault}"));
     faults.is_empty()
 }
 
-/// Draws and compares one input again; true if nothing differs.
-pub fn replay(seed: u64, number: u64, save: Option<&str>) -> io::Result<bool> {
-    let compared = compare_one(seed, number);
-    match &compared {
-        Ok((call, answer)) => println!("seed {seed}, input {number}: {call}: both answer {answer}"),
-        Err(difference) => println!("{difference}"),
+impl Source {
+    /// Compares so many inputs, and hands on each call with its answer; gives how many differ.
+    fn run(
+        self,
+        seed: u64,
+        count: u64,
+        save: Option<&str>,
+        mut add: impl FnMut(&Call, i64),
+    ) -> io::Result<u64> {
+        let mut differences = 0;
+        for number in 0..count {
+            match self.compare_one(seed, number) {
+                Ok((call, answer)) => add(&call, answer),
+                Err(difference) => {
+                    if differences < MOST_PRINTED {
+                        println!("{difference}");
+                    }
+                    if differences == 0 {
+                        self.save_input(seed, number, save)?;
+                    }
+                    differences += 1;
+                }
+            }
+        }
+        Ok(differences)
     }
-    save_input(seed, number, save)?;
-    Ok(compared.is_ok())
-}
 
-/// The call and its answer, or what differs at which input.
-fn compare_one(seed: u64, number: u64) -> Result<(Call, i64), String> {
-    let drawn = catch_unwind(|| {
-        let mut random = generator(seed, number);
-        let call = draw(&mut random);
-        let compared = compare(&call, &mut random);
-        (call, compared)
-    });
-    let input = format!("seed {seed}, input {number}");
-    match drawn {
-        Ok((call, Ok(answer))) => Ok((call, answer)),
-        Ok((call, Err(difference))) => Err(format!("{input}: {call}: {difference}")),
-        Err(_) => Err(format!("{input}: the analyser or the yardstick fails")),
+    /// Draws and compares one input again; true if nothing differs.
+    pub fn replay(self, seed: u64, number: u64, save: Option<&str>) -> io::Result<bool> {
+        let compared = self.compare_one(seed, number);
+        let input = format!("seed {seed}, input {number}");
+        match &compared {
+            Ok((call, answer)) => println!("{input}: {call}: both answer {answer}"),
+            Err(difference) => println!("{difference}"),
+        }
+        self.save_input(seed, number, save)?;
+        Ok(compared.is_ok())
     }
-}
 
-fn save_input(seed: u64, number: u64, save: Option<&str>) -> io::Result<()> {
-    let Some(path) = save else {
-        return Ok(());
-    };
-    std::fs::write(path, draw(&mut generator(seed, number)).bytes())
+    /// The call and its answer, or what differs at which input.
+    fn compare_one(self, seed: u64, number: u64) -> Result<(Call, i64), String> {
+        let drawn = catch_unwind(|| {
+            let mut random = generator(seed, number);
+            let call = (self.draw)(&mut random);
+            let compared = compare(&call, self.by, &mut random);
+            (call, compared)
+        });
+        let input = format!("seed {seed}, input {number}");
+        match drawn {
+            Ok((call, Ok(answer))) => Ok((call, answer)),
+            Ok((call, Err(difference))) => Err(format!("{input}: {call}: {difference}")),
+            Err(_) => Err(format!("{input}: the analyser or the yardstick fails")),
+        }
+    }
+
+    fn save_input(self, seed: u64, number: u64, save: Option<&str>) -> io::Result<()> {
+        let Some(path) = save else {
+            return Ok(());
+        };
+        std::fs::write(path, (self.draw)(&mut generator(seed, number)).bytes())
+    }
 }

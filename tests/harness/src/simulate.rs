@@ -2,11 +2,12 @@
 
 use crate::answer::Judged;
 use crate::inputs::generator;
+use crate::lengths::Given;
 use crate::lent::Lent;
 use crate::library;
 use crate::starts::{starts, starts_to_meet, worst_scenario, worst_starts};
 use crate::tables::{self, claim_all, lowest, Drawn};
-use analyser::bounds::length;
+use analyser::lengths::{length, LengthTable, STANDARD};
 use analyser::literal_bus;
 use analyser::random::Random;
 use analyser::simulator::{release, schedule, Starts, Transmission};
@@ -24,6 +25,8 @@ const ENOUGH: u64 = 100;
 #[derive(Default)]
 struct Tally {
     tables: u64,
+    /// Tables by other lengths than document 01's, and the frames certified by them.
+    own: [u64; 2],
     /// Frames certified by the rough bound, and by the exact one.
     certified: [u64; 2],
     schedules: u64,
@@ -43,12 +46,14 @@ pub fn simulate(seed: u64, count: u64) -> bool {
     while tally.tables < count {
         let mut random = generator(seed, tally.tables);
         let mut drawn = tables::draw(&mut random);
-        claim_all(&mut random, &mut drawn.rows);
+        claim_all(&mut random, &drawn.lengths, &mut drawn.rows);
         let failures = tally.failures();
         tally.simulate_table(&mut random, &drawn);
         if failures == 0 && tally.failures() > 0 {
             println!("seed {seed}, table {} is the first to fail:", tally.tables);
-            print!("{}", String::from_utf8_lossy(&table::file_of(&drawn.rows)));
+            let lengths = Given::whole(&drawn.lengths).file;
+            let input = [lengths, table::file_of(&drawn.rows)].concat();
+            print!("{}", String::from_utf8_lossy(&input));
         }
         tally.tables += 1;
     }
@@ -63,13 +68,17 @@ impl Tally {
             *count += rows.len() as u64;
         }
         let certified = by_verdict.concat();
+        if drawn.lengths != STANDARD {
+            self.own[0] += 1;
+            self.own[1] += certified.len() as u64;
+        }
         for _ in 0..SCHEDULES {
             let worst = worst_starts(random, drawn, &certified);
             let starts = worst.unwrap_or_else(|| starts(random, &drawn.rows));
-            self.check_claims(random, &drawn.rows, &starts, &certified);
+            self.check_claims(random, drawn, &starts, &certified);
         }
         if self.tables % 4 == 0 {
-            self.follow_ticks(random, &drawn.rows);
+            self.follow_ticks(random, drawn);
         }
         if let Some(reached) = reaches_bound(random, drawn) {
             self.bounds += 1;
@@ -81,13 +90,15 @@ impl Tally {
     fn check_claims(
         &mut self,
         random: &mut Random,
-        rows: &[Row],
+        drawn: &Drawn,
         starts: &Starts,
         certified: &[usize],
     ) {
+        let rows = &drawn.rows;
         let until = until(rows, starts);
         let manner = random.below(3);
-        let list = schedule(rows, starts, until, &mut |row| draw_length(random, manner, row));
+        let mut lengths = |row: &Row| draw_length(random, manner, &drawn.lengths, row);
+        let list = schedule(rows, starts, until, &mut lengths);
         let ends = ends(rows, &list);
         for row in certified {
             let latest = |n: u64| release(&rows[*row], starts, n) + u64::from(rows[*row][CLAIM]);
@@ -106,12 +117,14 @@ impl Tally {
     }
 
     /// Both simulators give the same schedule for the same lengths.
-    fn follow_ticks(&mut self, random: &mut Random, rows: &[Row]) {
+    fn follow_ticks(&mut self, random: &mut Random, drawn: &Drawn) {
+        let rows = &drawn.rows;
         let starts: Starts = std::array::from_fn(|_| random.below(TICKS / 8));
         let manner = random.below(3);
         let mut again = random.clone();
-        let list = schedule(rows, &starts, TICKS, &mut |row| draw_length(random, manner, row));
-        let mut lengths = |row: &Row| draw_length(&mut again, manner, row);
+        let mut lengths = |row: &Row| draw_length(random, manner, &drawn.lengths, row);
+        let list = schedule(rows, &starts, TICKS, &mut lengths);
+        let mut lengths = |row: &Row| draw_length(&mut again, manner, &drawn.lengths, row);
         let ticked = literal_bus::schedule(rows, &starts, TICKS, &mut lengths);
         self.ticked += 1;
         self.unequal += u64::from(list != ticked);
@@ -124,13 +137,19 @@ impl Tally {
     /// Whether everything that is counted has occurred.
     fn is_complete(&self) -> bool {
         let [rough, exact] = self.certified;
-        ![rough, exact, self.instances, self.just_in_time, self.bounds, self.ticked].contains(&0)
+        let [own, own_certified] = self.own;
+        let lengths = ![self.tables - own, own, own_certified].contains(&0);
+        lengths
+            && ![rough, exact, self.instances, self.just_in_time, self.bounds, self.ticked]
+                .contains(&0)
     }
 
     fn print(&self) {
         let Tally { tables, schedules, instances, late, .. } = self;
         let [rough, exact] = self.certified;
         println!("{rough} frames certified by the rough bound, {exact} by the exact one");
+        let [own, own_certified] = self.own;
+        println!("{own} tables by own lengths, {own_certified} frames certified by them");
         println!("{} instances of them end at their claim", self.just_in_time);
         let met = self.bounds - self.missed;
         println!("{} bounds of lowest-priority frames, {met} met to the tick", self.bounds);
@@ -141,10 +160,11 @@ impl Tally {
 
 /// The rows that the library certifies with verdict 1, and with 2, of those not too much work.
 fn certified_rows(random: &mut Random, drawn: &Drawn) -> [Vec<usize>; 2] {
+    let mut lengths = Lent::new(random, &drawn.lengths.concat());
     let mut words = Lent::new(random, &drawn.rows.concat());
     let mut by_verdict = [Vec::new(), Vec::new()];
     for row in (0..drawn.rows.len()).filter(|row| drawn.is_cheap(*row)) {
-        match Judged::new(library::judge_rows(&mut words, row as u64)).verdict {
+        match Judged::new(library::judge_rows(&mut lengths, &mut words, row as u64)).verdict {
             1 => by_verdict[0].push(row),
             2 => by_verdict[1].push(row),
             _ => (),
@@ -168,8 +188,8 @@ fn until(rows: &[Row], starts: &Starts) -> u64 {
 }
 
 /// Always the largest, anything, or mostly the largest.
-fn draw_length(random: &mut Random, manner: u64, row: &Row) -> u64 {
-    let largest = length(row);
+fn draw_length(random: &mut Random, manner: u64, lengths: &LengthTable, row: &Row) -> u64 {
+    let largest = length(lengths, row);
     match manner {
         0 => largest,
         1 => random.between(1, largest),
@@ -181,23 +201,25 @@ fn draw_length(random: &mut Random, manner: u64, row: &Row) -> u64 {
 /// Whether the lowest-priority frame takes its precise bound to the tick, when the releases of the
 /// worst scenario meet and all lengths are largest; none if there is no such scenario.
 fn reaches_bound(random: &mut Random, drawn: &Drawn) -> Option<bool> {
-    let rows = &drawn.rows;
-    let row = lowest(rows);
+    let row = lowest(&drawn.rows);
     let (worst, instants) = worst_scenario(drawn, row)?;
-    let mut words = Lent::new(random, &rows.concat());
-    let bound = library::precise_bound_rows(&mut words, row as u64);
+    let mut lengths = Lent::new(random, &drawn.lengths.concat());
+    let mut words = Lent::new(random, &drawn.rows.concat());
+    let bound = library::precise_bound_rows(&mut lengths, &mut words, row as u64);
     let bound = u64::try_from(bound).unwrap_or(0);
-    Some(response(rows, row, &instants, worst.q, bound) == Some(bound))
+    Some(response(drawn, row, &instants, worst.q, bound) == Some(bound))
 }
 
 /// The response of the q-th instance from the tick where the instants meet, if it starts in time.
-fn response(rows: &[Row], row: usize, instants: &[u64], q: u64, bound: u64) -> Option<u64> {
+fn response(drawn: &Drawn, row: usize, instants: &[u64], q: u64, bound: u64) -> Option<u64> {
+    let rows = &drawn.rows;
     let starts = starts_to_meet(instants);
     let meeting = starts[0] + instants[0];
     let queued = |n: &u64| release(&rows[row], &starts, *n) >= meeting;
     let instance = (0..).find(queued).expect("a later release") + q - 1;
     let queueing = release(&rows[row], &starts, instance);
-    let list = schedule(rows, &starts, queueing + bound, &mut length);
+    let mut largest = |row: &Row| length(&drawn.lengths, row);
+    let list = schedule(rows, &starts, queueing + bound, &mut largest);
     let sent = list.iter().find(|sent| sent.row == row && sent.instance == instance);
     sent.map(|sent| sent.end() - queueing)
 }

@@ -1,10 +1,11 @@
 //! A search for tables that the library takes long to list: the benchmark's tables are changed a
 //! little, over and over, and what takes longer is kept.
 
-use crate::bench::library_listing;
-use crate::bench_groups::groups;
+use crate::bench::{input_of, library_listing};
+use crate::bench_groups::{groups, Table};
 use analyser::bounds::rank;
-use analyser::random::Random;
+use analyser::lengths::LengthTable;
+use analyser::random::{own_lengths, Random};
 use analyser::table::{
     self, Row, CLAIM, IDENTIFIER, KIND, MOST_LINES, NODE, NODES, OFFSET, PAYLOAD, PERIOD,
 };
@@ -18,22 +19,23 @@ const SLOWER: f64 = 1.02;
 
 const LONGEST_PERIOD: u64 = 1_000_000;
 
-/// Rows in order of rank, and the seconds that their listing takes.
+/// Lengths, rows in order of rank, and the seconds that their listing takes.
 struct Timed {
+    lengths: LengthTable,
     rows: Vec<Row>,
     seconds: f64,
 }
 
 impl Timed {
-    fn new(rows: Vec<Row>) -> Timed {
-        Timed { rows, seconds: f64::INFINITY }.again()
+    fn new(lengths: LengthTable, rows: Vec<Row>) -> Timed {
+        Timed { lengths, rows, seconds: f64::INFINITY }.again()
     }
 
     /// Timed once more: the lesser time counts, since other work on the machine only adds to it.
     fn again(self) -> Timed {
-        let file = table::file_of(&self.rows);
+        let input = input_of(&self.lengths, &self.rows);
         let start = Instant::now();
-        library_listing(&file);
+        library_listing(&input);
         Timed { seconds: self.seconds.min(start.elapsed().as_secs_f64()), ..self }
     }
 
@@ -47,7 +49,7 @@ impl Timed {
 pub fn search(seed: u64, minutes: u64, save: Option<&str>) -> io::Result<bool> {
     let random = &mut Random::new(seed);
     let begin = Instant::now();
-    let mut kept: Vec<Timed> = starts().map(Timed::new).collect();
+    let mut kept: Vec<Timed> = starts().collect();
     sort(&mut kept);
     println!("seed {seed}, {:.2} s at first", kept[0].seconds);
     let mut tried = 0;
@@ -55,18 +57,19 @@ pub fn search(seed: u64, minutes: u64, save: Option<&str>) -> io::Result<bool> {
         let [one, other] = [0; 2].map(|_| random.below(kept.len() as u64) as usize);
         let parent = &kept[one.min(other)];
         let rows = changed(random, &parent.rows, &kept[other].rows);
+        let lengths = if random.percent(5) { own_lengths(random) } else { parent.lengths };
         if table::parse(&table::file_of(&rows)).is_err() {
             continue;
         }
         tried += 1;
-        let timed = Timed::new(rows);
+        let timed = Timed::new(lengths, rows);
         if !timed.is_slower(parent) {
             continue;
         }
         let timed = timed.again();
         if timed.is_slower(&kept[0]) {
             println!("table {tried}: {:.2} s", timed.seconds);
-            save.map_or(Ok(()), |path| fs::write(path, table::file_of(&timed.rows)))?;
+            save.map_or(Ok(()), |path| fs::write(path, input_of(&timed.lengths, &timed.rows)))?;
         }
         if timed.is_slower(parent) {
             keep(random, &mut kept, timed);
@@ -77,10 +80,11 @@ pub fn search(seed: u64, minutes: u64, save: Option<&str>) -> io::Result<bool> {
 }
 
 /// The benchmark's tables.
-fn starts() -> impl Iterator<Item = Vec<Row>> {
-    groups().into_iter().flat_map(|(_, tables)| tables).map(|(_, mut rows)| {
+fn starts() -> impl Iterator<Item = Timed> {
+    let tables = groups().into_iter().flat_map(|(_, tables)| tables);
+    tables.map(|Table { lengths, mut rows, .. }| {
         rows.sort_by_key(rank);
-        numbered(rows)
+        Timed::new(lengths, numbered(rows))
     })
 }
 

@@ -1,8 +1,9 @@
 //! Starts of the nodes of a simulated bus.
 
 use crate::tables::Drawn;
-use analyser::bounds::{length, rank, View, Worst};
+use analyser::bounds::{rank, View, Worst};
 use analyser::judgement::LIMITS;
+use analyser::lengths::length;
 use analyser::random::Random;
 use analyser::simulator::Starts;
 use analyser::table::{self, Row, NODE, NODES, OFFSET, PERIOD};
@@ -29,8 +30,7 @@ pub fn worst_starts(random: &mut Random, drawn: &Drawn, certified: &[usize]) -> 
     }
     let row = random.pick(certified);
     let (_, mut instants) = worst_scenario(drawn, row)?;
-    let rows = &drawn.rows;
-    if let Some(blocking) = blocking_frame(rows, &rows[row]) {
+    if let Some(blocking) = blocking_frame(drawn, &drawn.rows[row]) {
         instants[blocking[NODE] as usize - 1] = u64::from(blocking[OFFSET]) + 1;
     }
     Some(starts_to_meet(&instants))
@@ -39,7 +39,7 @@ pub fn worst_starts(random: &mut Random, drawn: &Drawn, certified: &[usize]) -> 
 /// The exact bound of a row and the instants of the first scenario that gives it; none if there are
 /// too many scenarios, or no window.
 pub fn worst_scenario(drawn: &Drawn, row: usize) -> Option<(Worst, Vec<u64>)> {
-    let view = View::new(&drawn.rows, row);
+    let view = View::new(&drawn.lengths, &drawn.rows, row);
     if view.scenario_count() > MOST_SCENARIOS || !drawn.is_cheap(row) {
         return None;
     }
@@ -49,10 +49,10 @@ pub fn worst_scenario(drawn: &Drawn, row: usize) -> Option<(Worst, Vec<u64>)> {
 }
 
 /// The longest frame below, unless its node has frames ahead.
-fn blocking_frame<'a>(rows: &'a [Row], frame: &Row) -> Option<&'a Row> {
+fn blocking_frame<'a>(drawn: &'a Drawn, frame: &Row) -> Option<&'a Row> {
     let (below, ahead): (Vec<&Row>, Vec<&Row>) =
-        rows.iter().partition(|row| rank(row) > rank(frame));
-    let longest = below.into_iter().max_by_key(|row| length(row))?;
+        drawn.rows.iter().partition(|row| rank(row) > rank(frame));
+    let longest = below.into_iter().max_by_key(|row| length(&drawn.lengths, row))?;
     let alone = ahead.iter().all(|row| row[NODE] != longest[NODE]);
     alone.then_some(longest)
 }

@@ -1,10 +1,12 @@
 //! Accepted tables of many shapes, cheap enough to judge.
 
-use analyser::bounds::{length, rank, View};
+use crate::lengths;
+use analyser::bounds::{rank, View};
 use analyser::judge_cases::{
     self, apart, counted_table, long_window_table, LONG_WINDOWS, NO_ROUGH_WINDOW,
 };
 use analyser::judgement::LIMITS;
+use analyser::lengths::{length, LengthTable, PAYLOADS, STANDARD};
 use analyser::random::{clustered, set_claim, Random};
 use analyser::table::{self, Row, CLAIM, IDENTIFIER, KIND, NODE, NODES, OFFSET, PERIOD};
 
@@ -14,8 +16,9 @@ const MOST_EFFORT: u64 = 300_000;
 /// Load in parts of this.
 const WHOLE: u64 = 1_000_000;
 
-/// An accepted table, and a row of it that is not too much work.
+/// Lengths, an accepted table, and a row of it that is not too much work by them.
 pub struct Drawn {
+    pub lengths: LengthTable,
     pub rows: Vec<Row>,
     pub row: usize,
 }
@@ -23,19 +26,26 @@ pub struct Drawn {
 impl Drawn {
     /// Whether another row is not too much work either.
     pub fn is_cheap(&self, row: usize) -> bool {
-        row == self.row || is_cheap(&self.rows, row)
+        row == self.row || is_cheap(&self.lengths, &self.rows, row)
     }
 }
 
-/// Draws a table and a row, and a claim for it, mostly at or beside its bounds.
+/// Draws lengths, a table and a row.
 pub fn draw(random: &mut Random) -> Drawn {
+    let lengths = lengths::draw(random);
+    draw_by(random, lengths)
+}
+
+/// Draws a table and a row by lengths, and a claim for it, mostly at or beside its bounds. What is made
+/// to stand at a limit is by document 01's lengths.
+pub fn draw_by(random: &mut Random, lengths: LengthTable) -> Drawn {
     let mut drawn = match random.below(100) {
         0..=5 => near_the_limit(random),
         6..=9 => many_scenarios(random),
-        10..=39 => bounds_apart(random),
-        _ => cheap_row(random),
+        10..=39 => bounds_apart(random, lengths),
+        _ => cheap_row(random, lengths),
     };
-    set_claim(random, &mut drawn.rows, drawn.row, LIMITS);
+    set_claim(random, &drawn.lengths, &mut drawn.rows, drawn.row, LIMITS);
     if random.percent(8) {
         drawn.rows[drawn.row][CLAIM] = random.pick(&[1, 1_000_000]);
     }
@@ -43,30 +53,31 @@ pub fn draw(random: &mut Random) -> Drawn {
 }
 
 /// A row of any shape that is not too much work.
-fn cheap_row(random: &mut Random) -> Drawn {
+fn cheap_row(random: &mut Random, lengths: LengthTable) -> Drawn {
     loop {
-        let rows = shape(random);
+        let rows = shape(random, &lengths);
         let row = random.below(rows.len() as u64) as usize;
-        if table::check(&rows.concat()).is_ok() && is_cheap(&rows, row) {
-            return Drawn { rows, row };
+        if table::check(&rows.concat()).is_ok() && is_cheap(&lengths, &rows, row) {
+            return Drawn { lengths, rows, row };
         }
     }
 }
 
 /// A row whose exact bound is below the rough one; the last in rank is the likeliest.
-fn bounds_apart(random: &mut Random) -> Drawn {
+fn bounds_apart(random: &mut Random, lengths: LengthTable) -> Drawn {
     loop {
         let rows = match random.below(10) {
-            0..=5 => clustered(random, 2, 6, (105, 150)),
-            6..=7 => judge_cases::close(random),
-            8 => judge_cases::full(random),
-            _ => shape(random),
+            0..=5 => clustered(random, &lengths, 2, 6, (105, 150)),
+            6..=7 => judge_cases::close(random, &lengths),
+            8 => judge_cases::full(random, &lengths),
+            _ => shape(random, &lengths),
         };
         let any = random.below(rows.len() as u64) as usize;
         for row in [lowest(&rows), any] {
             let accepted = table::check(&rows.concat()).is_ok();
-            if accepted && is_cheap(&rows, row) && apart(&View::new(&rows, row)) {
-                return Drawn { rows, row };
+            let cheap = accepted && is_cheap(&lengths, &rows, row);
+            if cheap && apart(&View::new(&lengths, &rows, row)) {
+                return Drawn { lengths, rows, row };
             }
         }
     }
@@ -79,42 +90,54 @@ pub fn lowest(rows: &[Row]) -> usize {
 }
 
 /// Rows that are accepted or nearly so.
-fn shape(random: &mut Random) -> Vec<Row> {
+fn shape(random: &mut Random, lengths: &LengthTable) -> Vec<Row> {
     match random.below(100) {
-        0..=29 => judge_cases::close(random),
-        30..=37 => judge_cases::full(random),
-        38..=51 => judge_cases::filled(random),
-        52..=67 => judge_cases::wide(random),
-        68..=79 => judge_cases::long(random),
-        80..=87 => judge_cases::short(random),
-        88..=92 => nearly_full(random),
-        93..=96 => clustered(random, NODES.into(), 8, (110, 300)),
-        _ => lone_frame(random),
+        0..=29 => judge_cases::close(random, lengths),
+        30..=37 => judge_cases::full(random, lengths),
+        38..=51 => judge_cases::filled(random, lengths),
+        52..=67 => judge_cases::wide(random, lengths),
+        68..=79 => judge_cases::long(random, lengths),
+        80..=87 => judge_cases::short(random, lengths),
+        88..=92 => nearly_full(random, lengths),
+        93..=96 => clustered(random, lengths, NODES.into(), 8, (110, 300)),
+        _ => lone_frame(random, lengths),
     }
 }
 
+/// A frame of each kind and payload, but for two, each of its own node and queued at every tick: by
+/// its load sheet a length is a node's quotient / 10000.
+pub fn one_of_each(random: &mut Random) -> Vec<Row> {
+    let payloads = || 0..PAYLOADS as u32;
+    let of_kind = |kind| payloads().map(move |payload| [0, payload, kind, payload, 1, 0, 500]);
+    let mut rows: Vec<Row> = of_kind(11).chain(of_kind(29)).collect();
+    random.shuffle(&mut rows);
+    rows.truncate(NODES as usize);
+    (1..).zip(&mut rows).for_each(|(node, row)| row[NODE] = node);
+    rows
+}
+
 /// Sets the claims of all rows that are not too much work.
-pub fn claim_all(random: &mut Random, rows: &mut [Row]) {
+pub fn claim_all(random: &mut Random, lengths: &LengthTable, rows: &mut [Row]) {
     for row in 0..rows.len() {
-        if is_cheap(rows, row) {
-            set_claim(random, rows, row, LIMITS);
+        if is_cheap(lengths, rows, row) {
+            set_claim(random, lengths, rows, row, LIMITS);
         }
     }
 }
 
 /// Whether judging a row of accepted rows is not too much work.
-pub fn is_cheap(rows: &[Row], row: usize) -> bool {
-    effort(rows, row) <= MOST_EFFORT
+pub fn is_cheap(lengths: &LengthTable, rows: &[Row], row: usize) -> bool {
+    effort(lengths, rows, row) <= MOST_EFFORT
 }
 
 /// About how many sums it takes to judge a row.
-fn effort(rows: &[Row], row: usize) -> u64 {
-    let view = View::new(rows, row);
+fn effort(lengths: &LengthTable, rows: &[Row], row: usize) -> u64 {
+    let view = View::new(lengths, rows, row);
     let counts: Vec<u64> = view.alignment_counts().collect();
     let own = counts[rows[row][NODE] as usize - 1];
     let count = view.scenario_count();
     let scenarios = if count > LIMITS.scenarios { 0 } else { count };
-    let search = steps(rows, row) * (own * counts.iter().sum::<u64>() + scenarios);
+    let search = steps(lengths, rows, row) * (own * counts.iter().sum::<u64>() + scenarios);
     if search > MOST_EFFORT {
         return search;
     }
@@ -123,34 +146,34 @@ fn effort(rows: &[Row], row: usize) -> u64 {
 }
 
 /// About how many steps a search takes: the more, the nearer the load is to 1.
-fn steps(rows: &[Row], row: usize) -> u64 {
+fn steps(lengths: &LengthTable, rows: &[Row], row: usize) -> u64 {
     let ahead = rows.iter().filter(|other| rank(other) <= rank(&rows[row]));
-    let load: u64 = ahead.map(load).sum();
+    let load: u64 = ahead.map(|row| load(lengths, row)).sum();
     10 * WHOLE / load.abs_diff(WHOLE).max(500)
 }
 
-fn load(row: &Row) -> u64 {
-    length(row) * WHOLE / u64::from(row[PERIOD])
+fn load(lengths: &LengthTable, row: &Row) -> u64 {
+    length(lengths, row) * WHOLE / u64::from(row[PERIOD])
 }
 
 /// Alone on the bus, with a period beside its length.
-fn lone_frame(random: &mut Random) -> Vec<Row> {
+fn lone_frame(random: &mut Random, lengths: &LengthTable) -> Vec<Row> {
     let (kind, last) = random.pick(&[(11, 2047), (29, 536_870_911)]);
     let mut row = [random.between(1, 16) as u32, 0, kind, random.below(9) as u32, 0, 0, 500];
     row[IDENTIFIER] = random.pick(&[0, 1, last - 1, last]);
-    row[PERIOD] = (length(&row) + random.below(5) - 2) as u32;
+    row[PERIOD] = (length(lengths, &row) + random.below(5) - 2) as u32;
     row[OFFSET] = random.below(row[PERIOD].into()) as u32;
     vec![row]
 }
 
 /// Three lone frames that leave little of the bus, and a node with rare frames.
-fn nearly_full(random: &mut Random) -> Vec<Row> {
+fn nearly_full(random: &mut Random, lengths: &LengthTable) -> Vec<Row> {
     let mut rows: Vec<Row> = Vec::new();
     let mut left = WHOLE - random.between(200, 4000);
     for share in [random.between(30, 60), random.between(80, 95), 100] {
         let mut row = [rows.len() as u32 + 1, 0, 11, random.below(9) as u32, 0, 0, 500];
-        row[PERIOD] = (length(&row) * WHOLE * 100 / (left * share)) as u32 + 1;
-        left = left.saturating_sub(load(&row)).max(1000);
+        row[PERIOD] = (length(lengths, &row) * WHOLE * 100 / (left * share)) as u32 + 1;
+        left = left.saturating_sub(load(lengths, &row)).max(1000);
         rows.push(row);
     }
     let period = random.between(200_000, 1_000_000) as u32;
@@ -158,7 +181,7 @@ fn nearly_full(random: &mut Random) -> Vec<Row> {
         let offset = random.pick(&[0, 0, period / 2]);
         rows.push([4, 0, 11, random.below(9) as u32, period, offset, 500]);
     }
-    disguised(random, rows, 0).rows
+    disguised(random, rows, 0).0
 }
 
 /// Windows at and beside the longest that is served, or none for the rough bound alone.
@@ -169,7 +192,8 @@ fn near_the_limit(random: &mut Random) -> Drawn {
         long_window_table(&random.pick(LONG_WINDOWS))
     };
     random.shuffle(&mut rows[..3]);
-    disguised(random, rows, judged)
+    let (rows, row) = disguised(random, rows, judged);
+    Drawn { lengths: STANDARD, rows, row }
 }
 
 /// Scenario counts at, below and above 65536, some of them powers of 2^32, with short windows.
@@ -194,7 +218,7 @@ fn many_scenarios(random: &mut Random) -> Drawn {
         let [node, _, kind, _, period, offset, claim] = rows[row - 1];
         rows.push([node, 1, kind, payload, period, offset, claim]);
     }
-    Drawn { rows, row }
+    Drawn { lengths: STANDARD, rows, row }
 }
 
 /// Numbers of alignments whose product is near 65536.
@@ -212,7 +236,7 @@ fn factors(random: &mut Random) -> Vec<u32> {
 
 /// Other nodes, patterns shifted, other identifiers in the same order, lines mixed: bounds stay.
 /// A long frame may tie with the short one before it.
-fn disguised(random: &mut Random, mut rows: Vec<Row>, judged: usize) -> Drawn {
+fn disguised(random: &mut Random, mut rows: Vec<Row>, judged: usize) -> (Vec<Row>, usize) {
     let mut nodes: Vec<u32> = (1..=NODES).collect();
     random.shuffle(&mut nodes);
     let shift = random.below(1_000_000) as u32;
@@ -230,5 +254,5 @@ fn disguised(random: &mut Random, mut rows: Vec<Row>, judged: usize) -> Drawn {
     let wanted = rows[judged][IDENTIFIER];
     random.shuffle(&mut rows);
     let row = rows.iter().position(|row| row[IDENTIFIER] == wanted);
-    Drawn { rows, row: row.expect("the judged row") }
+    (rows, row.expect("the judged row"))
 }

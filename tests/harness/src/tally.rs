@@ -34,17 +34,20 @@ impl fmt::Display for Outcome {
     }
 }
 
-/// All that an operation can come to, by document 01.
+/// All that an operation can come to, by document 01 and document 02's request 2.
 fn possible(operation: Operation) -> Vec<Outcome> {
     use Operation::*;
     let refusals: &[u32] = match operation {
-        JudgeFile => &[1, 2, 3, 4, 5, 6, 7, 9],
-        BoundFile => &[1, 2, 3, 4, 5, 6, 7, 9, 11, 12],
-        Read | List | LoadSheet => &[1, 2, 3, 4, 5, 6, 7, 8],
-        JudgeRows => &[4, 5, 6, 7, 9, 10],
-        BoundRows => &[4, 5, 6, 7, 9, 10, 11, 12],
+        JudgeFile => &[1, 2, 3, 4, 5, 6, 7, 9, 13, 14],
+        BoundFile => &[1, 2, 3, 4, 5, 6, 7, 9, 11, 12, 13, 14],
+        Read => &[1, 2, 3, 4, 5, 6, 7, 8],
+        List | LoadSheet => &[1, 2, 3, 4, 5, 6, 7, 8, 13, 14],
+        JudgeRows => &[4, 5, 6, 7, 9, 10, 14],
+        BoundRows => &[4, 5, 6, 7, 9, 10, 11, 12, 14],
         Check => &[4, 5, 6, 7, 10],
         Write => &[4, 5, 6, 7, 8, 10],
+        ReadLengths => &[8, 13, 14],
+        WriteLengths => &[8, 14],
     };
     let refused = refusals.iter().map(|number| Outcome::Refused(*number));
     let other = match operation {
@@ -65,6 +68,16 @@ impl Tally {
         Tally { counts: Operation::ALL.into_iter().flat_map(cells).collect() }
     }
 
+    /// For calls with good lengths, which are not refused for them, and none of the lengths alone.
+    pub fn with_good_lengths() -> Tally {
+        let Tally { mut counts } = Tally::new();
+        let lengths_refused = [13, 14].map(Outcome::Refused);
+        counts.retain(|(outcome, operation), _| {
+            !lengths_refused.contains(outcome) && !operation.of_lengths()
+        });
+        Tally { counts }
+    }
+
     pub fn add(&mut self, call: &Call, answer: i64) {
         let operation = call.operation();
         *self.counts.entry((Outcome::of(operation, answer), operation)).or_default() += 1;
@@ -72,15 +85,17 @@ impl Tally {
 
     /// A line for each outcome, a column for each operation that can have it.
     pub fn print(&self) {
-        let names = Operation::ALL.map(|operation| format!("{operation:>11}"));
-        println!("{:<10}{}", "", names.concat());
+        let shown = |operation: &Operation| self.counts.keys().any(|(_, other)| other == operation);
+        let operations: Vec<Operation> = Operation::ALL.into_iter().filter(shown).collect();
+        let names = operations.iter().map(|operation| format!("{operation:>11}"));
+        println!("{:<10}{}", "", names.collect::<String>());
         let mut outcomes: Vec<Outcome> = self.counts.keys().map(|(outcome, _)| *outcome).collect();
         outcomes.dedup();
         for outcome in outcomes {
             let count = |operation| self.counts.get(&(outcome, operation));
             let column = |operation| count(operation).map_or("".into(), u64::to_string);
-            let columns = Operation::ALL.map(|operation| format!("{:>11}", column(operation)));
-            println!("{:<10}{}", outcome.to_string(), columns.concat().trim_end());
+            let columns = operations.iter().map(|operation| format!("{:>11}", column(*operation)));
+            println!("{:<10}{}", outcome.to_string(), columns.collect::<String>().trim_end());
         }
     }
 

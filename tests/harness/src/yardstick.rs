@@ -2,16 +2,17 @@
 //! one of a node's alignments: the benchmark's yardstick.
 
 use crate::yardstick_nodes::{work, Frame, Node, Placed};
-use analyser::bounds::{length, rank};
+use analyser::bounds::rank;
 use analyser::judgement::{Judgement, Verdict, LIMITS};
+use analyser::lengths::{length, LengthTable};
 use analyser::listing::judgement_columns;
 use analyser::table::{self, Row, CLAIM, IDENTIFIER, NODE, NODES};
 use std::collections::HashSet;
 
 /// A line for each of accepted rows.
-pub fn list(rows: &[Row]) -> String {
+pub fn list(lengths: &LengthTable, rows: &[Row]) -> String {
     let line = |(row, words): (usize, &Row)| {
-        let judgement = View::new(rows, row).judge(words[CLAIM].into());
+        let judgement = View::new(lengths, rows, row).judge(words[CLAIM].into());
         format!("{:>10}{}\n", words[IDENTIFIER], judgement_columns(judgement))
     };
     rows.iter().enumerate().map(line).collect()
@@ -19,18 +20,18 @@ pub fn list(rows: &[Row]) -> String {
 
 /// How many greatest works a listing looks for, and how many of them at a length that was looked
 /// at before for the same row and node.
-pub fn count_looks(rows: &[Row]) -> (usize, usize) {
-    let (mut all, mut lengths) = (0, 0);
+pub fn count_looks(lengths: &LengthTable, rows: &[Row]) -> (usize, usize) {
+    let (mut all, mut distinct) = (0, 0);
     for (row, words) in rows.iter().enumerate() {
-        let mut view = View::new(rows, row);
+        let mut view = View::new(lengths, rows, row);
         view.nodes.iter_mut().for_each(Node::watch);
         view.judge(words[CLAIM].into());
         for looks in view.nodes.into_iter().map(Node::looks) {
             all += looks.len();
-            lengths += looks.into_iter().collect::<HashSet<_>>().len();
+            distinct += looks.into_iter().collect::<HashSet<_>>().len();
         }
     }
-    (all, all - lengths)
+    (all, all - distinct)
 }
 
 /// The judged frame, then the other frames of nodes at one alignment; and nodes at any.
@@ -147,10 +148,10 @@ struct View {
 }
 
 impl View {
-    fn new(rows: &[Row], row: usize) -> View {
+    fn new(lengths: &LengthTable, rows: &[Row], row: usize) -> View {
         let frame = &rows[row];
         let below = rows.iter().filter(|other| rank(other) > rank(frame));
-        let blocking = below.map(|row| length(row) - 1).max().unwrap_or(0);
+        let blocking = below.map(|row| length(lengths, row) - 1).max().unwrap_or(0);
         let others = (1..=NODES).filter(|node| *node != frame[NODE]);
         let mut view = View { blocking, scenarios: 1, nodes: Vec::new(), lone: Vec::new() };
         for node in [frame[NODE]].into_iter().chain(others) {
@@ -158,7 +159,7 @@ impl View {
             let mut ahead: Vec<&Row> = of_node.filter(|row| rank(row) <= rank(frame)).collect();
             ahead.sort_by_key(|row| rank(row) != rank(frame));
             if !ahead.is_empty() {
-                let frames = ahead.into_iter().map(Frame::new).collect();
+                let frames = ahead.into_iter().map(|row| Frame::new(lengths, row)).collect();
                 view.add(Node::new(frames), table::node_hyperperiod(rows, node));
             }
         }

@@ -1,6 +1,6 @@
 //! The yardstick's nodes: their frames, and the greatest work over their alignments.
 
-use analyser::bounds::length;
+use analyser::lengths::{length, LengthTable};
 use analyser::table::{Row, MOST_LINES, OFFSET, PERIOD};
 use std::array::from_fn;
 use std::cell::RefCell;
@@ -18,10 +18,10 @@ pub struct Frame {
 }
 
 impl Frame {
-    pub fn new(row: &Row) -> Frame {
+    pub fn new(lengths: &LengthTable, row: &Row) -> Frame {
         let period = u64::from(row[PERIOD]);
         let inverse = (1 << SHIFT) / period + 1;
-        Frame { offset: row[OFFSET].into(), period, length: length(row), inverse }
+        Frame { offset: row[OFFSET].into(), period, length: length(lengths, row), inverse }
     }
 
     fn divide(&self, ticks: u64) -> u64 {
