@@ -2,13 +2,44 @@
 
 use crate::judgement::{Judgement, Limits, Verdict};
 use crate::lengths::LengthTable;
-use crate::table::Row;
+use crate::table::{Refusal, Row};
 use std::collections::BTreeSet;
 
 fn length(lengths: &LengthTable, row: &Row) -> u64 {
     let [short, long] = lengths;
     let line = if row[2] == 11 { short } else { long };
     u64::from(line[row[3] as usize])
+}
+
+/// Reads a file of lengths: 13 unless it is 92 bytes that writing its numbers gives again, then 14 at
+/// the first number that is outside 47..400 or smaller than the one before it on its line.
+pub fn loaded(file: &[u8]) -> Result<LengthTable, Refusal> {
+    let Some(lengths) = written_so(file) else {
+        return Err(Refusal { number: 13, place: 0 });
+    };
+    for (line, place) in [(lengths[0], 1), (lengths[1], 2)] {
+        let mut least = 47;
+        for length in line {
+            if length < least || length > 400 {
+                return Err(Refusal { number: 14, place });
+            }
+            least = length;
+        }
+    }
+    Ok(lengths)
+}
+
+/// The numbers between spaces and line feeds, if there are nine a line and they are written so.
+fn written_so(file: &[u8]) -> Option<LengthTable> {
+    let text = std::str::from_utf8(file).ok()?;
+    let words: Vec<u32> = text.split_whitespace().map_while(|word| word.parse().ok()).collect();
+    if words.len() != 18 {
+        return None;
+    }
+    let lengths = [words[..9].try_into().ok()?, words[9..].try_into().ok()?];
+    let column = |length: &u32| format!("{length:>5}");
+    let [short, long] = lengths.map(|line: [u32; 9]| line.iter().map(column).collect::<String>());
+    (text == format!("{short}\n{long}\n") && file.len() == 92).then_some(lengths)
 }
 
 /// The last so many bits of a number, the greatest first.

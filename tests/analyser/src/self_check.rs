@@ -1,8 +1,9 @@
-//! Small random tables through the fast, the pruned and the tick-by-tick path.
+//! Small random tables through the fast, the pruned and the tick-by-tick path, and files of lengths
+//! through two readers.
 
 use crate::bounds::View;
 use crate::judgement::{judge_row, Limits};
-use crate::lengths::{LengthTable, STANDARD};
+use crate::lengths::{self, LengthTable, STANDARD};
 use crate::literal;
 use crate::random::{clustered, dense, own_lengths, set_claim, stretched, Random};
 use crate::table::{self, Row};
@@ -18,6 +19,8 @@ struct Tally {
     apart: u64,
     later_queueings: u64,
     rough_only_without_window: u64,
+    /// Files of lengths that are accepted, that break the notation, and the limits.
+    files: [u64; 3],
 }
 
 /// Prints the result; true if nothing differs.
@@ -39,6 +42,7 @@ pub fn self_check(seed: u64, count: u64) -> bool {
             set_claim(&mut random, &lengths, &mut rows, row, limits);
             compare(&lengths, &rows, row, limits, &mut tally);
         }
+        compare_readers(&lengths_file(&mut random, lengths), &mut tally);
     }
     tally.print();
     tally.differences == 0
@@ -83,6 +87,38 @@ fn compare(lengths: &LengthTable, rows: &[Row], row: usize, limits: Limits, tall
     tally.rough_only_without_window += u64::from(rough.is_none() && exact.is_some());
 }
 
+/// A file of these lengths, mostly with a value or some bytes changed, or a byte less or more.
+fn lengths_file(random: &mut Random, mut lengths: LengthTable) -> Vec<u8> {
+    if random.percent(40) {
+        let line = random.below(2) as usize;
+        lengths[line][random.below(9) as usize] = random.pick(&[0, 46, 47, 80, 90, 400, 401]);
+    }
+    let mut file = lengths::file_of(&lengths);
+    if random.percent(50) {
+        let at = random.below(file.len() as u64) as usize;
+        file[at] = random.pick(b"  0123456789\n\r\t+-x");
+    }
+    match random.below(20) {
+        0 => file.push(b'\n'),
+        1 => file.truncate(91),
+        _ => (),
+    }
+    file
+}
+
+fn compare_readers(file: &[u8], tally: &mut Tally) {
+    let read = lengths::parse(file);
+    tally.files[match read {
+        Ok(_) => 0,
+        Err(refusal) if refusal.number == 13 => 1,
+        Err(_) => 2,
+    }] += 1;
+    if read != literal::loaded(file) {
+        tally.differences += 1;
+        eprintln!("the readers differ on {:?}", String::from_utf8_lossy(file));
+    }
+}
+
 impl Tally {
     fn print(&self) {
         for verdict in [1, 2, 3, 11, 12] {
@@ -91,6 +127,8 @@ impl Tally {
         eprintln!("rough and exact bound differ: {}", self.apart);
         eprintln!("exact bound by a later q only: {}", self.later_queueings);
         eprintln!("only the rough bound has no window: {}", self.rough_only_without_window);
+        let [good, notation, limits] = self.files;
+        eprintln!("files of lengths: {good} good, {notation} with 13, {limits} with 14");
         let Tally { tables, rows, .. } = self;
         println!("{tables} tables, {rows} rows, {} differences", self.differences);
     }

@@ -38,11 +38,6 @@ impl Given {
         Given { file: DOCUMENT_01.into(), numbers: numbers.collect() }
     }
 
-    /// These lengths as they are.
-    pub fn whole(lengths: &LengthTable) -> Given {
-        Given { file: file_of(lengths), numbers: lengths.concat() }
-    }
-
     /// These lengths with so many faults: in their values, then in the notation of the file.
     pub fn damaged(random: &mut Random, lengths: &LengthTable, faults: u64) -> Given {
         let mut numbers = lengths.concat();

@@ -1,8 +1,8 @@
 //! Simulated buses: certified frames meet their claims, and the lowest frame's bound is reached.
 
 use crate::answer::Judged;
+use crate::bench::input_of;
 use crate::inputs::generator;
-use crate::lengths::Given;
 use crate::lent::Lent;
 use crate::library;
 use crate::starts::{starts, starts_to_meet, worst_scenario, worst_starts};
@@ -11,7 +11,7 @@ use analyser::lengths::{length, LengthTable, STANDARD};
 use analyser::literal_bus;
 use analyser::random::Random;
 use analyser::simulator::{release, schedule, Starts, Transmission};
-use analyser::table::{self, Row, CLAIM, PERIOD};
+use analyser::table::{Row, CLAIM, PERIOD};
 
 /// Schedules of each table.
 const SCHEDULES: u64 = 4;
@@ -51,8 +51,7 @@ pub fn simulate(seed: u64, count: u64) -> bool {
         tally.simulate_table(&mut random, &drawn);
         if failures == 0 && tally.failures() > 0 {
             println!("seed {seed}, table {} is the first to fail:", tally.tables);
-            let lengths = Given::whole(&drawn.lengths).file;
-            let input = [lengths, table::file_of(&drawn.rows)].concat();
+            let input = input_of(&drawn.lengths, &drawn.rows);
             print!("{}", String::from_utf8_lossy(&input));
         }
         tally.tables += 1;
