@@ -161,35 +161,33 @@ impl Call {
         }
     }
 
-    /// Whole lines of the input's table.
+    /// Whole lines of the input's table; none where the lengths are alone.
     pub fn lines(&self) -> usize {
         match self {
-            Call::File(_, file, _) | Call::ReadLengths(_, file, _) => file.len() / LINE,
+            Call::File(_, file, _) => file.len() / LINE,
             Call::Rows(_, words, _) => words.len() / FIELDS,
-            Call::WriteLengths(..) => 0,
+            Call::ReadLengths(..) | Call::WriteLengths(..) => 0,
         }
     }
 
-    /// The rows of the input; none of a file that is refused.
+    /// The rows of the input; none of a file that is refused, or where the lengths are alone.
     pub fn rows(&self) -> Vec<Row> {
         match self {
-            Call::File(_, file, _) | Call::ReadLengths(_, file, _) => {
-                table::parse(file).unwrap_or_default()
-            }
+            Call::File(_, file, _) => table::parse(file).unwrap_or_default(),
             Call::Rows(_, words, _) => {
                 let rows = words.chunks_exact(FIELDS);
                 rows.map(|row| row.try_into().expect("a row's words")).collect()
             }
-            Call::WriteLengths(..) => Vec::new(),
+            Call::ReadLengths(..) | Call::WriteLengths(..) => Vec::new(),
         }
     }
 
     /// The cause against the table alone; none where there is none.
     pub fn table_refusal(&self) -> Option<Refusal> {
         match self {
-            Call::File(_, file, _) | Call::ReadLengths(_, file, _) => table::parse(file).err(),
+            Call::File(_, file, _) => table::parse(file).err(),
             Call::Rows(_, words, _) => table::check(words).err(),
-            Call::WriteLengths(..) => None,
+            Call::ReadLengths(..) | Call::WriteLengths(..) => None,
         }
     }
 
