@@ -7,7 +7,7 @@ use Rattle.decimal.specs.Decimal.{writeColumn, writeSigned}
 use Rattle.bus_model.specs.declared.Judgement.{Judgement}
 use Rattle.bus_model.specs.Frame.{row}
 use Rattle.bus_model.specs.Judgement.{verdict, judge}
-use Rattle.table_checks.specs.Columns.{field}
+use Rattle.table_checks.specs.Columns.{field, columns, identifierColumn}
 use Rattle.table_checks.specs.Frames.{framesOf}
 use Rattle.row_judgement.specs.Judge.{claimOf}
 
@@ -18,7 +18,7 @@ listingLine identifier j =
 
 -- the line of row i
 unfoldable pub lineOf : List (List ℕ) → List ℕ → ℕ → List ℕ
-lineOf ls rows i = listingLine (field rows i 1) (judge (framesOf ls rows) (row (framesOf ls rows) i) (claimOf rows i))
+lineOf ls rows i = listingLine (field rows i identifierColumn) (judge (framesOf ls rows) (row (framesOf ls rows) i) (claimOf rows i))
 
 -- n lines from row i on
 abbrev pub linesFrom : List (List ℕ) → List ℕ → ℕ → ℕ → List ℕ
@@ -27,7 +27,7 @@ linesFrom ls rows (suc n) i = lineOf ls rows i ++ linesFrom ls rows n (i + 1)
 
 -- all lines
 unfoldable pub listingOf : List (List ℕ) → List ℕ → List ℕ
-listingOf ls rows = linesFrom ls rows (length rows / 7) 0
+listingOf ls rows = linesFrom ls rows (length rows / columns) 0
 
 -- of a refused table: number (3), place (6), and a line feed
 unfoldable pub refusalLine : ℕ → ℕ → List ℕ

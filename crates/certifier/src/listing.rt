@@ -9,6 +9,7 @@ ghost use mathlib.Core.Path.{_≡_};
 ghost use Prim.Native.Nat.{_*_, _/_, _<_, _≤_};
 ghost use mathlib.Core.List.{_++_};
 ghost use lib.ListN.{length, drop};
+ghost use Rattle.table_checks.specs.Columns.{columns};
 ghost use Rattle.table_checks.specs.Refusal.{returned};
 ghost use Rattle.table_checks.specs.Checks.{Loadable, Accepted};
 ghost use Rattle.table_checks.specs.declared.Checked.the-variants.{Passed};
@@ -82,7 +83,7 @@ fn list_rows(lengths: [[u32; 9]; 2], rows: &[u32], out: &mut [u8]) -> Answer
 // Writes the lines of the rows.
 fn write_lines(lengths: [[u32; 9]; 2], rows: &[u32], lines: usize, out: &mut [u8])
     requires { ⌜ Loadable lengths × Accepted (now rows) ⌝ }
-    requires { ⌜ (lines ≡ length (now rows) / 7) × (31 * lines ≤ length (now out)) ⌝ }
+    requires { ⌜ (lines ≡ length (now rows) / columns) × (31 * lines ≤ length (now out)) ⌝ }
     ensures { λ _. ⌜ now (out .exit) ≡ linesFrom lengths (now (rows .entry)) lines 0 ++ drop (31 * lines) (now (out .entry)) ⌝ }
 {
     let mut i = 0;
@@ -97,11 +98,15 @@ fn write_lines(lengths: [[u32; 9]; 2], rows: &[u32], lines: usize, out: &mut [u8
 // Writes the line of row i.
 fn write_row(lengths: [[u32; 9]; 2], rows: &[u32], i: usize, line: &mut [u8])
     requires { ⌜ Loadable lengths × Accepted (now rows) ⌝ }
-    requires { ⌜ (i < length (now rows) / 7) × (length (now line) ≡ 31) ⌝ }
+    requires { ⌜ (i < length (now rows) / columns) × (length (now line) ≡ 31) ⌝ }
     ensures { λ _. ⌜ now (line .exit) ≡ lineOf lengths (now (rows .entry)) i ⌝ }
 {
     let judgement = row_judgement::judge_row(lengths, rows, i);
-    write_line(rows[table_checks::ROW * i + 1], judgement, line);
+    write_line(
+        rows[table_checks::ROW * i + table_checks::IDENTIFIER],
+        judgement,
+        line,
+    );
 }
 
 // Writes identifier, verdict, bound and margin, and a line feed.

@@ -1,5 +1,5 @@
--- The text form of a table (document 01, "The table"): lines of seven columns and a line feed.
--- Field k of a table is column k % 7 of line k / 7.
+-- The text form of a table (document 01, "The table"): lines of columns and a line feed.
+-- Field k of a table is column k % columns of line k / columns.
 use Prim.Native.Nat.{ℕ, zero, suc, _+_, _*_, _/_, _%_}
 use mathlib.Core.Bool.{Bool, cond, not, _&&_}
 use mathlib.Core.List.{List, [], _∷_, _++_}
@@ -8,7 +8,7 @@ use lib.Dec.{eqb}
 use Rattle.decimal.specs.declared.Column.{Column}
 use Rattle.decimal.specs.declared.Column.the-variants.{Value, Broken}
 use Rattle.decimal.specs.Decimal.{readColumn, writeColumn}
-use Rattle.table_checks.specs.Columns.{widthOf, startOf}
+use Rattle.table_checks.specs.Columns.{widthOf, startOf, columns, feedAt, lineLength}
 use Rattle.table_checks.specs.Checks.{malformed, unterminated}
 
 -- ---- from a file
@@ -19,11 +19,11 @@ fieldOf Broken = malformed
 
 -- the characters of column j of line i
 unfoldable pub columnAt : List ℕ → ℕ → ℕ → List ℕ
-columnAt file i j = take (widthOf j) (drop (43 * i + startOf j) file)
+columnAt file i j = take (widthOf j) (drop (lineLength * i + startOf j) file)
 
 -- whether line i ends in a line feed
 unfoldable pub terminated : List ℕ → ℕ → Bool
-terminated file i = eqb (getD file (43 * i + 42) 0) 10
+terminated file i = eqb (getD file (lineLength * i + feedAt) 0) 10
 
 -- field j of line i
 unfoldable pub fieldAt : List ℕ → ℕ → ℕ → ℕ
@@ -32,11 +32,11 @@ fieldAt file i j = cond (eqb j 0 && not (terminated file i)) unterminated (field
 -- n fields from field k on
 abbrev pub fieldsFrom : List ℕ → ℕ → ℕ → List ℕ
 fieldsFrom file zero k = []
-fieldsFrom file (suc n) k = fieldAt file (k / 7) (k % 7) ∷ fieldsFrom file n (k + 1)
+fieldsFrom file (suc n) k = fieldAt file (k / columns) (k % columns) ∷ fieldsFrom file n (k + 1)
 
 -- all fields
 unfoldable pub fieldsOf : List ℕ → List ℕ
-fieldsOf file = fieldsFrom file (7 * (length file / 43)) 0
+fieldsOf file = fieldsFrom file (columns * (length file / lineLength)) 0
 
 -- ---- to a file
 
@@ -47,7 +47,7 @@ columnsFrom rows (suc n) k j = writeColumn (widthOf j) (getD rows k 0) ++ column
 
 -- line i
 unfoldable pub lineOf : List ℕ → ℕ → List ℕ
-lineOf rows i = columnsFrom rows 7 (7 * i) 0
+lineOf rows i = columnsFrom rows columns (columns * i) 0
 
 -- n lines from line i on
 abbrev pub linesFrom : List ℕ → ℕ → ℕ → List ℕ
@@ -56,4 +56,4 @@ linesFrom rows (suc n) i = lineOf rows i ++ linesFrom rows n (i + 1)
 
 -- the file of a table
 unfoldable pub textOf : List ℕ → List ℕ
-textOf rows = linesFrom rows (length rows / 7) 0
+textOf rows = linesFrom rows (length rows / columns) 0

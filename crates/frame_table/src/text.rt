@@ -1,4 +1,4 @@
-// The text form of a table: lines of seven columns and a line feed.
+// The text form of a table: lines of columns and a line feed.
 use table_checks::LINE;
 use table_checks::MALFORMED;
 use table_checks::ROW;
@@ -8,16 +8,16 @@ ghost use Prim.Native.Nat.{_+_, _*_, _<_, _≤_};
 ghost use mathlib.Core.List.{_++_};
 ghost use lib.ListN.{length, take, drop};
 ghost use Rattle.decimal.specs.Decimal.{readColumn};
-ghost use Rattle.table_checks.specs.Columns.{startOf};
+ghost use Rattle.table_checks.specs.Columns.{startOf, columns, lineLength};
 ghost use Rattle.frame_table.specs.Text.{fieldOf, columnAt, fieldAt, fieldsFrom, lineOf, linesFrom};
 
-// Where each column starts, and at 7 the line feed.
-const STARTS: [usize; 8] = [0, 3, 13, 16, 18, 26, 34, 42];
+// Where each column starts, and after the last the line feed.
+const STARTS: [usize; ROW + 1] = [0, 3, 13, 16, 18, 26, 34, 42];
 
 const LINE_FEED: u8 = 10;
 
 fn start(j: usize) -> usize
-    requires { ⌜ j < 8 ⌝ }
+    requires { ⌜ j ≤ columns ⌝ }
     ensures { λ r. ⌜ r ≡ startOf j ⌝ }
 {
     STARTS[j]
@@ -25,7 +25,7 @@ fn start(j: usize) -> usize
 
 // The number in column j of line i.
 fn column(file: &[u8], i: usize, j: usize) -> u64
-    requires { ⌜ (43 * i + 43 ≤ length (now file)) × (j < 7) ⌝ }
+    requires { ⌜ (lineLength * i + lineLength ≤ length (now file)) × (j < columns) ⌝ }
     ensures { λ r. ⌜ r ≡ fieldOf (readColumn (columnAt (now (file .entry)) i j)) ⌝ }
 {
     let from = LINE * i + start(j);
@@ -39,7 +39,7 @@ fn column(file: &[u8], i: usize, j: usize) -> u64
 
 // Field j of line i.
 fn field(file: &[u8], i: usize, j: usize) -> u64
-    requires { ⌜ (43 * i + 43 ≤ length (now file)) × (j < 7) ⌝ }
+    requires { ⌜ (lineLength * i + lineLength ≤ length (now file)) × (j < columns) ⌝ }
     ensures { λ r. ⌜ r ≡ fieldAt (now (file .entry)) i j ⌝ }
 {
     if j == 0 {
@@ -55,8 +55,8 @@ fn field(file: &[u8], i: usize, j: usize) -> u64
 
 // Reads the fields of the file's lines.
 pub fn read_fields(file: &[u8], lines: usize, fields: &mut [u64])
-    requires { ⌜ (43 * lines ≤ length (now file)) × (7 * lines ≤ length (now fields)) ⌝ }
-    ensures { λ _. ⌜ take (7 * lines) (now (fields .exit)) ≡ fieldsFrom (now (file .entry)) (7 * lines) 0 ⌝ }
+    requires { ⌜ (lineLength * lines ≤ length (now file)) × (columns * lines ≤ length (now fields)) ⌝ }
+    ensures { λ _. ⌜ take (columns * lines) (now (fields .exit)) ≡ fieldsFrom (now (file .entry)) (columns * lines) 0 ⌝ }
 {
     let mut k = 0;
     while k < ROW * lines {
@@ -67,7 +67,7 @@ pub fn read_fields(file: &[u8], lines: usize, fields: &mut [u64])
 
 // Writes line i of the rows.
 fn write_line(rows: &[u32], i: usize, line: &mut [u8])
-    requires { ⌜ (7 * i + 7 ≤ length (now rows)) × (length (now line) ≡ 43) ⌝ }
+    requires { ⌜ (columns * i + columns ≤ length (now rows)) × (length (now line) ≡ lineLength) ⌝ }
     ensures { λ _. ⌜ now (line .exit) ≡ lineOf (now (rows .entry)) i ⌝ }
 {
     let mut j = 0;
@@ -83,8 +83,8 @@ fn write_line(rows: &[u32], i: usize, line: &mut [u8])
 
 // Writes the lines of the rows.
 pub fn write_lines(rows: &[u32], lines: usize, file: &mut [u8])
-    requires { ⌜ (7 * lines ≤ length (now rows)) × (43 * lines ≤ length (now file)) ⌝ }
-    ensures { λ _. ⌜ now (file .exit) ≡ linesFrom (now (rows .entry)) lines 0 ++ drop (43 * lines) (now (file .entry)) ⌝ }
+    requires { ⌜ (columns * lines ≤ length (now rows)) × (lineLength * lines ≤ length (now file)) ⌝ }
+    ensures { λ _. ⌜ now (file .exit) ≡ linesFrom (now (rows .entry)) lines 0 ++ drop (lineLength * lines) (now (file .entry)) ⌝ }
 {
     let mut i = 0;
     while i < lines {

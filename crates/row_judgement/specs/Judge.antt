@@ -11,7 +11,7 @@ use Rattle.bus_model.specs.Bounds.{preciseBound}
 use Rattle.bus_model.specs.Judgement.{lacksWindow, tooManyScenarios, certifies, judge}
 use Rattle.table_checks.specs.declared.Checked.{Checked}
 use Rattle.table_checks.specs.declared.Checked.the-variants.{Passed, Failed}
-use Rattle.table_checks.specs.Columns.{field}
+use Rattle.table_checks.specs.Columns.{field, columns, claimColumn}
 use Rattle.table_checks.specs.Frames.{framesOf}
 use Rattle.table_checks.specs.Checks.{loadedCheck}
 use Rattle.row_judgement.specs.declared.Cause.the-variants.{NoSuchRow, NoWindow, TooManyScenarios}
@@ -23,11 +23,11 @@ use Rattle.row_judgement.specs.Refusal.{ofTable}
 
 -- the claim of row r
 abbrev pub claimOf : List ℕ → ℕ → ℕ
-claimOf rows r = field rows r 6
+claimOf rows r = field rows r claimColumn
 
 -- whether there is no row r: 9
 abbrev pub noRow : List ℕ → ℕ → Bool
-noRow rows r = leb (length rows / 7) r
+noRow rows r = leb (length rows / columns) r
 
 -- ---- judging a row: the check on lengths, those on tables, then 9
 

@@ -58,7 +58,7 @@ pub fn judge_row(lengths: [[u32; 9]; 2], rows: &[u32], i: usize) -> Judgement
     ensures { λ r. ⌜ r ≡ judge (framesOf lengths (now (rows .entry))) (row (framesOf lengths (now (rows .entry))) i) (claimOf (now (rows .entry)) i) ⌝ }
 {
     let k = table_checks::frame(lengths, rows, i);
-    let claim = rows[table_checks::ROW * i + 6];
+    let claim = rows[table_checks::ROW * i + table_checks::CLAIM];
     let mut frames = [0u32; workload::FRAMES];
     store(lengths, rows, &mut frames);
     let used = workload::FRAME * (rows.len() / table_checks::ROW);

@@ -19,7 +19,7 @@ use Rattle.table_checks.specs.laws.Lengths.{standard-loadable}
 use Rattle.table_checks.specs.laws.Accepted.{accepted-valid}
 use Rattle.starred_examples.specs.Compute.{everything}
 
--- ---- the tables, seven numbers a row
+-- ---- the tables, row by row
 
 -- the whole case of document 01's listing: identifiers 16, 32, 48 and 64
 abbrev pub listing : List ℕ

@@ -1,12 +1,12 @@
 -- A node's hyperperiod and its releases, as the loops over the rows find them.
-use Prim.Native.Nat.{ℕ, min, _+_, _-_, _*_, _/_, _≤_, _<_}
+use Prim.Native.Nat.{ℕ, min, _+_, _-_, _/_, _≤_, _<_}
 use mathlib.Core.Path.{_≡_, refl, sym, ap, subst, _∙_}
 use mathlib.Core.Bool.{Bool, true, false, cond}
 use mathlib.Core.List.{List, [], _∷_}
-use native.Mathlib.Nat.{add-zero, div-le-self}
+use native.Mathlib.Nat.{div-le-self}
 use native.Mathlib.Omega.{arith}
 use lib.Dec.{eqb}
-use lib.ListN.{length, getD}
+use lib.ListN.{length}
 use borrow.Author.Tests.{lt-ltb, le-ltb}
 use Rattle.arith.specs.Lists.{sum, keep}
 use Rattle.arith.specs.Multiples.{lcm, lcmOf}
@@ -18,7 +18,7 @@ use Rattle.bus_model.specs.Pattern.{ofNode, hyperperiod, patternReleases}
 use Rattle.bus_model.specs.theory.Hyperperiod.{hyperOf, joinOf, hyper-more, hyper-le}
 use Rattle.table_checks.specs.declared.Cause.the-variants.{Hyperperiod, Releases}
 use Rattle.table_checks.specs.declared.Checked.the-variants.{Passed}
-use Rattle.table_checks.specs.Columns.{field}
+use Rattle.table_checks.specs.Columns.{field, columns, periodColumn, nodeColumn}
 use Rattle.table_checks.specs.Frames.{frameAt, unmeasured}
 use Rattle.table_checks.specs.Refusal.{failed}
 use Rattle.table_checks.specs.Checks.{nodeCheck}
@@ -29,11 +29,11 @@ use Rattle.table_checks.specs.laws.Accepted.{length-frames, frame-row}
 
 -- The loop has come down to row i: acc is the fold F of the frames from there on.
 pub record Rows {B : Type 0} (F : List Frame → B) (t : List ℕ) (acc : B) (i : ℕ) : Type 0 where
-  pub inside : i ≤ length t / 7
+  pub inside : i ≤ length t / columns
   pub down : Down F (unmeasured t) acc i
 
 module _ {B : Type 0} (F : List Frame → B) (t : List ℕ) where
-  rows-none : {z : B} → z ≡ F [] → Rows F t z (length t / 7)
+  rows-none : {z : B} → z ≡ F [] → Rows F t z (length t / columns)
   rows-none e = record { inside = omega arith; down = subst (Down F (unmeasured t) _) (length-frames [] t) (down-start F (unmeasured t) e) }
 
   -- It reads the row before.
@@ -47,21 +47,21 @@ module _ {B : Type 0} (F : List Frame → B) (t : List ℕ) where
 
 module _ (t : List ℕ) (j : ℕ) where
   -- The loop starts at 1.
-  pub hyper-start : Rows (hyperOf j) t 1 (length t / 7)
+  pub hyper-start : Rows (hyperOf j) t 1 (length t / columns)
   unfolding hyperperiod lcmOf ofNode keep
   hyper-start = rows-none (hyperOf j) t refl
 
   module _ (periods : Periods t) where
     frame-periods : (i : ℕ) → i < length (unmeasured t) → 1 ≤ row (unmeasured t) i .period
     unfolding Periods frameAt
-    frame-periods i l = let h : i < length t / 7 = omega (arith, length-frames [] t) in rw (frame-row [] t i h) (periods i h .0)
+    frame-periods i l = let h : i < length t / columns = omega (arith, length-frames [] t) in rw (frame-row [] t i h) (periods i h .0)
 
     -- It takes one row more, whose numbers it reads.
     pub hyper-row : {i h r : ℕ} → Rows (hyperOf j) t h i → 0 < i
-        → r ≡ cond (eqb (getD t (7 * (i - 1)) 0) j) (lcm (field t (i - 1) 4) h) h → Rows (hyperOf j) t r (i - 1) × (h ≤ r)
+        → r ≡ cond (eqb (field t (i - 1) nodeColumn) j) (lcm (field t (i - 1) periodColumn) h) h → Rows (hyperOf j) t r (i - 1) × (h ≤ r)
     unfolding frameAt
     hyper-row {i} {h} {r} s pos e =
-        let is : r ≡ joinOf j (frameAt [] t (i - 1)) h = rw add-zero e in
+        let is : r ≡ joinOf j (frameAt [] t (i - 1)) h = e in
         let m = hyper-more (unmeasured t) j frame-periods (s .down) pos (row-read _ t s pos) is in
         (record { inside = omega (arith, s .inside); down = m .0 }, m .1)
 
@@ -91,16 +91,16 @@ share-le h j g = go (eqb (g .node) j)
 
 module _ (t : List ℕ) (h j : ℕ) where
   -- The loop starts at 0.
-  pub releases-none : Rows (releasesOf h j) t 0 (length t / 7)
+  pub releases-none : Rows (releasesOf h j) t 0 (length t / columns)
   unfolding sum ofNode keep
   releases-none = rows-none (releasesOf h j) t refl
 
   -- It takes one row more, whose releases are at most h.
   pub releases-more : {i s r : ℕ} → Rows (releasesOf h j) t s i → 0 < i
-      → r ≡ cond (eqb (getD t (7 * (i - 1)) 0) j) (h / field t (i - 1) 4) 0 → Rows (releasesOf h j) t (r + s) (i - 1) × (r ≤ h)
+      → r ≡ cond (eqb (field t (i - 1) nodeColumn) j) (h / field t (i - 1) periodColumn) 0 → Rows (releasesOf h j) t (r + s) (i - 1) × (r ≤ h)
   unfolding frameAt
   releases-more {i} {s} {r} f pos e =
-      let is : r ≡ shareOf h j (frameAt [] t (i - 1)) = rw add-zero e in (
+      let is : r ≡ shareOf h j (frameAt [] t (i - 1)) = e in (
         record {
           inside = omega (arith, f .inside);
           down = down-more (releasesOf h j) (unmeasured t) (λ g acc. shareOf h j g + acc) (releases-cons h j) noFrame (f .down) pos (row-read _ t f pos) (ap (λ (x : ℕ). x + s) is);

@@ -12,7 +12,7 @@ use Rattle.bus_model.specs.Pattern.{ofNode, hyperperiod, patternReleases}
 use Rattle.table_checks.specs.declared.Cause.the-variants.{FileForm, TooManyLines, Notation, Limit, Duplicate, Hyperperiod, Releases, RowsLength, Length}
 use Rattle.table_checks.specs.declared.Checked.{Checked}
 use Rattle.table_checks.specs.declared.Checked.the-variants.{Passed, Failed}
-use Rattle.table_checks.specs.Columns.{field, isLength, within}
+use Rattle.table_checks.specs.Columns.{field, isLength, within, columns, identifierColumn, kindColumn, mostLines, mostNumbers, lineLength}
 use Rattle.table_checks.specs.Frames.{lengthAt, unmeasured}
 use Rattle.table_checks.specs.Refusal.{failed}
 
@@ -51,12 +51,12 @@ Loadable ls = lengthsCheck ls ≡ Passed
 -- a file's length: 1, then 2
 unfoldable pub fileSizeCheck : ℕ → Checked
 fileSizeCheck size =
-    cond (eqb size 0 || not (eqb (size % 43) 0)) (failed FileForm 0)
-    (cond (ltb 64 (size / 43)) (failed TooManyLines 0) Passed)
+    cond (eqb size 0 || not (eqb (size % lineLength) 0)) (failed FileForm 0)
+    (cond (ltb mostLines (size / lineLength)) (failed TooManyLines 0) Passed)
 
 -- the number of numbers in memory: 10
 unfoldable pub rowsSizeCheck : ℕ → Checked
-rowsSizeCheck size = cond (eqb size 0 || (not (eqb (size % 7) 0) || ltb 448 size)) (failed RowsLength 0) Passed
+rowsSizeCheck size = cond (eqb size 0 || (not (eqb (size % columns) 0) || ltb mostNumbers size)) (failed RowsLength 0) Passed
 
 -- ---- a line
 
@@ -76,11 +76,11 @@ columnCheck t i j =
     (cond (within j (field t i (j - 1)) (field t i j)) Passed (failed Limit (i + 1))))
 
 unfoldable pub columnsCheck : List ℕ → ℕ → Checked
-columnsCheck t i = firstOf (columnCheck t i) 7 0
+columnsCheck t i = firstOf (columnCheck t i) columns 0
 
 -- whether the identifier and kind of line i stand on line m
 unfoldable pub isSameFrame : List ℕ → ℕ → ℕ → Bool
-isSameFrame t i m = eqb (field t m 1) (field t i 1) && eqb (field t m 2) (field t i 2)
+isSameFrame t i m = eqb (field t m identifierColumn) (field t i identifierColumn) && eqb (field t m kindColumn) (field t i kindColumn)
 
 -- whether they stand on an earlier line
 unfoldable pub standsEarlier : List ℕ → ℕ → Bool
@@ -91,7 +91,7 @@ unfoldable pub lineCheck : List ℕ → ℕ → Checked
 lineCheck t i = first (columnsCheck t i) (cond (standsEarlier t i) (failed Duplicate (i + 1)) Passed)
 
 unfoldable pub linesCheck : List ℕ → Checked
-linesCheck t = firstOf (lineCheck t) (length t / 7) 0
+linesCheck t = firstOf (lineCheck t) (length t / columns) 0
 
 -- ---- a node
 

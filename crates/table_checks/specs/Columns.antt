@@ -1,5 +1,6 @@
--- The columns of a table (document 01, "The table").
--- A table is a list of numbers, seven a row: node, identifier, kind, payload bytes, period, offset, claim.
+-- The columns of a table (document 01, "The table"). Their number, places, widths and limits stand here alone; the code's are the
+-- constants in src/lib.rt.
+-- A table is a list of numbers, so many a row: node, identifier, kind, payload bytes, period, offset, claim.
 use Prim.Native.Nat.{ℕ, _+_, _*_}
 use mathlib.Core.Bool.{Bool, true, false, _&&_, _||_}
 use mathlib.Core.List.{List, [], _∷_}
@@ -7,9 +8,57 @@ use lib.ListN.{getD, take}
 use lib.Dec.{ltb, leb, eqb}
 use Rattle.arith.specs.Lists.{sum}
 
+-- ---- in memory
+
+-- the numbers of a row
+abbrev pub columns : ℕ
+columns = 7
+
+-- the columns, from 0
+abbrev pub nodeColumn : ℕ
+nodeColumn = 0
+
+abbrev pub identifierColumn : ℕ
+identifierColumn = 1
+
+abbrev pub kindColumn : ℕ
+kindColumn = 2
+
+abbrev pub payloadColumn : ℕ
+payloadColumn = 3
+
+abbrev pub periodColumn : ℕ
+periodColumn = 4
+
+abbrev pub offsetColumn : ℕ
+offsetColumn = 5
+
+abbrev pub claimColumn : ℕ
+claimColumn = 6
+
+-- the most lines of a table, and its numbers then
+abbrev pub mostLines : ℕ
+mostLines = 64
+
+abbrev pub mostNumbers : ℕ
+mostNumbers = columns * mostLines
+
 -- the number in column j of row i
 abbrev pub field : List ℕ → ℕ → ℕ → ℕ
-field t i j = getD t (7 * i + j) 0
+field t i j = getD t (columns * i + j) 0
+
+-- ---- in a file
+
+-- the characters of a line before its line feed, and with it
+abbrev pub feedAt : ℕ
+feedAt = 42
+
+abbrev pub lineLength : ℕ
+lineLength = feedAt + 1
+
+-- those of the longest file
+abbrev pub mostBytes : ℕ
+mostBytes = lineLength * mostLines
 
 -- "Width": the characters of each column in a file
 abbrev pub widths : List ℕ
@@ -18,7 +67,7 @@ widths = 3 ∷ 10 ∷ 3 ∷ 2 ∷ 8 ∷ 8 ∷ 8 ∷ []
 unfoldable pub widthOf : ℕ → ℕ
 widthOf j = getD widths j 0
 
--- where column j starts in a line, and at 7 the line feed
+-- where column j starts in a line, and after the last the line feed
 unfoldable pub startOf : ℕ → ℕ
 unfolding sum
 startOf j = sum (λ w. w) (take j widths)

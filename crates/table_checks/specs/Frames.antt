@@ -7,7 +7,7 @@ use lib.ListN.{length, getD}
 use lib.Dec.{ltb, eqb}
 use Rattle.arith.specs.Lists.{range}
 use Rattle.bus_model.specs.declared.Frame.{Frame}
-use Rattle.table_checks.specs.Columns.{field}
+use Rattle.table_checks.specs.Columns.{field, columns, nodeColumn, identifierColumn, kindColumn, payloadColumn, periodColumn, offsetColumn}
 
 -- "Rank" (document 02, 5): the top 11 of a long identifier's 29 bits are compared with a short identifier, and the smaller goes first;
 -- on a tie the short frame does; among frames of one kind the smaller identifier. As one number, the smaller first: a short frame
@@ -46,16 +46,16 @@ stuffable = 34 ∷ 54 ∷ []
 unfoldable pub frameAt : List (List ℕ) → List ℕ → ℕ → Frame
 frameAt ls t i =
     record {
-      node = field t i 0;
-      priority = priorityOf (field t i 2) (field t i 1);
-      length = largestLength ls (field t i 2) (field t i 3);
-      period = field t i 4;
-      offset = field t i 5;
+      node = field t i nodeColumn;
+      priority = priorityOf (field t i kindColumn) (field t i identifierColumn);
+      length = largestLength ls (field t i kindColumn) (field t i payloadColumn);
+      period = field t i periodColumn;
+      offset = field t i offsetColumn;
     }
 
 -- the frames of a table
 unfoldable pub framesOf : List (List ℕ) → List ℕ → List Frame
-framesOf ls t = map (frameAt ls t) (range 0 (length t / 7))
+framesOf ls t = map (frameAt ls t) (range 0 (length t / columns))
 
 -- the same with no lengths: the checks on a table ask for none
 abbrev pub unmeasured : List ℕ → List Frame

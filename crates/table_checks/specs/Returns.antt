@@ -4,6 +4,7 @@ use mathlib.Core.Bool.{cond, not, _||_}
 use mathlib.Core.List.{List}
 use lib.ListN.{length}
 use lib.Dec.{ltb, eqb}
+use Rattle.table_checks.specs.Columns.{columns, mostLines, mostNumbers, lineLength}
 use Rattle.table_checks.specs.Frames.{unmeasured}
 use Rattle.table_checks.specs.Refusal.{Returned, returned, checkReturns}
 use Rattle.table_checks.specs.Checks.{breaksLimits, linesCheck, nodesCheck}
@@ -19,11 +20,11 @@ lengthsReturns ls = cond (breaksLimits ls 0) (returned 14 1) (cond (breaksLimits
 -- a file's length: 1, then 2
 unfoldable pub fileSizeReturns : ℕ → Returned
 fileSizeReturns size =
-    cond (eqb size 0 || not (eqb (size % 43) 0)) (returned 1 0) (cond (ltb 64 (size / 43)) (returned 2 0) (returned 0 0))
+    cond (eqb size 0 || not (eqb (size % lineLength) 0)) (returned 1 0) (cond (ltb mostLines (size / lineLength)) (returned 2 0) (returned 0 0))
 
 -- the number of numbers in memory: 10
 unfoldable pub rowsSizeReturns : ℕ → Returned
-rowsSizeReturns size = cond (eqb size 0 || (not (eqb (size % 7) 0) || ltb 448 size)) (returned 10 0) (returned 0 0)
+rowsSizeReturns size = cond (eqb size 0 || (not (eqb (size % columns) 0) || ltb mostNumbers size)) (returned 10 0) (returned 0 0)
 
 -- rows in memory: their size, then line by line, then the nodes
 unfoldable pub rowsReturns : List ℕ → Returned

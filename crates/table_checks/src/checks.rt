@@ -1,10 +1,17 @@
 // The checks on a table's fields: the first cause against it, or none.
+use crate::CLAIM;
 use crate::Cause;
 use crate::Checked;
+use crate::IDENTIFIER;
+use crate::KIND;
 use crate::LINE;
 use crate::MALFORMED;
 use crate::MOST_LINES;
 use crate::MOST_NUMBERS;
+use crate::NODE;
+use crate::OFFSET;
+use crate::PAYLOAD;
+use crate::PERIOD;
 use crate::ROW;
 use crate::Refusal;
 use crate::UNTERMINATED;
@@ -16,7 +23,7 @@ ghost use lib.Dec.{eqb};
 ghost use Rattle.arith.specs.Multiples.{lcm};
 ghost use Rattle.arith.specs.Lists.{sum};
 ghost use Rattle.bus_model.specs.Pattern.{ofNode, hyperperiod};
-ghost use Rattle.table_checks.specs.Columns.{between, isIdentifier, within};
+ghost use Rattle.table_checks.specs.Columns.{between, isIdentifier, within, columns, mostLines, mostNumbers};
 ghost use Rattle.table_checks.specs.Frames.{unmeasured};
 ghost use Rattle.table_checks.specs.Refusal.{failed, checkReturns};
 ghost use Rattle.table_checks.specs.Checks.{fileSizeCheck, rowsSizeCheck, columnCheck, columnsCheck, isSameFrame, standsEarlier, lineCheck, linesCheck, nodeCheck, nodesCheck, tableCheck, rowsCheck};
@@ -92,13 +99,13 @@ fn is_within(j: usize, before: u64, v: u64) -> bool
     ensures { λ r. ⌜ r ≡ within j before v ⌝ }
 {
     match j {
-        0 => is_between(1, 16, v),
-        1 => true,
-        2 => is_identifier(v, before),
-        3 => v <= 8,
-        4 => is_between(1, 1_000_000, v),
-        5 => v < before,
-        6 => is_between(1, 1_000_000, v),
+        NODE => is_between(1, 16, v),
+        IDENTIFIER => true,
+        KIND => is_identifier(v, before),
+        PAYLOAD => v <= 8,
+        PERIOD => is_between(1, 1_000_000, v),
+        OFFSET => v < before,
+        CLAIM => is_between(1, 1_000_000, v),
         _ => false,
     }
 }
@@ -112,7 +119,7 @@ pub fn previous(j: usize) -> usize
 
 // The check of column j of line i.
 fn column(t: &[u64], i: usize, j: usize) -> Checked
-    requires { ⌜ (7 * i + 7 ≤ length (now t)) × (i < 64) × (j < 7) ⌝ }
+    requires { ⌜ (columns * i + columns ≤ length (now t)) × (i < mostLines) × (j < columns) ⌝ }
     ensures { λ r. ⌜ r ≡ columnCheck (now (t .entry)) i j ⌝ }
 {
     let line = (i + 1) as u32;
@@ -133,7 +140,7 @@ fn column(t: &[u64], i: usize, j: usize) -> Checked
 
 // The check of the columns of line i.
 fn columns(t: &[u64], i: usize) -> Checked
-    requires { ⌜ (7 * i + 7 ≤ length (now t)) × (i < 64) ⌝ }
+    requires { ⌜ (columns * i + columns ≤ length (now t)) × (i < mostLines) ⌝ }
     ensures { λ r. ⌜ r ≡ columnsCheck (now (t .entry)) i ⌝ }
 {
     let mut j = 0;
@@ -149,15 +156,15 @@ fn columns(t: &[u64], i: usize) -> Checked
 
 // Whether the kind and identifier of line i stand on line m.
 fn is_same_frame(t: &[u64], i: usize, m: usize) -> bool
-    requires { ⌜ (7 * i + 7 ≤ length (now t)) × (7 * m + 7 ≤ length (now t)) ⌝ }
+    requires { ⌜ (columns * i + columns ≤ length (now t)) × (columns * m + columns ≤ length (now t)) ⌝ }
     ensures { λ r. ⌜ r ≡ isSameFrame (now (t .entry)) i m ⌝ }
 {
-    t[ROW * m + 1] == t[ROW * i + 1] && t[ROW * m + 2] == t[ROW * i + 2]
+    t[ROW * m + IDENTIFIER] == t[ROW * i + IDENTIFIER] && t[ROW * m + KIND] == t[ROW * i + KIND]
 }
 
 // Whether they stand on an earlier line.
 fn stands_earlier(t: &[u64], i: usize) -> bool
-    requires { ⌜ 7 * i + 7 ≤ length (now t) ⌝ }
+    requires { ⌜ columns * i + columns ≤ length (now t) ⌝ }
     ensures { λ r. ⌜ r ≡ standsEarlier (now (t .entry)) i ⌝ }
 {
     let mut m = 0;
@@ -172,7 +179,7 @@ fn stands_earlier(t: &[u64], i: usize) -> bool
 
 // The check of line i.
 fn line(t: &[u64], i: usize) -> Checked
-    requires { ⌜ (7 * i + 7 ≤ length (now t)) × (i < 64) ⌝ }
+    requires { ⌜ (columns * i + columns ≤ length (now t)) × (i < mostLines) ⌝ }
     ensures { λ r. ⌜ r ≡ lineCheck (now (t .entry)) i ⌝ }
 {
     let checked = columns(t, i);
@@ -188,7 +195,7 @@ fn line(t: &[u64], i: usize) -> Checked
 
 // The check of the lines.
 fn lines(t: &[u64]) -> Checked
-    requires { ⌜ length (now t) ≤ 448 ⌝ }
+    requires { ⌜ length (now t) ≤ mostNumbers ⌝ }
     ensures { λ r. ⌜ r ≡ linesCheck (now (t .entry)) ⌝ }
 {
     let mut i = 0;
@@ -223,7 +230,7 @@ pub fn bounded_hyperperiod(t: &[u64], node: u64) -> u64
     let mut i = t.len() / ROW;
     while 0 < i {
         i -= 1;
-        h = joined(h, node, t[ROW * i], t[ROW * i + 4]);
+        h = joined(h, node, t[ROW * i + NODE], t[ROW * i + PERIOD]);
         if MOST_TICKS < h {
             return MOST_TICKS + 1;
         }
@@ -242,14 +249,14 @@ fn frame_releases(h: u64, node: u64, frame_node: u64, period: u64) -> u64
 // The releases of the node's frames in a hyperperiod.
 fn node_releases(t: &[u64], node: u64, h: u64) -> u64
     requires { ⌜ Periods (now t) ⌝ }
-    requires { ⌜ (length (now t) ≤ 448) × (h ≤ 1000000) ⌝ }
+    requires { ⌜ (length (now t) ≤ mostNumbers) × (h ≤ 1000000) ⌝ }
     ensures { λ r. ⌜ r ≡ sum (λ g. h / g .period) (ofNode (unmeasured (now (t .entry))) node) ⌝ }
 {
     let mut sum = 0;
     let mut i = t.len() / ROW;
     while 0 < i {
         i -= 1;
-        sum = frame_releases(h, node, t[ROW * i], t[ROW * i + 4]) + sum;
+        sum = frame_releases(h, node, t[ROW * i + NODE], t[ROW * i + PERIOD]) + sum;
     }
     sum
 }
@@ -257,7 +264,7 @@ fn node_releases(t: &[u64], node: u64, h: u64) -> u64
 // The check of a node.
 fn node(t: &[u64], node: u64) -> Checked
     requires { ⌜ Periods (now t) ⌝ }
-    requires { ⌜ (length (now t) ≤ 448) × (node ≤ 16) ⌝ }
+    requires { ⌜ (length (now t) ≤ mostNumbers) × (node ≤ 16) ⌝ }
     ensures { λ r. ⌜ r ≡ nodeCheck (unmeasured (now (t .entry))) node ⌝ }
 {
     let h = bounded_hyperperiod(t, node);
@@ -274,7 +281,7 @@ fn node(t: &[u64], node: u64) -> Checked
 // The check of the nodes.
 fn nodes(t: &[u64]) -> Checked
     requires { ⌜ Periods (now t) ⌝ }
-    requires { ⌜ length (now t) ≤ 448 ⌝ }
+    requires { ⌜ length (now t) ≤ mostNumbers ⌝ }
     ensures { λ r. ⌜ r ≡ nodesCheck (unmeasured (now (t .entry))) ⌝ }
 {
     let mut j = 1;
@@ -302,7 +309,7 @@ pub fn check_fields(t: &[u64]) -> Checked
 
 // The check of a table whose size is right.
 pub fn table(t: &[u64]) -> Checked
-    requires { ⌜ length (now t) ≤ 448 ⌝ }
+    requires { ⌜ length (now t) ≤ mostNumbers ⌝ }
     ensures { λ r. ⌜ r ≡ tableCheck (now (t .entry)) ⌝ }
 {
     let checked = lines(t);

@@ -1,4 +1,10 @@
 // A row as a frame: its priority and its largest length, by the lengths that were loaded: kind 11, then kind 29; by payload bytes.
+use crate::IDENTIFIER;
+use crate::KIND;
+use crate::NODE;
+use crate::OFFSET;
+use crate::PAYLOAD;
+use crate::PERIOD;
 use crate::ROW;
 use bus_model::Frame;
 ghost use mathlib.Core.Path.{_≡_};
@@ -59,14 +65,14 @@ pub fn frame(lengths: [[u32; 9]; 2], rows: &[u32], i: usize) -> Frame
         };
     }
     let at = ROW * i;
-    let identifier = rows[at + 1];
-    let kind = rows[at + 2];
-    let payload = rows[at + 3];
+    let identifier = rows[at + IDENTIFIER];
+    let kind = rows[at + KIND];
+    let payload = rows[at + PAYLOAD];
     Frame {
-        node: rows[at],
+        node: rows[at + NODE],
         priority: priority(kind, identifier),
         length: largest_length(lengths, kind, payload),
-        period: rows[at + 4],
-        offset: rows[at + 5],
+        period: rows[at + PERIOD],
+        offset: rows[at + OFFSET],
     }
 }

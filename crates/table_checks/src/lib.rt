@@ -1,5 +1,5 @@
 // What is checked of a frame table, why one is turned back, and its rows as frames.
-// A table is a row of seven numbers a line: node, identifier, kind, payload bytes, period, offset, claim.
+// A table is a row of numbers a line, one a column.
 mod checks;
 mod frames;
 mod lengths;
@@ -23,15 +23,30 @@ ghost use Rattle.table_checks.specs.Refusal.{numberOf, checkReturns};
 ghost use Rattle.table_checks.specs.Checks.{rowsCheck, loadedCheck, Accepted};
 ghost use Rattle.table_checks.specs.Returns.{rowsReturns, loadedReturns};
 
-// The numbers of a row, the characters of a line with its line feed, and the most lines of a table.
+// The columns of a row, as specs/Columns.antt has them,
+pub const NODE: usize = 0;
+
+pub const IDENTIFIER: usize = 1;
+
+pub const KIND: usize = 2;
+
+pub const PAYLOAD: usize = 3;
+
+pub const PERIOD: usize = 4;
+
+pub const OFFSET: usize = 5;
+
+pub const CLAIM: usize = 6;
+
+// and how many they are.
 pub const ROW: usize = 7;
 
+// The characters of a line with its line feed, the most lines of a table, and its numbers then.
 pub const LINE: usize = 43;
 
 pub const MOST_LINES: usize = 64;
 
-// The numbers of the longest table.
-pub const MOST_NUMBERS: usize = 448;
+pub const MOST_NUMBERS: usize = ROW * MOST_LINES;
 
 // The lengths of a kind, and the kinds.
 pub const PAYLOADS: usize = 9;

@@ -8,6 +8,7 @@ use lib.ListN.{length, getD, length-map}
 use Rattle.arith.specs.Lists.{range}
 use Rattle.arith.specs.laws.Members.{length-range, getD-table}
 use Rattle.arith.specs.laws.Lines.{length-lines}
+use Rattle.table_checks.specs.Columns.{columns}
 use Rattle.table_checks.specs.Checks.{lengthsCheck, rowsCheck}
 use Rattle.table_checks.specs.laws.Accepted.{accepted-size}
 use Rattle.frame_table.specs.Text.{fieldsOf, textOf}
@@ -31,7 +32,7 @@ unfolding textOf
 write-countable rows file =
     countable (rowsCheck rows) (textOf rows) file
     (λ e. let most = accepted-size rows e .most in
-    let size = length-lines (table-lines rows) (length rows / 7) 0 in omega arith)
+    let size = length-lines (table-lines rows) (length rows / columns) 0 in omega arith)
 
 pub lengths-countable : (ls : List (List ℕ)) (file : List ℕ) → Countable (answerFor (lengthsCheck ls) (lengthsTextOf ls) file)
 lengths-countable ls file = countable (lengthsCheck ls) (lengthsTextOf ls) file (λ e. omega (arith, length-text ls))

@@ -1,4 +1,4 @@
--- A fact about every number below n, by one computed test.
+-- A fact about every number below n: by one computed test, or one after the other.
 use Prim.Native.Nat.{ℕ, zero, suc, _<_}
 use mathlib.Core.Path.{sym, subst}
 use mathlib.Core.Bool.{Bool, true, false, _&&_}
@@ -23,4 +23,18 @@ below p (suc n) t k h =
     elim (eq-or-lt-of-le (le-of-suc-le-suc h)) [
       | inl e ↦ subst (λ (m : ℕ). T (p m)) (sym e) (b .0)
       | inr l ↦ below p n (b .1) k l
+    ]
+
+-- what is said of each number below n, one after the other
+abbrev pub Each : (ℕ → Type 0) → ℕ → Type 0
+Each P zero = Unit {0}
+Each P (suc n) = Each P n × P n
+
+-- Said of each, it holds of every one.
+pub each-below : (P : ℕ → Type 0) (n : ℕ) → Each P n → (k : ℕ) → k < n → P k
+each-below P zero b k h = absurd (not-suc-le-zero h)
+each-below P (suc n) b k h =
+    elim (eq-or-lt-of-le (le-of-suc-le-suc h)) [
+      | inl e ↦ subst P (sym e) (b .1)
+      | inr l ↦ each-below P n (b .0) k l
     ]

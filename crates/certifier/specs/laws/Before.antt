@@ -9,7 +9,7 @@ use Rattle.bus_model.specs.Frame.{row}
 use Rattle.bus_model.specs.Judgement.{judge}
 use Rattle.table_checks.specs.declared.Checked.{Checked}
 use Rattle.table_checks.specs.declared.Checked.the-variants.{Passed, Failed}
-use Rattle.table_checks.specs.Columns.{field}
+use Rattle.table_checks.specs.Columns.{field, columns, identifierColumn}
 use Rattle.table_checks.specs.Frames.{standardLengths, framesOf, unmeasured}
 use Rattle.table_checks.specs.Checks.{first, firstOf, rowsSizeCheck, linesCheck, nodeCheck, nodesCheck, tableCheck, rowsCheck, loadedCheck}
 use Rattle.table_checks.specs.laws.Lengths.{standard-loadable}
@@ -46,14 +46,14 @@ unfoldable pub boundRowBefore : List ℕ → ℕ → Bounded
 boundRowBefore rows r = boundCheckedBefore (rowsCheckBefore rows) rows r
 
 unfoldable pub lineBefore : List ℕ → ℕ → List ℕ
-lineBefore rows i = listingLine (field rows i 1) (judge (framesBefore rows) (row (framesBefore rows) i) (claimOf rows i))
+lineBefore rows i = listingLine (field rows i identifierColumn) (judge (framesBefore rows) (row (framesBefore rows) i) (claimOf rows i))
 
 unfoldable pub linesBefore : List ℕ → ℕ → ℕ → List ℕ
 linesBefore rows zero i = []
 linesBefore rows (suc n) i = lineBefore rows i ++ linesBefore rows n (i + 1)
 
 unfoldable pub listingBefore : List ℕ → List ℕ
-listingBefore rows = linesBefore rows (length rows / 7) 0
+listingBefore rows = linesBefore rows (length rows / columns) 0
 
 -- ---- the checks are the same: they ask for no length
 
@@ -109,4 +109,4 @@ lines-before rows (suc n) i = ap₂ (λ (x y : List ℕ). x ++ y) (line-before r
 
 pub listing-before : (rows : List ℕ) → listingOf standardLengths rows ≡ listingBefore rows
 unfolding listingOf listingBefore
-listing-before rows = lines-before rows (length rows / 7) 0
+listing-before rows = lines-before rows (length rows / columns) 0

@@ -18,7 +18,7 @@ use Rattle.bus_model.specs.Pattern.{ofNode, hyperperiod, patternReleases}
 use Rattle.bus_model.specs.Judgement.{verdict, lacksWindow, tooManyScenarios}
 use Rattle.table_checks.specs.declared.Checked.{Checked}
 use Rattle.table_checks.specs.declared.Checked.the-variants.{Passed, Failed}
-use Rattle.table_checks.specs.Columns.{field, within}
+use Rattle.table_checks.specs.Columns.{field, within, columns, mostLines, mostNumbers, lineLength}
 use Rattle.table_checks.specs.Frames.{framesOf, unmeasured}
 use Rattle.table_checks.specs.Checks.{first, firstOf, breaksLimits, lengthsCheck, fileSizeCheck, rowsSizeCheck, malformed, unterminated, columnCheck, columnsCheck, standsEarlier, lineCheck, linesCheck, nodeCheck, nodesCheck, tableCheck, rowsCheck, loadedCheck}
 use Rattle.table_checks.specs.laws.Accepted.{loaded-both, accepted-size}
@@ -134,11 +134,11 @@ firstOf-placed check (suc m) n each =
     (λ e. firstOf-placed check m (n + 1) (λ i low high. each i (omega arith) (omega arith)))
 
 -- Lines count from 1.
-line-placed : (t : List ℕ) (i : ℕ) → i < 64 → CheckPlaced (lineCheck t i)
+line-placed : (t : List ℕ) (i : ℕ) → i < mostLines → CheckPlaced (lineCheck t i)
 unfolding lineCheck columnsCheck columnCheck
 line-placed t i l =
     first-placed (columnsCheck t i) _
-    (firstOf-placed (columnCheck t i) 7 0
+    (firstOf-placed (columnCheck t i) columns 0
     (λ j low high. cond-cases CheckPlaced (eqb (field t i j) unterminated) (λ u. omega arith)
     (λ u. cond-cases CheckPlaced (eqb (field t i j) malformed) (λ m. omega arith)
     (λ m. cond-cases CheckPlaced (within j (field t i (j - 1)) (field t i j)) (λ w. tt) (λ w. omega arith)))))
@@ -150,11 +150,11 @@ node-placed fs j l =
     cond-cases CheckPlaced (ltb 1000000 (hyperperiod (ofNode fs j))) (λ h. omega arith)
     (λ h. cond-cases CheckPlaced (ltb 256 (patternReleases (ofNode fs j))) (λ r. omega arith) (λ r. tt))
 
-table-placed : (t : List ℕ) → length t / 7 ≤ 64 → CheckPlaced (tableCheck t)
+table-placed : (t : List ℕ) → length t / columns ≤ mostLines → CheckPlaced (tableCheck t)
 unfolding tableCheck linesCheck nodesCheck
 table-placed t few =
     first-placed (linesCheck t) (nodesCheck (unmeasured t))
-    (firstOf-placed (lineCheck t) (length t / 7) 0 (λ i low high. line-placed t i (omega arith)))
+    (firstOf-placed (lineCheck t) (length t / columns) 0 (λ i low high. line-placed t i (omega arith)))
     (λ e. firstOf-placed (nodeCheck (unmeasured t)) 16 1 (λ j low high. node-placed (unmeasured t) j (omega arith)))
 
 lengths-placed : (ls : List (List ℕ)) → CheckPlaced (lengthsCheck ls)
@@ -167,7 +167,7 @@ rows-placed : (rows : List ℕ) → CheckPlaced (rowsCheck rows)
 unfolding rowsCheck rowsSizeCheck
 rows-placed rows =
     first-placed (rowsSizeCheck (length rows)) (tableCheck rows)
-    (cond-cases CheckPlaced (eqb (length rows) 0 || (not (eqb (length rows % 7) 0) || ltb 448 (length rows))) (λ s. omega arith) (λ s. tt))
+    (cond-cases CheckPlaced (eqb (length rows) 0 || (not (eqb (length rows % columns) 0) || ltb mostNumbers (length rows))) (λ s. omega arith) (λ s. tt))
     (λ e. let few = rows-size (length rows) e .most in table-placed rows (omega arith))
 
 loaded-placed : (ls : List (List ℕ)) (rows : List ℕ) → CheckPlaced (loadedCheck ls rows)
@@ -184,11 +184,11 @@ file-placed : (file : List ℕ) → CheckPlaced (readCheck file)
 unfolding readCheck fileSizeCheck fieldsOf
 file-placed file =
     first-placed (fileSizeCheck (length file)) (tableCheck (fieldsOf file))
-    (cond-cases CheckPlaced (eqb (length file) 0 || not (eqb (length file % 43) 0)) (λ s. omega arith)
-    (λ s. cond-cases CheckPlaced (ltb 64 (length file / 43)) (λ m. omega arith) (λ m. tt)))
+    (cond-cases CheckPlaced (eqb (length file) 0 || not (eqb (length file % lineLength) 0)) (λ s. omega arith)
+    (λ s. cond-cases CheckPlaced (ltb mostLines (length file / lineLength)) (λ m. omega arith) (λ m. tt)))
     (λ e.
     let few = file-size (length file) e .most in
-    table-placed (fieldsOf file) (omega (arith, length-fields file (7 * (length file / 43)) 0)))
+    table-placed (fieldsOf file) (omega (arith, length-fields file (columns * (length file / lineLength)) 0)))
 
 input-placed : (lengths file : List ℕ) → CheckPlaced (inputCheck lengths file)
 unfolding inputCheck
@@ -246,7 +246,7 @@ module _ (ls : List (List ℕ)) (rows : List ℕ) (r : ℕ) where
           cond-cases BoundedPlaced (noRow rows r) (λ t. omega arith)
           (λ has.
           let few = accepted-size rows (loaded-both ls rows e .1) .most in
-          let some : ¬ (length rows / 7 ≤ r) = λ le. has (le→leb _ _ le) in
+          let some : ¬ (length rows / columns ≤ r) = λ le. has (le→leb _ _ le) in
           cond-cases BoundedPlaced (lacksWindow (framesOf ls rows) (row (framesOf ls rows) r)) (λ w. omega arith)
           (λ w. cond-cases BoundedPlaced (tooManyScenarios (framesOf ls rows) (row (framesOf ls rows) r)) (λ m. omega arith) (λ m. tt)))
 

@@ -12,6 +12,7 @@ use Rattle.decimal.specs.Decimal.{writeColumn, writeSigned}
 use Rattle.decimal.specs.Laws.{length-write, length-signed}
 use Rattle.bus_model.specs.declared.Judgement.{Judgement}
 use Rattle.bus_model.specs.Judgement.{verdict}
+use Rattle.table_checks.specs.Columns.{columns}
 use Rattle.certifier.specs.Listing.{listingLine, lineOf, linesFrom, listingOf, refusalLine}
 
 length-line : (identifier : ℕ) (j : Judgement) → length (listingLine identifier j) ≡ 31
@@ -23,9 +24,9 @@ pub listing-lines : (ls : List (List ℕ)) (rows : List ℕ) → Lines 31 (lineO
 unfolding lineOf
 listing-lines ls rows = record { wide = λ i. length-line _ _; none = λ i. refl; more = λ n i. refl }
 
-pub length-listing : (ls : List (List ℕ)) (rows : List ℕ) → length (listingOf ls rows) ≡ 31 * (length rows / 7)
+pub length-listing : (ls : List (List ℕ)) (rows : List ℕ) → length (listingOf ls rows) ≡ 31 * (length rows / columns)
 unfolding listingOf
-length-listing ls rows = length-lines (listing-lines ls rows) (length rows / 7) 0
+length-listing ls rows = length-lines (listing-lines ls rows) (length rows / columns) 0
 
 -- The four columns and the line feed, one behind the other, are the line.
 pub line-written : (identifier v : ℕ) (m : ℤ) (j : Judgement) (line a b c d : List ℕ) → length line ≡ 31 → v ≡ verdict (j .outcome) → m ≡ j .margin

@@ -7,6 +7,7 @@ use borrow.Author.Needs.{needs}
 use lib.ListN.{length, length-take}
 use Rattle.table_checks.specs.declared.Checked.{Checked}
 use Rattle.table_checks.specs.declared.Checked.the-variants.{Passed}
+use Rattle.table_checks.specs.Columns.{mostLines, lineLength}
 use Rattle.table_checks.specs.Checks.{fileSizeCheck, tableCheck, rowsCheck}
 use Rattle.table_checks.specs.laws.Sizes.{file-size, sized-check}
 use Rattle.frame_table.specs.declared.Answer.{Answer}
@@ -27,7 +28,7 @@ table-checked : (file read : List ℕ) {checked : Checked} → fileSizeCheck (le
 table-checked file read e same is = is ∙ sized-check read (rw same (fields-size file e))
 
 -- the fields of a file that passed fit
-few : (c : tie.Start) → length (c .args .file .now) / 43 ≤ 64
+few : (c : tie.Start) → length (c .args .file .now) / lineLength ≤ mostLines
 few c = file-size _ (c .pre) .most
 
 slice-aggregate-read-fields : tie.Need-slice-aggregate-read-fields

@@ -1,4 +1,4 @@
--- A file that is read into 448 numbers of its own: an accepted table has room there.
+-- A file that is read into numbers of its own, as many as the longest table has: an accepted table has room there.
 use Prim.Native.Nat.{ℕ, _≤_}
 use mathlib.Core.Path.{_≡_, refl, sym, ap, _∙_}
 use mathlib.Core.List.{List, _++_}
@@ -9,6 +9,7 @@ use lib.Seq.{take-at}
 use Rattle.table_checks.specs.declared.Refusal.{Refusal}
 use Rattle.table_checks.specs.declared.Checked.{Checked}
 use Rattle.table_checks.specs.declared.Checked.the-variants.{Passed, Failed}
+use Rattle.table_checks.specs.Columns.{mostNumbers}
 use Rattle.table_checks.specs.Checks.{Accepted}
 use Rattle.table_checks.specs.laws.Accepted.{accepted-size}
 use Rattle.frame_table.specs.declared.Answer.{Answer}
@@ -25,7 +26,7 @@ pub record ReadRows (file area : List ℕ) (n : ℕ) : Type 0 where
   pub rows : take n area ≡ fieldsOf file
   pub accepted : Accepted (take n area)
 
-module _ (file old : List ℕ) (answer : Answer) (size : length old ≡ 448) (is : answer ≡ answerFor (readCheck file) (fieldsOf file) old) where
+module _ (file old : List ℕ) (answer : Answer) (size : length old ≡ mostNumbers) (is : answer ≡ answerFor (readCheck file) (fieldsOf file) old) where
   -- A table that passed is read.
   passed-done : readCheck file ≡ Passed → answer ≡ Done (length (fieldsOf file))
   passed-done e =

@@ -1,6 +1,6 @@
 -- The files of a call: lengths that were read; an input in two parts, at 92 bytes, or at its end where it is shorter; an input whose table is
 -- too long.
-use Prim.Native.Nat.{ℕ, min, _-_, _<_}
+use Prim.Native.Nat.{ℕ, min, _+_, _-_, _<_}
 use mathlib.Core.Path.{_≡_, refl, sym, ap, ap₂, _∙_}
 use mathlib.Core.List.{List, [], _∷_}
 use native.Mathlib.Decide.{decLt}
@@ -10,6 +10,7 @@ use lib.Seq.{take-all}
 use Rattle.table_checks.specs.declared.Refusal.{Refusal}
 use Rattle.table_checks.specs.declared.Checked.{Checked}
 use Rattle.table_checks.specs.declared.Checked.the-variants.{Passed, Failed}
+use Rattle.table_checks.specs.Columns.{mostBytes}
 use Rattle.table_checks.specs.Refusal.{checkReturns}
 use Rattle.table_checks.specs.Checks.{Loadable, first, fileSizeCheck}
 use Rattle.table_checks.specs.Returns.{firstReturned}
@@ -88,7 +89,7 @@ module _ (xs : List ℕ) (e : ℕ) (end : e ≡ min (length xs) 92) where
 -- ---- an input whose table is too long
 
 -- A table's size alone turns it back.
-too-long : (n : ℕ) (rest : Checked) → 2752 < n → first (fileSizeCheck n) rest ≡ fileSizeCheck n
+too-long : (n : ℕ) (rest : Checked) → mostBytes < n → first (fileSizeCheck n) rest ≡ fileSizeCheck n
 too-long n rest more = go (fileSizeCheck n) refl
   where
     go : (c : Checked) → fileSizeCheck n ≡ c → first c rest ≡ c
@@ -96,7 +97,7 @@ too-long n rest more = go (fileSizeCheck n) refl
     go (Failed r) e = refl
 
 -- So the check needs no more of the input than its lengths and its size.
-pub long-input : (input start : List ℕ) → lengthsPart start ≡ lengthsPart input → 2844 < length input
+pub long-input : (input start : List ℕ) → lengthsPart start ≡ lengthsPart input → 92 + mostBytes < length input
     → inputCheck (lengthsPart input) (tablePart input) ≡ sizeCheck start (length input)
 unfolding inputCheck sizeCheck readCheck
 long-input input start same more =

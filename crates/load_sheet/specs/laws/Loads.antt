@@ -16,7 +16,7 @@ use Rattle.bus_model.specs.declared.Frame.{Frame}
 use Rattle.bus_model.specs.Frame.{noFrame, row}
 use Rattle.bus_model.specs.Pattern.{ofNode, hyperperiod}
 use Rattle.bus_model.specs.theory.Frames.{node-pos}
-use Rattle.table_checks.specs.Columns.{field}
+use Rattle.table_checks.specs.Columns.{field, columns, kindColumn, payloadColumn}
 use Rattle.table_checks.specs.Frames.{frameAt, framesOf}
 use Rattle.table_checks.specs.Checks.{Loadable, Accepted}
 use Rattle.table_checks.specs.laws.Lengths.{length-bounds}
@@ -26,12 +26,12 @@ use Rattle.load_sheet.specs.Load.{workIn, dividend, loadOf}
 use Rattle.load_sheet.specs.Sheet.{hasFrames}
 
 -- The frames of an accepted table have a period, and are short.
-pub frame-limits : (ls : List (List ℕ)) (rows : List ℕ) → Loadable ls → Accepted rows → (i : ℕ) → i < length rows / 7
+pub frame-limits : (ls : List (List ℕ)) (rows : List ℕ) → Loadable ls → Accepted rows → (i : ℕ) → i < length rows / columns
     → (1 ≤ row (framesOf ls rows) i .period) × (row (framesOf ls rows) i .length ≤ 400)
 unfolding frameAt
 frame-limits ls rows loadable accepted i l =
     let m = accepted-limits rows accepted i l in
-    rw (frame-row ls rows i l) (m .period-min, length-bounds ls loadable (field rows i 2) (field rows i 3) (m .payload-max) .1)
+    rw (frame-row ls rows i l) (m .period-min, length-bounds ls loadable (field rows i kindColumn) (field rows i payloadColumn) (m .payload-max) .1)
 
 -- A node's hyperperiod is not 0, and small.
 pub divisor-limits : (ls : List (List ℕ)) (rows : List ℕ) → Loadable ls → Accepted rows → (j : ℕ) → 1 ≤ j → j ≤ 16
@@ -84,7 +84,7 @@ work-cons h j g gs = sum-keep _ _ (g ∷ gs) ∙ ap (λ (s : ℕ). frameWork h j
 
 module _ (ls : List (List ℕ)) (rows : List ℕ) (h j : ℕ) where
   -- A loop down through the rows starts at 0.
-  pub work-none : Down (workOf h j) (framesOf ls rows) 0 (length rows / 7)
+  pub work-none : Down (workOf h j) (framesOf ls rows) 0 (length rows / columns)
   unfolding sum ofNode keep workIn
   work-none = subst (Down (workOf h j) (framesOf ls rows) 0) (length-frames ls rows) (down-start (workOf h j) (framesOf ls rows) refl)
 

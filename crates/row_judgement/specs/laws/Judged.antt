@@ -24,6 +24,7 @@ use Rattle.bus_model.specs.theory.Approximate.{approximateFound, approximate-no
 use Rattle.bus_model.specs.theory.Judged.{certified-meets, margin-sign}
 use Rattle.table_checks.specs.declared.Checked.{Checked}
 use Rattle.table_checks.specs.declared.Checked.the-variants.{Passed, Failed}
+use Rattle.table_checks.specs.Columns.{columns, mostNumbers, claimColumn}
 use Rattle.table_checks.specs.Frames.{framesOf}
 use Rattle.table_checks.specs.Checks.{loadedCheck, Loadable, Accepted}
 use Rattle.table_checks.specs.laws.Accepted.{length-frames, loaded-both, accepted-size, accepted-valid}
@@ -109,19 +110,19 @@ module _ (fs : List Frame) (r : ℕ) {k : Frame} (is : k ≡ row fs r) where
 -- ---- a row
 
 -- A number below the number of rows is one of a row.
-pub row-inside : (ls : List (List ℕ)) (rows : List ℕ) {r : ℕ} → r < length rows / 7 → r < length (framesOf ls rows)
+pub row-inside : (ls : List (List ℕ)) (rows : List ℕ) {r : ℕ} → r < length rows / columns → r < length (framesOf ls rows)
 row-inside ls rows l = rw (length-frames ls rows) l
 
 -- The claim stands in the table, which is short.
-pub claim-inside : (ls : List (List ℕ)) (rows : List ℕ) → Accepted rows → {i : ℕ} → i < length (framesOf ls rows) → (7 * i + 6 < length rows) × (length rows ≤ 448)
+pub claim-inside : (ls : List (List ℕ)) (rows : List ℕ) → Accepted rows → {i : ℕ} → i < length (framesOf ls rows) → (columns * i + claimColumn < length rows) × (length rows ≤ mostNumbers)
 claim-inside ls rows accepted {i} l =
     let size = accepted-size rows accepted in
-    let h : i < length rows / 7 = rw (length-frames ls rows) at l in
+    let h : i < length rows / columns = rw (length-frames ls rows) at l in
     (omega arith, size .most)
 
 -- What holds of every refusal, and of the judgement of a row of an accepted table, holds of what judging a row answers.
 pub by-judged : (P : Judged → Type 0) (ls : List (List ℕ)) (rows : List ℕ) (r : ℕ) → ((f : Refusal) → P (NotJudged f))
-    → (Loadable ls → Accepted rows → r < length rows / 7 → P (Verdict (judge (framesOf ls rows) (row (framesOf ls rows) r) (claimOf rows r))))
+    → (Loadable ls → Accepted rows → r < length rows / columns → P (Verdict (judge (framesOf ls rows) (row (framesOf ls rows) r) (claimOf rows r))))
     → P (judgeRow ls rows r)
 unfolding judgeRow judgeChecked
 by-judged P ls rows r refused given = go (loadedCheck ls rows) refl
@@ -130,7 +131,7 @@ by-judged P ls rows r refused given = go (loadedCheck ls rows) refl
     go (Failed f) e = refused (ofTable f)
     go Passed e =
         cond-cases P (noRow rows r) (λ t. refused _)
-        (λ has. let some : ¬ (length rows / 7 ≤ r) = λ le. has (le→leb _ _ le) in let both = loaded-both ls rows e in given (both .0) (both .1) (omega arith))
+        (λ has. let some : ¬ (length rows / columns ≤ r) = λ le. has (le→leb _ _ le) in let both = loaded-both ls rows e in given (both .0) (both .1) (omega arith))
 
 -- Demand 3: where judging a row certifies its frame, the frame meets its claim.
 pub judged-meets : (ls : List (List ℕ)) (rows : List ℕ) (r : ℕ) → T (certified (judgeRow ls rows r)) → MeetsClaim (framesOf ls rows) r (claimOf rows r)

@@ -6,7 +6,7 @@ use mathlib.Core.Logic.{inl, inr}
 use native.Mathlib.Omega.{arith}
 use lib.ListN.{length, take}
 use Rattle.bus_model.specs.Frame.{row}
-use Rattle.table_checks.specs.Columns.{field}
+use Rattle.table_checks.specs.Columns.{field, columns, identifierColumn, kindColumn, payloadColumn}
 use Rattle.table_checks.specs.Frames.{priorityOf, frameAt, framesOf}
 use Rattle.table_checks.specs.Checks.{Loadable, Accepted}
 use Rattle.table_checks.specs.laws.Lengths.{length-bounds}
@@ -17,11 +17,11 @@ use Rattle.workload.specs.Grouped.{Fine, FineTable}
 use Rattle.workload.specs.laws.Stored.{StoredTo, stored-all}
 
 module _ (ls : List (List ℕ)) (loadable : Loadable ls) (rows : List ℕ) (accepted : Accepted rows) where
-  row-fine : (i : ℕ) → i < length rows / 7 → Fine (frameAt ls rows i)
+  row-fine : (i : ℕ) → i < length rows / columns → Fine (frameAt ls rows i)
   unfolding frameAt
   row-fine i l =
       let m = accepted-limits rows accepted i l in
-      let c = length-bounds ls loadable (field rows i 2) (field rows i 3) (m .payload-max) in
+      let c = length-bounds ls loadable (field rows i kindColumn) (field rows i payloadColumn) (m .payload-max) in
       record {
         node-low = m .node-min;
         node-high = m .node-max;
@@ -36,24 +36,24 @@ module _ (ls : List (List ℕ)) (loadable : Loadable ls) (rows : List ℕ) (acce
   accepted-fine = record {
     few = omega (arith, length-frames ls rows, accepted-size rows accepted .most);
     valid = accepted-valid rows accepted ls loadable;
-    fine = λ i l. let h : i < length rows / 7 = omega (arith, length-frames ls rows) in rw (frame-row ls rows i h) (row-fine i h);
+    fine = λ i l. let h : i < length rows / columns = omega (arith, length-frames ls rows) in rw (frame-row ls rows i h) (row-fine i h);
     hyper = λ j low high. accepted-pattern rows accepted ls j low high .0;
   }
 
 module _ (ls : List (List ℕ)) (rows : List ℕ) (accepted : Accepted rows) where
   -- Their priorities are numbers of 32 bits.
-  pub priority-short : (i : ℕ) → i < length rows / 7 → row (framesOf ls rows) i .priority < 4294967296
+  pub priority-short : (i : ℕ) → i < length rows / columns → row (framesOf ls rows) i .priority < 4294967296
   unfolding frameAt priorityOf
   priority-short i l =
       let m = accepted-limits rows accepted i l in
       rw (frame-row ls rows i l) (
-      elim (identified-cases (field rows i 2) (field rows i 1) (m .identified)) [
+      elim (identified-cases (field rows i kindColumn) (field rows i identifierColumn) (m .identified)) [
         | inl a ↦ rw (a .0) (omega (arith, a .1))
         | inr a ↦ rw (a .0) (omega (arith, a .1))
       ]
       )
 
   -- Where they are all put, they are the frames of the area.
-  pub all-stored : {area : List ℕ} {i : ℕ} → StoredTo (frameAt ls rows) area i → i ≡ length rows / 7 → stored (take (6 * (length rows / 7)) area) ≡ framesOf ls rows
+  pub all-stored : {area : List ℕ} {i : ℕ} → StoredTo (frameAt ls rows) area i → i ≡ length rows / columns → stored (take (6 * (length rows / columns)) area) ≡ framesOf ls rows
   unfolding framesOf
   all-stored s is = rw is at (stored-all s (omega (arith, accepted-size rows accepted .most)))

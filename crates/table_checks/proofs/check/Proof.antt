@@ -6,6 +6,7 @@ use native.Mathlib.Omega.{arith}
 use borrow.Author.Needs.{needs}
 use lib.ListN.{length, take, length-take}
 use lib.Seq.{take-append-seam}
+use Rattle.table_checks.specs.Columns.{mostNumbers}
 use Rattle.table_checks.specs.Checks.{tableCheck, rowsCheck}
 use Rattle.table_checks.specs.laws.Sizes.{rows-size}
 use Rattle.table_checks.specs.laws.Returns.{rows-told}
@@ -13,7 +14,7 @@ use Rattle.table_checks.proofs.check.Statement.{statement}
 use Rattle.table_checks.proofs.check.Tie as tie
 
 -- rows that passed fit
-few : (c : tie.After-enum-told) → length (c .before .before .before .before .args .rows .now) ≤ 448
+few : (c : tie.After-enum-told) → length (c .before .before .before .before .args .rows .now) ≤ mostNumbers
 few c = rows-size _ (sym (c .before .before .rows-size .ensures) ∙ c .enum-told .given .1) .most
 
 rows-size-requires : tie.Need-rows-size-requires

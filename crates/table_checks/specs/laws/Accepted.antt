@@ -20,7 +20,7 @@ use Rattle.bus_model.specs.Pattern.{ofNode, hyperperiod, patternReleases}
 use Rattle.bus_model.specs.Valid.{ValidFrame, Valid}
 use Rattle.table_checks.specs.declared.Cause.the-variants.{Duplicate, Hyperperiod, Releases}
 use Rattle.table_checks.specs.declared.Checked.the-variants.{Passed}
-use Rattle.table_checks.specs.Columns.{field}
+use Rattle.table_checks.specs.Columns.{field, columns, nodeColumn, identifierColumn, kindColumn, payloadColumn, periodColumn}
 use Rattle.table_checks.specs.Frames.{frameAt, framesOf, unmeasured}
 use Rattle.table_checks.specs.Refusal.{failed}
 use Rattle.table_checks.specs.Checks.{lengthsCheck, rowsSizeCheck, columnsCheck, isSameFrame, standsEarlier, lineCheck, linesCheck, nodeCheck, nodesCheck, tableCheck, rowsCheck, loadedCheck, Accepted, Loadable}
@@ -34,16 +34,16 @@ use Rattle.table_checks.specs.laws.Sizes.{RowsSize, rows-size}
 -- ---- the frames of a table
 
 -- There is a frame for each row.
-pub length-frames : (ls : List (List ℕ)) (t : List ℕ) → length (framesOf ls t) ≡ length t / 7
+pub length-frames : (ls : List (List ℕ)) (t : List ℕ) → length (framesOf ls t) ≡ length t / columns
 unfolding framesOf
-length-frames ls t = length-map (range 0 (length t / 7)) (frameAt ls t) ∙ length-range 0 (length t / 7)
+length-frames ls t = length-map (range 0 (length t / columns)) (frameAt ls t) ∙ length-range 0 (length t / columns)
 
-pub frame-row : (ls : List (List ℕ)) (t : List ℕ) (i : ℕ) → i < length t / 7 → row (framesOf ls t) i ≡ frameAt ls t i
+pub frame-row : (ls : List (List ℕ)) (t : List ℕ) (i : ℕ) → i < length t / columns → row (framesOf ls t) i ≡ frameAt ls t i
 unfolding framesOf
-frame-row ls t i l = getD-table (frameAt ls t) 0 (length t / 7) i noFrame l ∙ ap (frameAt ls t) (zero-add i)
+frame-row ls t i l = getD-table (frameAt ls t) 0 (length t / columns) i noFrame l ∙ ap (frameAt ls t) (zero-add i)
 
 -- No frame stands beyond the last row.
-pub no-row : (ls : List (List ℕ)) (t : List ℕ) (i : ℕ) → length t / 7 ≤ i → row (framesOf ls t) i ≡ noFrame
+pub no-row : (ls : List (List ℕ)) (t : List ℕ) (i : ℕ) → length t / columns ≤ i → row (framesOf ls t) i ≡ noFrame
 no-row ls t i l = getD-beyond (framesOf ls t) i noFrame (rw (length-frames ls t) l)
 
 -- ---- a node's pattern is the same by any lengths
@@ -51,7 +51,7 @@ no-row ls t i l = getD-beyond (framesOf ls t) i noFrame (rw (length-frames ls t)
 module _ (t : List ℕ) (j : ℕ) {B : Type 0} (F : List Frame → B) (step : ℕ → B → B) (more : (g : Frame) (gs : List Frame) → F (g ∷ gs) ≡ step (g .period) (F gs)) where
   -- what a row's frame adds to a fold over the node's frames that looks at their periods
   abbrev added : ℕ → B → B
-  added i b = cond (eqb (field t i 0) j) (step (field t i 4) b) b
+  added i b = cond (eqb (field t i nodeColumn) j) (step (field t i periodColumn) b) b
 
   fold-more : (ls : List (List ℕ)) (i : ℕ) (is : List ℕ) → F (ofNode (map (frameAt ls t) (i ∷ is)) j) ≡ added i (F (ofNode (map (frameAt ls t) is) j))
   unfolding ofNode frameAt
@@ -65,19 +65,19 @@ module _ (t : List ℕ) (j : ℕ) {B : Type 0} (F : List Frame → B) (step : �
 module _ (ls : List (List ℕ)) (t : List ℕ) (j : ℕ) where
   pub hyper-same : hyperperiod (ofNode (framesOf ls t) j) ≡ hyperperiod (ofNode (unmeasured t) j)
   unfolding framesOf
-  hyper-same = fold-same t j hyperperiod lcm (λ g gs. unfold hyperperiod lcmOf in refl) ls (range 0 (length t / 7))
+  hyper-same = fold-same t j hyperperiod lcm (λ g gs. unfold hyperperiod lcmOf in refl) ls (range 0 (length t / columns))
 
   pub releases-same : patternReleases (ofNode (framesOf ls t) j) ≡ patternReleases (ofNode (unmeasured t) j)
   unfolding framesOf patternReleases
   releases-same =
       let h = hyperperiod (ofNode (unmeasured t) j) in
       ap (λ n. sum (λ g. n / g .period) (ofNode (framesOf ls t) j)) hyper-same
-      ∙ fold-same t j (sum (λ g. h / g .period)) (λ p s. h / p + s) (λ g gs. unfold sum in refl) ls (range 0 (length t / 7))
+      ∙ fold-same t j (sum (λ g. h / g .period)) (λ p s. h / p + s) (λ g gs. unfold sum in refl) ls (range 0 (length t / columns))
 
 -- ---- no frame stands twice
 
 -- A line that passed has another kind or identifier than each earlier one.
-line-differs : (t : List ℕ) (i m : ℕ) → lineCheck t i ≡ Passed → m < i → field t m 1 ≡ field t i 1 → field t m 2 ≡ field t i 2 → ⊥
+line-differs : (t : List ℕ) (i m : ℕ) → lineCheck t i ≡ Passed → m < i → field t m identifierColumn ≡ field t i identifierColumn → field t m kindColumn ≡ field t i kindColumn → ⊥
 unfolding lineCheck standsEarlier isSameFrame
 line-differs t i m e l p q =
     let same : isSameFrame t i m ≡ true = rw (eq-eqb _ _ p, eq-eqb _ _ q) in
@@ -105,7 +105,7 @@ module _ (rows : List ℕ) (accepted : Accepted rows) where
   lines-passed = first-passed (linesCheck rows) (nodesCheck (unmeasured rows)) table-passed .0
 
   -- The numbers of each row are within their limits.
-  pub accepted-limits : (i : ℕ) → i < length rows / 7 → Limits rows i
+  pub accepted-limits : (i : ℕ) → i < length rows / columns → Limits rows i
   accepted-limits = lines-each rows lines-passed
 
   pub accepted-periods : Periods rows
@@ -135,31 +135,31 @@ module _ (rows : List ℕ) (accepted : Accepted rows) where
   -- ---- the frames are valid
 
   module _ (ls : List (List ℕ)) (loadable : Loadable ls) where
-    valid-frame : (i : ℕ) → i < length rows / 7 → ValidFrame (frameAt ls rows i)
+    valid-frame : (i : ℕ) → i < length rows / columns → ValidFrame (frameAt ls rows i)
     unfolding frameAt
     valid-frame i l =
         let m = accepted-limits i l in
-        let c = length-bounds ls loadable (field rows i 2) (field rows i 3) (m .payload-max) in
+        let c = length-bounds ls loadable (field rows i kindColumn) (field rows i payloadColumn) (m .payload-max) in
         record { period = m .period-min; length = omega (arith, c .0); node-low = m .node-min; node-high = m .node-max; offset = m .offset-max }
 
-    no-duplicate : (i j : ℕ) → i < j → j < length rows / 7 → frameAt ls rows i .priority ≡ frameAt ls rows j .priority → ⊥
+    no-duplicate : (i j : ℕ) → i < j → j < length rows / columns → frameAt ls rows i .priority ≡ frameAt ls rows j .priority → ⊥
     unfolding frameAt linesCheck
     no-duplicate i j l h e =
         let p = priority-same _ _ _ _ (accepted-limits i (omega arith) .identified) (accepted-limits j h .identified) e in
-        line-differs rows j i (rw zero-add at (first-each (lineCheck rows) (length rows / 7) 0 lines-passed j h)) l (p .1) (p .0)
+        line-differs rows j i (rw zero-add at (first-each (lineCheck rows) (length rows / columns) 0 lines-passed j h)) l (p .1) (p .0)
 
     pub accepted-valid : Valid (framesOf ls rows)
     accepted-valid = record { frame = frame; distinct = distinct }
       where
         frame : (i : ℕ) → i < length (framesOf ls rows) → ValidFrame (row (framesOf ls rows) i)
         frame i l =
-            let h : i < length rows / 7 = rw (length-frames ls rows) at l in
+            let h : i < length rows / columns = rw (length-frames ls rows) at l in
             rw (frame-row ls rows i h) (valid-frame i h)
 
         distinct : (i j : ℕ) → i < length (framesOf ls rows) → j < length (framesOf ls rows) → row (framesOf ls rows) i .priority ≡ row (framesOf ls rows) j .priority → i ≡ j
         distinct i j a b e =
-            let a′ : i < length rows / 7 = rw (length-frames ls rows) at a in
-            let b′ : j < length rows / 7 = rw (length-frames ls rows) at b in
+            let a′ : i < length rows / columns = rw (length-frames ls rows) at a in
+            let b′ : j < length rows / columns = rw (length-frames ls rows) at b in
             let same : frameAt ls rows i .priority ≡ frameAt ls rows j .priority = rw (frame-row ls rows i a′, frame-row ls rows j b′) at e in
             elim (ℕ-discrete i j) [
               | yes is ↦ is

@@ -11,7 +11,7 @@ use lib.ListN.{length, getD}
 use Rattle.arith.specs.Lists.{range}
 use Rattle.arith.specs.laws.Members.{getD-beyond, map-same}
 use Rattle.bus_model.specs.declared.Frame.{Frame}
-use Rattle.table_checks.specs.Columns.{field}
+use Rattle.table_checks.specs.Columns.{field, columns, nodeColumn, identifierColumn, kindColumn, payloadColumn, periodColumn, offsetColumn}
 use Rattle.table_checks.specs.Frames.{priorityOf, standardLengths, lengthAt, kindPlace, largestLength, frameAt, framesOf}
 use Rattle.table_checks.specs.laws.Lengths.{length-is, too-long}
 
@@ -23,15 +23,15 @@ lengthBefore kind payload = getD (getD standardLengths (kindPlace kind) []) payl
 unfoldable pub frameBefore : List ℕ → ℕ → Frame
 frameBefore t i =
     record {
-      node = field t i 0;
-      priority = priorityOf (field t i 2) (field t i 1);
-      length = lengthBefore (field t i 2) (field t i 3);
-      period = field t i 4;
-      offset = field t i 5;
+      node = field t i nodeColumn;
+      priority = priorityOf (field t i kindColumn) (field t i identifierColumn);
+      length = lengthBefore (field t i kindColumn) (field t i payloadColumn);
+      period = field t i periodColumn;
+      offset = field t i offsetColumn;
     }
 
 unfoldable pub framesBefore : List ℕ → List Frame
-framesBefore t = map (frameBefore t) (range 0 (length t / 7))
+framesBefore t = map (frameBefore t) (range 0 (length t / columns))
 
 -- ---- the same
 
@@ -49,9 +49,9 @@ length-before kind payload =
 
 pub frame-before : (t : List ℕ) (i : ℕ) → frameAt standardLengths t i ≡ frameBefore t i
 unfolding frameAt frameBefore
-frame-before t i = rw (length-before (field t i 2) (field t i 3))
+frame-before t i = rw (length-before (field t i kindColumn) (field t i payloadColumn))
 
 -- Every frame is as before.
 pub frames-before : (t : List ℕ) → framesOf standardLengths t ≡ framesBefore t
 unfolding framesOf framesBefore
-frames-before t = map-same (range 0 (length t / 7)) (λ i m. frame-before t i)
+frames-before t = map-same (range 0 (length t / columns)) (λ i m. frame-before t i)

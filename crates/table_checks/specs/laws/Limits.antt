@@ -1,19 +1,20 @@
 -- What is known of a line that passed its checks: each number is within its limits.
-use Prim.Native.Nat.{ℕ, zero, suc, _+_, _/_, _^_, _-_, _≤_, _<_}
+use Prim.Native.Nat.{ℕ, _+_, _/_, _^_, _-_, _≤_, _<_}
 use mathlib.Core.Path.{_≡_}
 use mathlib.Core.Bool.{true, _&&_}
-use mathlib.Core.List.{List}
+use mathlib.Core.List.{List, [], _∷_}
 use mathlib.Core.Logic.{_⊎_, inl, inr}
 use native.Mathlib.Nat.{zero-add}
 use native.Mathlib.Omega.{arith}
 use borrow.Author.Tests.{leb-true, ltb-true, eqb-true}
-use lib.ListN.{length}
-use lib.Dec.{leb, eqb}
+use lib.ListN.{length, getD}
+use lib.Dec.{leb, ltb, eqb, ltb→lt}
 use Rattle.arith.specs.laws.Tests.{by-test, and-both}
+use Rattle.arith.specs.laws.Below.{below, each-below}
 use Rattle.table_checks.specs.declared.Cause.{Cause}
 use Rattle.table_checks.specs.declared.Cause.the-variants.{FileForm, Notation, Limit}
 use Rattle.table_checks.specs.declared.Checked.the-variants.{Passed}
-use Rattle.table_checks.specs.Columns.{field, between, isIdentifier, within}
+use Rattle.table_checks.specs.Columns.{field, between, isIdentifier, within, columns, nodeColumn, identifierColumn, kindColumn, payloadColumn, periodColumn, offsetColumn, claimColumn}
 use Rattle.table_checks.specs.Refusal.{failed}
 use Rattle.table_checks.specs.Checks.{malformed, unterminated, columnCheck, columnsCheck, lineCheck, linesCheck}
 use Rattle.table_checks.specs.Steps.{Periods}
@@ -21,15 +22,15 @@ use Rattle.table_checks.specs.laws.First.{first-passed, first-each}
 
 -- the limits of the numbers of line i
 pub record Limits (t : List ℕ) (i : ℕ) : Type 0 where
-  pub node-min : 1 ≤ field t i 0
-  pub node-max : field t i 0 ≤ 16
-  pub identified : isIdentifier (field t i 2) (field t i 1) ≡ true
-  pub payload-max : field t i 3 ≤ 8
-  pub period-min : 1 ≤ field t i 4
-  pub period-max : field t i 4 ≤ 1000000
-  pub offset-max : field t i 5 < field t i 4
-  pub claim-min : 1 ≤ field t i 6
-  pub claim-max : field t i 6 ≤ 1000000
+  pub node-min : 1 ≤ field t i nodeColumn
+  pub node-max : field t i nodeColumn ≤ 16
+  pub identified : isIdentifier (field t i kindColumn) (field t i identifierColumn) ≡ true
+  pub payload-max : field t i payloadColumn ≤ 8
+  pub period-min : 1 ≤ field t i periodColumn
+  pub period-max : field t i periodColumn ≤ 1000000
+  pub offset-max : field t i offsetColumn < field t i periodColumn
+  pub claim-min : 1 ≤ field t i claimColumn
+  pub claim-max : field t i claimColumn ≤ 1000000
 
 -- A check that failed did not pass.
 pub not-passed {ℓ} : {A : Type ℓ} {cause : Cause} {place : ℕ} → failed cause place ≡ Passed → A
@@ -54,19 +55,19 @@ between-true low high v e = let b = and-both (leb low v) (leb v high) e in (leb-
 pub line-limits : (t : List ℕ) (i : ℕ) → lineCheck t i ≡ Passed → Limits t i
 unfolding lineCheck columnsCheck
 line-limits t i e =
-    let each : (j : ℕ) → j < 7 → within j (field t i (j - 1)) (field t i j) ≡ true
-    = λ j l. column-within t i j (rw zero-add at (first-each (columnCheck t i) 7 0 (first-passed _ _ e .0) j l)) in
-    let node = between-true 1 16 _ (each 0 (omega arith)) in
-    let period = between-true 1 1000000 _ (each 4 (omega arith)) in
-    let claim = between-true 1 1000000 _ (each 6 (omega arith)) in
+    let each : (j : ℕ) → j < columns → within j (field t i (j - 1)) (field t i j) ≡ true
+    = λ j l. column-within t i j (rw zero-add at (first-each (columnCheck t i) columns 0 (first-passed _ _ e .0) j l)) in
+    let node = between-true 1 16 _ (each nodeColumn (omega arith)) in
+    let period = between-true 1 1000000 _ (each periodColumn (omega arith)) in
+    let claim = between-true 1 1000000 _ (each claimColumn (omega arith)) in
     record {
       node-min = node .0;
       node-max = node .1;
-      identified = each 2 (omega arith);
-      payload-max = leb-true _ _ (each 3 (omega arith));
+      identified = each kindColumn (omega arith);
+      payload-max = leb-true _ _ (each payloadColumn (omega arith));
       period-min = period .0;
       period-max = period .1;
-      offset-max = ltb-true _ _ (each 5 (omega arith));
+      offset-max = ltb-true _ _ (each offsetColumn (omega arith));
       claim-min = claim .0;
       claim-max = claim .1;
     }
@@ -85,31 +86,34 @@ identified-max kind identifier e = elim (identified-cases kind identifier e) [ i
 
 -- ---- a column at a time
 
--- What holds of each of the seven columns holds of a column.
-pub by-column : (P : ℕ → Type 0) → P 0 → P 1 → P 2 → P 3 → P 4 → P 5 → P 6 → (j : ℕ) → j < 7 → P j
-by-column P a b c d e f g zero l = a
-by-column P a b c d e f g (suc zero) l = b
-by-column P a b c d e f g (suc (suc zero)) l = c
-by-column P a b c d e f g (suc (suc (suc zero))) l = d
-by-column P a b c d e f g (suc (suc (suc (suc zero)))) l = e
-by-column P a b c d e f g (suc (suc (suc (suc (suc zero))))) l = f
-by-column P a b c d e f g (suc (suc (suc (suc (suc (suc zero)))))) l = g
-by-column P a b c d e f g (suc (suc (suc (suc (suc (suc (suc j))))))) l = absurd (omega arith)
+-- the greatest number that stands in each column
+abbrev greatests : List ℕ
+greatests = 16 ∷ 536_870_911 ∷ 29 ∷ 8 ∷ 1_000_000 ∷ 1_000_000 ∷ 1_000_000 ∷ []
+
+unfoldable pub greatestIn : ℕ → ℕ
+greatestIn j = getD greatests j 0
+
+-- No number is greater.
+pub field-most : (t : List ℕ) (i : ℕ) → Limits t i → (j : ℕ) → j < columns → field t i j ≤ greatestIn j
+unfolding greatestIn
+field-most t i m =
+    let d = identified-max _ _ (m .identified) in
+    each-below (λ j. field t i j ≤ greatestIn j) columns
+    (((((((tt, m .node-max), d .1), d .0), m .payload-max), m .period-max), omega (arith, m .offset-max, m .period-max)), m .claim-max)
 
 -- A number within its limits has 32 bits.
-pub field-small : (t : List ℕ) (i : ℕ) → Limits t i → (j : ℕ) → j < 7 → field t i j < 2 ^ 32
-field-small t i m =
-    let d = identified-max _ _ (m .identified) in
-    by-column (λ j. field t i j < 2 ^ 32)
-    (omega (arith, m .node-max)) (omega (arith, d)) (omega (arith, d)) (omega (arith, m .payload-max))
-    (omega (arith, m .period-max)) (omega (arith, m .offset-max, m .period-max)) (omega (arith, m .claim-max))
+pub field-small : (t : List ℕ) (i : ℕ) → Limits t i → (j : ℕ) → j < columns → field t i j < 2 ^ 32
+unfolding greatestIn
+field-small t i m j l =
+    let h = ltb→lt (greatestIn j) (2 ^ 32) (below (λ j. ltb (greatestIn j) (2 ^ 32)) columns tt j l) in
+    omega (arith, field-most t i m j l)
 
 -- ---- a table
 
 -- Where the lines pass, each does.
-pub lines-each : (t : List ℕ) → linesCheck t ≡ Passed → (i : ℕ) → i < length t / 7 → Limits t i
+pub lines-each : (t : List ℕ) → linesCheck t ≡ Passed → (i : ℕ) → i < length t / columns → Limits t i
 unfolding linesCheck
-lines-each t e i l = line-limits t i (rw zero-add at (first-each (lineCheck t) (length t / 7) 0 e i l))
+lines-each t e i l = line-limits t i (rw zero-add at (first-each (lineCheck t) (length t / columns) 0 e i l))
 
 pub lines-periods : (t : List ℕ) → linesCheck t ≡ Passed → Periods t
 unfolding Periods

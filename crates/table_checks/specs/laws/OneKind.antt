@@ -14,14 +14,14 @@ use Rattle.bus_model.specs.declared.Frame.{Frame}
 use Rattle.bus_model.specs.theory.Alike.{recast, KeepsOrder, keeps-rising}
 use Rattle.bus_model.specs.theory.Answers.{SameAnswers, ranked-answers, answers-through}
 use Rattle.table_checks.specs.declared.Checked.{Checked}
-use Rattle.table_checks.specs.Columns.{field}
+use Rattle.table_checks.specs.Columns.{field, columns, identifierColumn, kindColumn}
 use Rattle.table_checks.specs.Frames.{priorityOf, frameAt, framesOf}
 use Rattle.table_checks.specs.Checks.{firstOf, nodeCheck, nodesCheck}
 use Rattle.table_checks.specs.laws.Rank.{shorts, longs}
 
 -- the frames of a table under a rank, given by kind and identifier
 abbrev pub framesBy : (ℕ → ℕ → ℕ) → List (List ℕ) → List ℕ → List Frame
-framesBy rank ls t = map (λ i. recast (λ g. rank (field t i 2) (field t i 1)) (λ g. g .offset) (frameAt ls t i)) (range 0 (length t / 7))
+framesBy rank ls t = map (λ i. recast (λ g. rank (field t i kindColumn) (field t i identifierColumn)) (λ g. g .offset) (frameAt ls t i)) (range 0 (length t / columns))
 
 -- "Rank" as document 01 had it: kind 11 goes ahead of kind 29; within a kind the smaller identifier goes first
 abbrev pub formerRank : ℕ → ℕ → ℕ
@@ -36,7 +36,7 @@ frames-ranked ls t = refl
 abbrev pub RisesIn : ℕ → (ℕ → ℕ → ℕ) → Type 0
 RisesIn kind rank = (a b : ℕ) → a < b → rank kind a < rank kind b
 
-module _ (ls : List (List ℕ)) (t : List ℕ) (kind : ℕ) (all : (i : ℕ) → i < length t / 7 → field t i 2 ≡ kind) where
+module _ (ls : List (List ℕ)) (t : List ℕ) (kind : ℕ) (all : (i : ℕ) → i < length t / columns → field t i kindColumn ≡ kind) where
   -- the frames with their identifiers for priorities
   abbrev plain : List Frame
   plain = framesBy (λ k i. i) ls t
@@ -49,7 +49,7 @@ module _ (ls : List (List ℕ)) (t : List ℕ) (kind : ℕ) (all : (i : ℕ) →
     keeps = keeps-rising (rank kind) (λ f g m n less. rises (f .priority) (g .priority) less)
 
     by-plain : framesBy rank ls t ≡ map (recast ranks (λ g. g .offset)) plain
-    by-plain = map-same (range 0 (length t / 7)) (λ i m. let (low, high) = of-range 0 (length t / 7) m in rw (all i (omega arith))) ∙ sym (map-map _ _ (range 0 (length t / 7)))
+    by-plain = map-same (range 0 (length t / columns)) (λ i m. let (low, high) = of-range 0 (length t / columns) m in rw (all i (omega arith))) ∙ sym (map-map _ _ (range 0 (length t / columns)))
 
     as-plain : SameAnswers (framesBy rank ls t) plain
     as-plain = rw by-plain (ranked-answers ranks keeps)
@@ -68,7 +68,7 @@ former-rises kind (inl e) a b less = rw e (omega arith)
 former-rises kind (inr e) a b less = rw e (omega arith)
 
 -- So tables of one kind keep all the answers that document 01's rank gave,
-pub answers-kept : (ls : List (List ℕ)) (t : List ℕ) (kind : ℕ) → (kind ≡ 11) ⊎ (kind ≡ 29) → ((i : ℕ) → i < length t / 7 → field t i 2 ≡ kind)
+pub answers-kept : (ls : List (List ℕ)) (t : List ℕ) (kind : ℕ) → (kind ≡ 11) ⊎ (kind ≡ 29) → ((i : ℕ) → i < length t / columns → field t i kindColumn ≡ kind)
     → SameAnswers (framesOf ls t) (framesBy formerRank ls t)
 answers-kept ls t kind is all = rw (frames-ranked ls t) (one-kind ls t kind all priorityOf formerRank (today-rises kind is) (former-rises kind is))
 

@@ -9,6 +9,7 @@ use lib.ListN.{length}
 use Rattle.arith.specs.laws.Tests.{by-test}
 use Rattle.table_checks.specs.declared.Cause.the-variants.{FileForm, TooManyLines, RowsLength}
 use Rattle.table_checks.specs.declared.Checked.the-variants.{Passed}
+use Rattle.table_checks.specs.Columns.{columns, mostLines, mostNumbers, lineLength}
 use Rattle.table_checks.specs.Checks.{fileSizeCheck, rowsSizeCheck, tableCheck, rowsCheck}
 use Rattle.table_checks.specs.laws.Limits.{not-passed}
 
@@ -16,15 +17,15 @@ use Rattle.table_checks.specs.laws.Limits.{not-passed}
 
 pub record FileSize (size : ℕ) : Type 0 where
   pub some : 0 < size
-  pub whole : size % 43 ≡ 0
-  pub most : size / 43 ≤ 64
+  pub whole : size % lineLength ≡ 0
+  pub most : size / lineLength ≤ mostLines
 
 pub file-size : (size : ℕ) → fileSizeCheck size ≡ Passed → FileSize size
 unfolding fileSizeCheck
 file-size size e =
     by-test (eqb size 0) (λ a. not-passed {cause = FileForm} {place = 0} (simp a at e))
-    (λ a. by-test (eqb (size % 43) 0)
-    (λ b. by-test (ltb 64 (size / 43)) (λ c. not-passed {cause = TooManyLines} {place = 0} (simp (a, b, c) at e))
+    (λ a. by-test (eqb (size % lineLength) 0)
+    (λ b. by-test (ltb mostLines (size / lineLength)) (λ c. not-passed {cause = TooManyLines} {place = 0} (simp (a, b, c) at e))
     (λ c. let n = eqb-false size 0 a in record { some = omega arith; whole = eqb-true _ _ b; most = ltb-false _ _ c }))
     (λ b. not-passed {cause = FileForm} {place = 0} (simp (a, b) at e)))
 
@@ -38,15 +39,15 @@ file-sized size s =
 
 pub record RowsSize (size : ℕ) : Type 0 where
   pub some : 0 < size
-  pub whole : size % 7 ≡ 0
-  pub most : size ≤ 448
+  pub whole : size % columns ≡ 0
+  pub most : size ≤ mostNumbers
 
 pub rows-size : (size : ℕ) → rowsSizeCheck size ≡ Passed → RowsSize size
 unfolding rowsSizeCheck
 rows-size size e =
     by-test (eqb size 0) (λ a. not-passed {cause = RowsLength} {place = 0} (simp a at e))
-    (λ a. by-test (eqb (size % 7) 0)
-    (λ b. by-test (ltb 448 size) (λ c. not-passed {cause = RowsLength} {place = 0} (simp (a, b, c) at e))
+    (λ a. by-test (eqb (size % columns) 0)
+    (λ b. by-test (ltb mostNumbers size) (λ c. not-passed {cause = RowsLength} {place = 0} (simp (a, b, c) at e))
     (λ c. let n = eqb-false size 0 a in record { some = omega arith; whole = eqb-true _ _ b; most = ltb-false _ _ c }))
     (λ b. not-passed {cause = RowsLength} {place = 0} (simp (a, b) at e)))
 

@@ -4,14 +4,14 @@ use mathlib.Core.Path.{_≡_, sym, ap, _∙_}
 use native.Mathlib.Omega.{arith}
 use borrow.Author.Needs.{needs}
 use Rattle.decimal.specs.Decimal.{readColumn}
-use Rattle.table_checks.specs.Columns.{widthOf}
+use Rattle.table_checks.specs.Columns.{widthOf, feedAt, lineLength}
 use Rattle.frame_table.specs.Text.{columnAt, fieldOf}
 use Rattle.frame_table.specs.laws.Layout.{start-next, end-most, column-place}
 use Rattle.frame_table.proofs.text.column.Statement.{statement}
 use Rattle.frame_table.proofs.text.column.Tie as tie
 
 -- the column's place in its line
-place : (c : tie.After-start2) → (c .before .start .result + widthOf (c .before .before .before .args .j) ≡ c .start2 .result) × (c .start2 .result ≤ 42)
+place : (c : tie.After-start2) → (c .before .start .result + widthOf (c .before .before .before .args .j) ≡ c .start2 .result) × (c .start2 .result ≤ feedAt)
 place c = column-place _ _ _ (c .before .before .before .pre .1) (c .before .start .ensures) (c .start2 .ensures)
 
 -- what is read is the column
@@ -20,7 +20,7 @@ unfolding columnAt
 found c =
     let at = c .before .before in
     let i = at .before .before .before .args .i in
-    let w : 43 * i + at .start2 .result - (43 * i + at .before .start .result) ≡ widthOf (at .before .before .before .args .j) = omega (arith, place at) in
+    let w : lineLength * i + at .start2 .result - (lineLength * i + at .before .start .result) ≡ widthOf (at .before .before .before .args .j) = omega (arith, place at) in
     rw (← w, ← at .before .start .ensures) (c .read .ensures)
 
 mul-from : tie.Need-mul-from

@@ -4,12 +4,13 @@ use mathlib.Core.Path.{_≡_}
 use native.Mathlib.Omega.{arith}
 use borrow.Author.Needs.{needs}
 use borrow.Author.Tests.{eq-eqb, ne-eqb}
+use Rattle.table_checks.specs.Columns.{feedAt, lineLength}
 use Rattle.frame_table.specs.Text.{fieldAt, terminated}
 use Rattle.frame_table.proofs.text.field.Statement.{statement}
 use Rattle.frame_table.proofs.text.field.Tie as tie
 
 -- the line feed's place
-last : (i : ℕ) → 43 * i + 43 - 1 ≡ 43 * i + 42
+last : (i : ℕ) → lineLength * i + lineLength - 1 ≡ lineLength * i + feedAt
 last i = omega arith
 
 mul-if2 : tie.Need-mul-if2

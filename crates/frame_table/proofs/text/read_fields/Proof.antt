@@ -5,16 +5,17 @@ use borrow.Author.Needs.{needs}
 use lib.ListN.{length}
 use lib.Seq.{take-at}
 use Rattle.arith.specs.laws.Overwriting.{over, over-element, over-all}
+use Rattle.table_checks.specs.Columns.{columns}
 use Rattle.frame_table.specs.Text.{fieldsFrom}
 use Rattle.frame_table.specs.laws.Layout.{length-fields, field-at}
 use Rattle.frame_table.proofs.text.read_fields.Statement.{statement}
 use Rattle.frame_table.proofs.text.read_fields.Tie as tie
 
 abbrev Inv-loop : tie.InvT-loop
-Inv-loop file lines fields₀ k₀ fields k = (fields ≡ over (fieldsFrom file (7 * lines) 0) k fields₀) × (k ≤ 7 * lines) × (length fields ≡ length fields₀)
+Inv-loop file lines fields₀ k₀ fields k = (fields ≡ over (fieldsFrom file (columns * lines) 0) k fields₀) × (k ≤ columns * lines) × (length fields ≡ length fields₀)
 
 abbrev μ-loop : tie.MeasureT-loop
-μ-loop file lines fields₀ k₀ fields k = 7 * lines - k
+μ-loop file lines fields₀ k₀ fields k = columns * lines - k
 
 loop-holds : tie.Need-loop-holds Inv-loop μ-loop
 loop-holds c = (refl, search needs, refl)
@@ -48,7 +49,7 @@ same-length c = search needs
 
 returns : tie.Need-returns Inv-loop μ-loop
 returns c =
-    let size = length-fields _ (7 * c .before .before .before .before .args .lines) 0 in
+    let size = length-fields _ (columns * c .before .before .before .before .args .lines) 0 in
     let all = over-all _ _ _ _ size _ (c .before .loop .inv .0) (c .before .loop .inv .1) (c .loop-test .left) in
     rw all (take-at _ _ _ size)
 

@@ -8,14 +8,14 @@ use borrow.Rule.Slice.PartMut.{midOf, mid-len}
 use lib.ListN.{length, take, drop, length-set, drop-of-length-le}
 use Rattle.arith.specs.laws.Overwriting.{over, over-part, over-element, over-all}
 use Rattle.decimal.specs.Decimal.{writeColumn}
-use Rattle.table_checks.specs.Columns.{field, startOf, widthOf}
+use Rattle.table_checks.specs.Columns.{field, startOf, widthOf, columns, feedAt, lineLength}
 use Rattle.frame_table.specs.Text.{lineOf}
 use Rattle.frame_table.specs.laws.Layout.{start-next, end-most, column-place, length-line, line-column, line-feed}
 use Rattle.frame_table.proofs.text.write_line.Statement.{statement}
 use Rattle.frame_table.proofs.text.write_line.Tie as tie
 
 -- the number in its column
-written : (rows line col : List ℕ) (i j v from to : ℕ) → j < 7 → from ≡ startOf j → to ≡ startOf (j + 1) → length line ≡ 43 → v ≡ field rows i j
+written : (rows line col : List ℕ) (i j v from to : ℕ) → j < columns → from ≡ startOf j → to ≡ startOf (j + 1) → length line ≡ lineLength → v ≡ field rows i j
     → col ≡ writeColumn (length (midOf from (to - from) line)) v → col ≡ take (widthOf j) (drop (startOf j) (lineOf rows i))
 written rows line col i j v from to l p q n e is =
     let place = column-place j from to l p q in
@@ -23,13 +23,13 @@ written rows line col i j v from to l p q n e is =
     rw (is, mid-len from to line (omega (arith, place)), wide, e) (sym (rw append-nil at (line-column rows i [] j l)))
 
 abbrev Inv-loop : tie.InvT-loop
-Inv-loop rows i line₀ j₀ line j = (line ≡ over (lineOf rows i) (startOf j) line₀) × (j ≤ 7) × (length line ≡ 43)
+Inv-loop rows i line₀ j₀ line j = (line ≡ over (lineOf rows i) (startOf j) line₀) × (j ≤ columns) × (length line ≡ lineLength)
 
 abbrev μ-loop : tie.MeasureT-loop
-μ-loop rows i line₀ j₀ line j = 7 - j
+μ-loop rows i line₀ j₀ line j = columns - j
 
 -- the column's place in the line
-place : (c : tie.After-start2 Inv-loop μ-loop) → (c .before .start .result + widthOf (c .before .before .before .loop .j) ≡ c .start2 .result) × (c .start2 .result ≤ 42)
+place : (c : tie.After-start2 Inv-loop μ-loop) → (c .before .start .result + widthOf (c .before .before .before .loop .j) ≡ c .start2 .result) × (c .start2 .result ≤ feedAt)
 place c = column-place _ _ _ (c .before .before .loop-test .taken) (c .before .start .ensures) (c .start2 .ensures)
 
 loop-holds : tie.Need-loop-holds Inv-loop μ-loop
@@ -87,7 +87,7 @@ loop-again c =
     let below = at-start2 .before .before .loop-test .taken in
     let from = at-start2 .before .start .ensures in
     let to = at-start2 .start2 .ensures in (
-      over-part _ _ _ 43 (length-line _ _) _ (startOf j) (startOf (j + 1)) (widthOf j) _ _ (at-loop .loop .inv .0) from to (sym (start-next j below)) (omega (arith, end-most j below))
+      over-part _ _ _ lineLength (length-line _ _) _ (startOf j) (startOf (j + 1)) (widthOf j) _ _ (at-loop .loop .inv .0) from to (sym (start-next j below)) (omega (arith, end-most j below))
           (written _ _ _ _ j _ _ _ below from to (at-loop .loop .inv .2) (at-wide .wide .ensures) (c .before .before .write .ensures)),
       search needs,
       search needs,
@@ -109,10 +109,10 @@ returns c =
     let rows : List ℕ = start .args .rows .now in
     let line : List ℕ = start .args .line .now in
     let i = start .args .i in
-    let z : c .before .loop .j ≡ 7 = omega (arith, c .before .loop .inv, c .loop-test .left) in
-    let fed = over-element (lineOf rows i) line _ 43 (length-line rows i) 42 10 (rw z at (c .before .loop .inv .0)) (omega arith) (omega (arith, start .pre .1)) (sym (rw append-nil at (line-feed rows i []))) in
-    over-all (lineOf rows i) line _ 43 (length-line rows i) 43 fed (omega arith) (omega arith)
-    ∙ ap (λ (x : List ℕ). lineOf rows i ++ x) (drop-of-length-le line {i = 43} (omega (arith, start .pre .1))) ∙ append-nil (lineOf rows i)
+    let z : c .before .loop .j ≡ columns = omega (arith, c .before .loop .inv, c .loop-test .left) in
+    let fed = over-element (lineOf rows i) line _ lineLength (length-line rows i) feedAt 10 (rw z at (c .before .loop .inv .0)) (omega arith) (omega (arith, start .pre .1)) (sym (rw append-nil at (line-feed rows i []))) in
+    over-all (lineOf rows i) line _ lineLength (length-line rows i) lineLength fed (omega arith) (omega arith)
+    ∙ ap (λ (x : List ℕ). lineOf rows i ++ x) (drop-of-length-le line {i = lineLength} (omega (arith, start .pre .1))) ∙ append-nil (lineOf rows i)
 
 pub write-line-spec : {M : Type 1} → statement M
 write-line-spec =

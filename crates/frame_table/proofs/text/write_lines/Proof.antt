@@ -6,13 +6,14 @@ use borrow.Author.Needs.{needs}
 use lib.ListN.{length, length-take, length-drop}
 use Rattle.arith.specs.laws.Overwriting.{over}
 use Rattle.arith.specs.laws.Lines.{line-over, lines-over}
+use Rattle.table_checks.specs.Columns.{lineLength}
 use Rattle.frame_table.specs.Text.{linesFrom}
 use Rattle.frame_table.specs.laws.Layout.{table-lines}
 use Rattle.frame_table.proofs.text.write_lines.Statement.{statement}
 use Rattle.frame_table.proofs.text.write_lines.Tie as tie
 
 abbrev Inv-loop : tie.InvT-loop
-Inv-loop rows lines file₀ i₀ file i = (file ≡ over (linesFrom rows lines 0) (43 * i) file₀) × (i ≤ lines) × (length file ≡ length file₀)
+Inv-loop rows lines file₀ i₀ file i = (file ≡ over (linesFrom rows lines 0) (lineLength * i) file₀) × (i ≤ lines) × (length file ≡ length file₀)
 
 abbrev μ-loop : tie.MeasureT-loop
 μ-loop rows lines file₀ i₀ file i = lines - i

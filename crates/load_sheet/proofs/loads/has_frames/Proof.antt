@@ -4,6 +4,7 @@ use mathlib.Core.Path.{refl}
 use native.Mathlib.Omega.{arith}
 use borrow.Author.Needs.{needs}
 use lib.ListN.{length}
+use Rattle.table_checks.specs.Columns.{columns}
 use Rattle.table_checks.specs.Frames.{framesOf}
 use Rattle.table_checks.specs.laws.Accepted.{length-frames}
 use Rattle.load_sheet.specs.laws.Loads.{Decides, found-here, found-later, found-none}
@@ -11,10 +12,10 @@ use Rattle.load_sheet.proofs.loads.has_frames.Statement.{statement}
 use Rattle.load_sheet.proofs.loads.has_frames.Tie as tie
 
 abbrev Inv-loop : tie.InvT-loop
-Inv-loop lengths rows node i₀ i = Decides (framesOf lengths rows) node i × (i ≤ length rows / 7)
+Inv-loop lengths rows node i₀ i = Decides (framesOf lengths rows) node i × (i ≤ length rows / columns)
 
 abbrev μ-loop : tie.MeasureT-loop
-μ-loop lengths rows node i₀ i = length rows / 7 - i
+μ-loop lengths rows node i₀ i = length rows / columns - i
 
 loop-holds : tie.Need-loop-holds Inv-loop μ-loop
 loop-holds c = (refl, search needs)

@@ -4,6 +4,7 @@ use native.Mathlib.Omega.{arith}
 use borrow.Author.Needs.{needs}
 use lib.ListN.{length}
 use Rattle.arith.specs.laws.Walks.{Down, down-end}
+use Rattle.table_checks.specs.Columns.{columns}
 use Rattle.table_checks.specs.Frames.{framesOf}
 use Rattle.table_checks.specs.laws.Accepted.{accepted-size}
 use Rattle.load_sheet.specs.laws.Loads.{frame-limits, workOf, work-none, work-more}
@@ -11,7 +12,7 @@ use Rattle.load_sheet.proofs.loads.work.Statement.{statement}
 use Rattle.load_sheet.proofs.loads.work.Tie as tie
 
 abbrev Inv-loop : tie.InvT-loop
-Inv-loop lengths rows node h sum₀ i₀ sum i = Down (workOf h node) (framesOf lengths rows) sum i × (sum ≤ 400000000 * (length rows / 7 - i)) × (i ≤ length rows / 7)
+Inv-loop lengths rows node h sum₀ i₀ sum i = Down (workOf h node) (framesOf lengths rows) sum i × (sum ≤ 400000000 * (length rows / columns - i)) × (i ≤ length rows / columns)
 
 abbrev μ-loop : tie.MeasureT-loop
 μ-loop lengths rows node h sum₀ i₀ sum i = i

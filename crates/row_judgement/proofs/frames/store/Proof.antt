@@ -4,6 +4,7 @@ use Prim.Native.Nat.{_-_, _/_, _≤_}
 use mathlib.Core.Path.{sym, _∙_}
 use native.Mathlib.Omega.{arith}
 use lib.ListN.{length}
+use Rattle.table_checks.specs.Columns.{columns}
 use Rattle.table_checks.specs.Frames.{frameAt}
 use Rattle.table_checks.specs.laws.Accepted.{frame-row, accepted-size}
 use Rattle.workload.specs.laws.Stored.{StoredTo, put-more}
@@ -12,10 +13,10 @@ use Rattle.row_judgement.proofs.frames.store.Statement.{statement}
 use Rattle.row_judgement.proofs.frames.store.Tie as tie
 
 abbrev Inv-loop : tie.InvT-loop
-Inv-loop lengths rows frames₀ i₀ frames i = StoredTo (frameAt lengths rows) frames i × (i ≤ length rows / 7)
+Inv-loop lengths rows frames₀ i₀ frames i = StoredTo (frameAt lengths rows) frames i × (i ≤ length rows / columns)
 
 abbrev μ-loop : tie.MeasureT-loop
-μ-loop lengths rows frames₀ i₀ frames i = length rows / 7 - i
+μ-loop lengths rows frames₀ i₀ frames i = length rows / columns - i
 
 loop-holds : tie.Need-loop-holds Inv-loop μ-loop
 loop-holds c = (record { size = c .before .before .pre .1; each = λ m l. absurd (omega arith) }, omega arith)

@@ -5,6 +5,7 @@ use mathlib.Core.Path.{_≡_, sym, ap, subst, _∙_}
 use native.Mathlib.Omega.{arith}
 use lib.ListN.{length}
 use Rattle.bus_model.specs.Judgement.{judge}
+use Rattle.table_checks.specs.Columns.{columns, mostNumbers, claimColumn}
 use Rattle.table_checks.specs.Frames.{framesOf}
 use Rattle.table_checks.specs.laws.Accepted.{accepted-size}
 use Rattle.workload.specs.Grouped.{FineTable, InTable}
@@ -17,7 +18,7 @@ use Rattle.row_judgement.proofs.judgement.judge_row.Tie as tie
 frame-requires : tie.Need-frame-requires
 frame-requires c κs = search needs
 
-place : (c : tie.Start) → (7 * c .args .i + 6 < length (c .args .rows .now)) × (length (c .args .rows .now) ≤ 448)
+place : (c : tie.Start) → (columns * c .args .i + claimColumn < length (c .args .rows .now)) × (length (c .args .rows .now) ≤ mostNumbers)
 place c = claim-inside (c .args .lengths) (c .args .rows .now) (c .pre .0 .1) (c .pre .1)
 
 mul-claim : tie.Need-mul-claim

@@ -23,6 +23,9 @@ sub-i c = search needs
 mul-joined : tie.Need-mul-joined Inv-loop μ-loop
 mul-joined c = search needs
 
+add-joined : tie.Need-add-joined Inv-loop μ-loop
+add-joined c = search needs
+
 mul-joined-2 : tie.Need-mul-joined-2 Inv-loop μ-loop
 mul-joined-2 c = search needs
 
@@ -32,8 +35,8 @@ shared-slice-read-joined c = search needs
 mul-joined-3 : tie.Need-mul-joined-3 Inv-loop μ-loop
 mul-joined-3 c = search needs
 
-add-joined : tie.Need-add-joined Inv-loop μ-loop
-add-joined c = search needs
+add-joined-2 : tie.Need-add-joined-2 Inv-loop μ-loop
+add-joined-2 c = search needs
 
 mul-joined-4 : tie.Need-mul-joined-4 Inv-loop μ-loop
 mul-joined-4 c = search needs
@@ -79,10 +82,11 @@ bounded-hyperperiod-spec =
     loop-holds
     sub-i
     mul-joined
+    add-joined
     mul-joined-2
     shared-slice-read-joined
     mul-joined-3
-    add-joined
+    add-joined-2
     mul-joined-4
     shared-slice-read-joined-2
     joined-requires

@@ -2,16 +2,17 @@
 use Prim.Native.Nat.{_-_, _≤_}
 use mathlib.Core.Path.{_≡_, refl, _∙_}
 use borrow.Author.Needs.{needs}
+use Rattle.table_checks.specs.Columns.{columns}
 use Rattle.table_checks.specs.Checks.{firstOf, columnCheck, columnsCheck}
 use Rattle.table_checks.specs.laws.First.{first-stop, first-go, first-end}
 use Rattle.table_checks.proofs.checks.columns.Statement.{statement}
 use Rattle.table_checks.proofs.checks.columns.Tie as tie
 
 abbrev Inv-loop : tie.InvT-loop
-Inv-loop t i j₀ j = (firstOf (columnCheck t i) (7 - j) j ≡ columnsCheck t i) × (j ≤ 7)
+Inv-loop t i j₀ j = (firstOf (columnCheck t i) (columns - j) j ≡ columnsCheck t i) × (j ≤ columns)
 
 abbrev μ-loop : tie.MeasureT-loop
-μ-loop t i j₀ j = 7 - j
+μ-loop t i j₀ j = columns - j
 
 loop-holds : tie.Need-loop-holds Inv-loop μ-loop
 unfolding columnsCheck

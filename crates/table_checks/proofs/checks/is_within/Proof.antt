@@ -1,11 +1,12 @@
 -- `table_checks::checks::is_within` meets its contract: each column has its limits.
 use mathlib.Core.Path.{_≡_, refl, sym}
 use mathlib.Core.Bool.{false}
-use native.Mathlib.Nat.{lt-of-not-le, suc-le-suc-iff}
+use Prim.Native.Nat.{_<_}
+use native.Mathlib.Omega.{arith}
 use lib.ListN.{List·getD-eq-default}
 use borrow.Author.Needs.{needs}
-use Rattle.table_checks.specs.Columns.{limits}
-use Rattle.table_checks.specs.laws.Limits.{by-column}
+use Rattle.arith.specs.laws.Below.{each-below}
+use Rattle.table_checks.specs.Columns.{limits, columns}
 use Rattle.table_checks.proofs.checks.is_within.Statement.{statement}
 use Rattle.table_checks.proofs.checks.is_within.Tie as tie
 
@@ -45,9 +46,8 @@ returns-7 c = rw (c .before .match .keys7) (c .is-between3 .ensures)
 returns-8 : tie.Need-returns-8
 returns-8 c =
     let j = c .before .args .j in
-    let r = c .match .rest in
-    let other = by-column (λ k. j ≡ k → ⊥) (r .0 .0 .0 .0 .0 .0 .1) (r .0 .0 .0 .0 .0 .1) (r .0 .0 .0 .0 .1) (r .0 .0 .0 .1) (r .0 .0 .1) (r .0 .1) (r .1) in
-    sym (List·getD-eq-default (limits (c .before .args .before) (c .before .args .v)) false (lt-of-not-le {m = 6} (λ l. other j (suc-le-suc-iff .1 l) refl)))
+    let none : ¬ (j < columns) = λ l. each-below (λ k. j ≡ k → ⊥) columns (c .match .rest) j l refl in
+    sym (List·getD-eq-default (limits (c .before .args .before) (c .before .args .v)) false {n = j} (omega arith))
 
 pub is-within-spec : {M : Type 1} → statement M
 is-within-spec =

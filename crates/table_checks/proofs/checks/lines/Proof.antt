@@ -4,16 +4,17 @@ use mathlib.Core.Path.{_≡_, _∙_}
 use native.Mathlib.Nat.{sub-zero}
 use lib.ListN.{length}
 use borrow.Author.Needs.{needs}
+use Rattle.table_checks.specs.Columns.{columns}
 use Rattle.table_checks.specs.Checks.{firstOf, lineCheck, linesCheck}
 use Rattle.table_checks.specs.laws.First.{first-stop, first-go, first-end}
 use Rattle.table_checks.proofs.checks.lines.Statement.{statement}
 use Rattle.table_checks.proofs.checks.lines.Tie as tie
 
 abbrev Inv-loop : tie.InvT-loop
-Inv-loop t i₀ i = (firstOf (lineCheck t) (length t / 7 - i) i ≡ linesCheck t) × (i ≤ length t / 7)
+Inv-loop t i₀ i = (firstOf (lineCheck t) (length t / columns - i) i ≡ linesCheck t) × (i ≤ length t / columns)
 
 abbrev μ-loop : tie.MeasureT-loop
-μ-loop t i₀ i = length t / 7 - i
+μ-loop t i₀ i = length t / columns - i
 
 loop-holds : tie.Need-loop-holds Inv-loop μ-loop
 unfolding linesCheck

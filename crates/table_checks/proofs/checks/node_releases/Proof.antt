@@ -3,13 +3,14 @@ use Prim.Native.Nat.{_-_, _*_, _/_, _≤_}
 use native.Mathlib.Omega.{arith}
 use lib.ListN.{length}
 use borrow.Author.Needs.{needs}
+use Rattle.table_checks.specs.Columns.{columns}
 use Rattle.table_checks.specs.Steps.{Periods}
 use Rattle.table_checks.proofs.ChecksLaws.{Rows, rows-all, releasesOf, releases-none, releases-more}
 use Rattle.table_checks.proofs.checks.node_releases.Statement.{statement}
 use Rattle.table_checks.proofs.checks.node_releases.Tie as tie
 
 abbrev Inv-loop : tie.InvT-loop
-Inv-loop t node h sum₀ i₀ sum i = Rows (releasesOf h node) t sum i × (sum ≤ 1000000 * (length t / 7 - i))
+Inv-loop t node h sum₀ i₀ sum i = Rows (releasesOf h node) t sum i × (sum ≤ 1000000 * (length t / columns - i))
 
 abbrev μ-loop : tie.MeasureT-loop
 μ-loop t node h sum₀ i₀ sum i = i
@@ -23,6 +24,9 @@ sub-i c = search needs
 mul-frame-releases : tie.Need-mul-frame-releases Inv-loop μ-loop
 mul-frame-releases c = search needs
 
+add-frame-releases : tie.Need-add-frame-releases Inv-loop μ-loop
+add-frame-releases c = search needs
+
 mul-frame-releases-2 : tie.Need-mul-frame-releases-2 Inv-loop μ-loop
 mul-frame-releases-2 c = search needs
 
@@ -32,8 +36,8 @@ shared-slice-read-frame-releases c = search needs
 mul-frame-releases-3 : tie.Need-mul-frame-releases-3 Inv-loop μ-loop
 mul-frame-releases-3 c = search needs
 
-add-frame-releases : tie.Need-add-frame-releases Inv-loop μ-loop
-add-frame-releases c = search needs
+add-frame-releases-2 : tie.Need-add-frame-releases-2 Inv-loop μ-loop
+add-frame-releases-2 c = search needs
 
 mul-frame-releases-4 : tie.Need-mul-frame-releases-4 Inv-loop μ-loop
 mul-frame-releases-4 c = search needs
@@ -74,10 +78,11 @@ node-releases-spec =
     loop-holds
     sub-i
     mul-frame-releases
+    add-frame-releases
     mul-frame-releases-2
     shared-slice-read-frame-releases
     mul-frame-releases-3
-    add-frame-releases
+    add-frame-releases-2
     mul-frame-releases-4
     shared-slice-read-frame-releases-2
     frame-releases-requires

@@ -40,8 +40,11 @@ mul-payload c = search needs
 shared-slice-read-payload : tie.Need-shared-slice-read-payload
 shared-slice-read-payload c = search needs
 
-mul-t8 : tie.Need-mul-t8
-mul-t8 c = search needs
+add-t8 : tie.Need-add-t8
+add-t8 c = search needs
+
+mul-t9 : tie.Need-mul-t9
+mul-t9 c = search needs
 
 shared-slice-read-t12 : tie.Need-shared-slice-read-t12
 shared-slice-read-t12 c = search needs
@@ -52,23 +55,23 @@ priority-requires c κs = search needs
 largest-length-requires : tie.Need-largest-length-requires
 largest-length-requires c κs = search needs
 
-add-t9 : tie.Need-add-t9
-add-t9 c = search needs
+add-t18 : tie.Need-add-t18
+add-t18 c = search needs
 
-mul-t18 : tie.Need-mul-t18
-mul-t18 c = search needs
+mul-t19 : tie.Need-mul-t19
+mul-t19 c = search needs
 
-shared-slice-read-t20 : tie.Need-shared-slice-read-t20
-shared-slice-read-t20 c = search needs
+shared-slice-read-t21 : tie.Need-shared-slice-read-t21
+shared-slice-read-t21 c = search needs
 
-add-t21 : tie.Need-add-t21
-add-t21 c = search needs
+add-t22 : tie.Need-add-t22
+add-t22 c = search needs
 
-mul-t22 : tie.Need-mul-t22
-mul-t22 c = search needs
+mul-t23 : tie.Need-mul-t23
+mul-t23 c = search needs
 
-shared-slice-read-t24 : tie.Need-shared-slice-read-t24
-shared-slice-read-t24 c = search needs
+shared-slice-read-t25 : tie.Need-shared-slice-read-t25
+shared-slice-read-t25 c = search needs
 
 returns-2 : tie.Need-returns-2
 unfolding frameAt
@@ -92,14 +95,15 @@ frame-spec =
     add-payload
     mul-payload
     shared-slice-read-payload
-    mul-t8
+    add-t8
+    mul-t9
     shared-slice-read-t12
     priority-requires
     largest-length-requires
-    add-t9
-    mul-t18
-    shared-slice-read-t20
-    add-t21
-    mul-t22
-    shared-slice-read-t24
+    add-t18
+    mul-t19
+    shared-slice-read-t21
+    add-t22
+    mul-t23
+    shared-slice-read-t25
     returns-2)
