@@ -1,4 +1,4 @@
--- What a walk along the alignments of a node notes of each frame, so that it divides only once.
+-- What a walk along the alignments of a group notes of each frame, so that it divides only once.
 use Prim.Native.Nat.{ℕ, _+_, _-_, _*_, _/_, _%_, _<_}
 use mathlib.Core.Path.{_≡_}
 use mathlib.Core.List.{List}
@@ -30,7 +30,7 @@ wholeDemand n g = g .length * (n / g .period)
 abbrev pub extraDemand : ℕ → ℕ → Frame → ℕ
 extraDemand a n g = cond (ltb (distance g a) (restOf n g)) (g .length) 0
 
--- what f tells of the frame in each of a node's rows stands at its place in an area
+-- what f tells of the frame in each of a group's rows stands at its place in an area
 pub record Noted (f : Frame → ℕ) (fs : List Frame) (part area : List ℕ) : Type 0 where
   pub size : length area ≡ 64
   pub each : (i : ℕ) → i < length part → getD area i 0 ≡ f (row fs (getD part i 0))

@@ -1,8 +1,8 @@
-// A node's alignments, one after the other: no array holds them.
+// A group's alignments, one after the other: no array holds them.
 use arith::Found;
 use arith::lesser;
 use bus_model::Frame;
-use workload::GROUP;
+use workload::GROUP_ROWS;
 use workload::frame_at;
 use workload::index;
 use workload::inverse_at;
@@ -20,7 +20,7 @@ ghost use Rattle.bus_model.specs.declared.Frame.{Frame};
 ghost use Rattle.bus_model.specs.Bounds.{workAt, orEmpty};
 ghost use Rattle.workload.specs.Stored.{stored};
 ghost use Rattle.alignment_walk.specs.Steps.{nextRelease, waitFrom, restOf, wholeDemand, Noted};
-ghost use Rattle.workload.specs.Grouped.{Fine, FinePart, framesIn, isInstant, instantsIn, orEnd};
+ghost use Rattle.workload.specs.ByGroup.{Fine, FinePart, framesIn, isInstant, instantsIn, orEnd};
 
 // The first release of the frame at or after a tick, as its alignments have it.
 fn next_release(g: Frame, after: u32, inverse: u32) -> u32
@@ -31,7 +31,7 @@ fn next_release(g: Frame, after: u32, inverse: u32) -> u32
     g.offset + releases_before(g.offset, g.period, after, inverse) * g.period
 }
 
-// The first alignment at or after a tick, below `end`, of a node whose frames ahead stand in some rows.
+// The first alignment at or after a tick, below `end`, of a group whose frames ahead stand in some rows.
 pub fn next_alignment(frames: &[u32], part: &[u8], after: u32, end: u32) -> Found
     requires { ⌜ FinePart (stored (now frames)) (now part) ⌝ }
     requires { ⌜ (after ≤ end) × (end ≤ 1000000) ⌝ }
@@ -80,10 +80,10 @@ fn begin(
     part: &[u8],
     n: u32,
     first: u32,
-    lengths: &mut [u32; GROUP],
-    periods: &mut [u32; GROUP],
-    rests: &mut [u32; GROUP],
-    waits: &mut [u32; GROUP],
+    lengths: &mut [u32; GROUP_ROWS],
+    periods: &mut [u32; GROUP_ROWS],
+    rests: &mut [u32; GROUP_ROWS],
+    waits: &mut [u32; GROUP_ROWS],
 ) -> u64
     requires { ⌜ FinePart (stored (now frames)) (now part) ⌝ }
     requires { ⌜ (n ≤ 1000001) × ((g : Frame) → Mem g (framesIn (stored (now frames)) (now part)) → first ≤ g .offset) ⌝ }
@@ -121,10 +121,10 @@ fn visit(
     n: u32,
     end: u32,
     whole: u64,
-    lengths: &[u32; GROUP],
-    periods: &[u32; GROUP],
-    rests: &[u32; GROUP],
-    waits: &mut [u32; GROUP],
+    lengths: &[u32; GROUP_ROWS],
+    periods: &[u32; GROUP_ROWS],
+    rests: &[u32; GROUP_ROWS],
+    waits: &mut [u32; GROUP_ROWS],
 ) -> Visited
     requires { ⌜ FinePart (stored (now frames)) (now part) ⌝ }
     requires { ⌜ (gap ≤ a) × (a < end) × (end ≤ 1000000) ⌝ }
@@ -179,10 +179,10 @@ pub fn best_alignment(frames: &[u32], part: &[u8], end: u32, n: u32) -> Best
             count: 0,
         };
     };
-    let mut lengths = [0u32; GROUP];
-    let mut periods = [0u32; GROUP];
-    let mut rests = [0u32; GROUP];
-    let mut waits = [0u32; GROUP];
+    let mut lengths = [0u32; GROUP_ROWS];
+    let mut periods = [0u32; GROUP_ROWS];
+    let mut rests = [0u32; GROUP_ROWS];
+    let mut waits = [0u32; GROUP_ROWS];
     let whole = begin(
         frames,
         part,

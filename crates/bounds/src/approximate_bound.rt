@@ -41,7 +41,7 @@ fn limit_of(
     }
 }
 
-// The approximate bound, or nothing where some alignment of k's node has no busy window.
+// The approximate bound, or nothing where some alignment of k's group has no busy window.
 pub fn approximate(
     frames: &[u32],
     members: &[u8],
@@ -56,7 +56,7 @@ pub fn approximate(
     ensures { λ r. ⌜ r ≡ approximateFound (stored (now (frames .entry))) k ⌝ }
     ensures kept { λ _. ⌜ Ready (stored (now (frames .entry))) k (now (members .entry)) (now (counts .entry)) (now (ends .entry)) (now (sums .exit)) ⌝ }
 {
-    let j = k.node as usize;
+    let j = k.group as usize;
     let limit = busy_window(
         frames,
         members,

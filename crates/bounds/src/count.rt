@@ -1,14 +1,14 @@
 // How many scenarios there are.
 use alignment_walk::count_alignments;
 use bus_model::Frame;
-use workload::GROUP;
-use workload::NODES;
+use workload::GROUP_ROWS;
+use workload::GROUPS;
 use workload::common_multiple;
 ghost use mathlib.Core.Path.{_≡_};
 ghost use Prim.Native.Nat.{_*_, _≤_, min};
 ghost use Rattle.bus_model.specs.Bounds.{scenarioCount};
 ghost use Rattle.workload.specs.Stored.{stored};
-ghost use Rattle.workload.specs.Grouped.{Grouped, FineTable};
+ghost use Rattle.workload.specs.ByGroup.{ByGroup, FineTable};
 
 // No more scenarios are looked at.
 pub const SCENARIO_LIMIT: u32 = 65_536;
@@ -26,7 +26,7 @@ fn cut_product(a: u32, b: u32) -> u32
     }
 }
 
-// The number of scenarios, cut at one more than the limit. Where that is reached, the other nodes, each of which has one alignment at the
+// The number of scenarios, cut at one more than the limit. Where that is reached, the other groups, each of which has one alignment at the
 // least, count no more.
 pub fn scenario_count(
     frames: &[u32],
@@ -36,16 +36,16 @@ pub fn scenario_count(
     k: Frame,
 ) -> u32
     requires { ⌜ FineTable (stored (now frames)) ⌝ }
-    requires { ⌜ Grouped (stored (now frames)) k (now members) (now counts) (now ends) ⌝ }
+    requires { ⌜ ByGroup (stored (now frames)) k (now members) (now counts) (now ends) ⌝ }
     ensures { λ r. ⌜ r ≡ min 65537 (scenarioCount (stored (now (frames .entry))) k) ⌝ }
 {
     let mut product: u32 = 1;
     let mut j = 0;
-    while j < NODES {
+    while j < GROUPS {
         if SCENARIO_LIMIT < product {
             return product;
         }
-        let from = GROUP * j;
+        let from = GROUP_ROWS * j;
         let to = from + counts[j];
         let end = common_multiple(frames, k, (j + 1) as u32, true);
         let count = count_alignments(frames, &members[from..to], end);

@@ -8,16 +8,16 @@ use lib.ListN.{length, getD}
 use Rattle.arith.specs.Lists.{sum, product, greatest, keep, exists, range, combinations}
 use Rattle.arith.specs.Least.{least, orZero}
 use Rattle.arith.specs.Releases.{releasesBefore}
-use Rattle.bus_model.specs.Pattern.{ofNode, hyperperiod}
+use Rattle.bus_model.specs.Pattern.{ofGroup, hyperperiod}
 use Rattle.arith.specs.declared.Found.{Found}
 use Rattle.arith.specs.declared.Found.the-variants.{At, Nothing}
 use Rattle.bus_model.specs.declared.Frame.{Frame}
 use Rattle.bus_model.specs.declared.Choice.{Choice}
 use Rattle.bus_model.specs.declared.Choice.the-variants.{Fixed, Any}
 
--- nodes are 1 to 16
-abbrev pub nodes : ℕ
-nodes = 16
+-- groups are 1 to 16
+abbrev pub groups : ℕ
+groups = 16
 
 -- the longest window that is looked for (document 01, "Judgement": "no L up to 1000000")
 unfoldable pub windowLimit : ℕ
@@ -61,9 +61,9 @@ phase g = g .offset
 unfoldable pub isReleasedAt : ℕ → Frame → Bool
 isReleasedAt a g = leb (phase g) a && eqb ((a - phase g) % (g .period)) 0
 
--- "Alignments" of node j: the distinct instants below its hyperperiod of its frames ahead, rising
+-- "Alignments" of group j: the distinct instants below its hyperperiod of its frames ahead, rising
 unfoldable pub alignments : List Frame → Frame → ℕ → List ℕ
-alignments fs k j = keep (λ a. exists (isReleasedAt a) (ofNode (ahead fs k) j)) (range 0 (hyperperiod (ofNode fs j)))
+alignments fs k j = keep (λ a. exists (isReleasedAt a) (ofGroup (ahead fs k) j)) (range 0 (hyperperiod (ofGroup fs j)))
 
 -- "Distance" at alignment a: (o - a) mod p
 unfoldable pub distance : Frame → ℕ → ℕ
@@ -71,32 +71,32 @@ distance g a = (phase g + (g .period - a % (g .period))) % (g .period)
 
 -- ---- scenarios
 
--- A "scenario" is a list of choices for the nodes from 1 on: `Fixed a`, one alignment, or `Any`, as the rough bound
--- has every other node. The choice for node j.
+-- A "scenario" is a list of choices for the groups from 1 on: `Fixed a`, one alignment, or `Any`, as the rough bound
+-- has every other group. The choice for group j.
 abbrev pub choiceOf : List Choice → ℕ → Choice
 choiceOf cs j = getD cs (j - 1) Any
 
--- the "one empty alignment" of a node that has none: it counts as 1, and has no work
+-- the "one empty alignment" of a group that has none: it counts as 1, and has no work
 unfoldable pub orEmpty : List ℕ → List ℕ
 orEmpty [] = 0 ∷ []
 orEmpty (a ∷ more) = a ∷ more
 
--- the choices for node j: each of its alignments where it is fixed, `Any` where it is not
+-- the choices for group j: each of its alignments where it is fixed, `Any` where it is not
 unfoldable pub choices : List Frame → Frame → Bool → ℕ → List Choice
 choices fs k true j = map Fixed (orEmpty (alignments fs k j))
 choices fs k false j = Any ∷ []
 
--- the scenarios in which the nodes that `fixes` names take each of their alignments
+-- the scenarios in which the groups that `fixes` names take each of their alignments
 unfoldable pub scenarios : List Frame → Frame → (ℕ → Bool) → List (List Choice)
-scenarios fs k fixes = combinations (map (λ j. choices fs k (fixes j) j) (range 1 nodes))
+scenarios fs k fixes = combinations (map (λ j. choices fs k (fixes j) j) (range 1 groups))
 
--- k's own node alone
-abbrev pub ownNode : Frame → ℕ → Bool
-ownNode k j = eqb j (k .node)
+-- k's own group alone
+abbrev pub ownGroup : Frame → ℕ → Bool
+ownGroup k j = eqb j (k .group)
 
--- every node
-abbrev pub everyNode : ℕ → Bool
-everyNode j = true
+-- every group
+abbrev pub everyGroup : ℕ → Bool
+everyGroup j = true
 
 -- ---- work
 
@@ -108,15 +108,15 @@ demand g a n = g .length * releasesBefore (distance g a) (g .period) n
 unfoldable pub workAt : List Frame → ℕ → ℕ → ℕ
 workAt gs a n = sum (λ g. demand g a n) gs
 
--- those of a node's frames gs, by the choice for the node, whose alignments are als; at `Any` "the greatest sum
+-- those of a group's frames gs, by the choice for the group, whose alignments are als; at `Any` "the greatest sum
 -- that any of its alignments gives", separately at each n
-unfoldable pub nodeWork : List Frame → List ℕ → Choice → ℕ → ℕ
-nodeWork gs als (Fixed a) n = workAt gs a n
-nodeWork gs als Any n = greatest (λ a. workAt gs a n) als
+unfoldable pub groupWork : List Frame → List ℕ → Choice → ℕ → ℕ
+groupWork gs als (Fixed a) n = workAt gs a n
+groupWork gs als Any n = greatest (λ a. workAt gs a n) als
 
--- those of the frames gs of all nodes, in a scenario
+-- those of the frames gs of all groups, in a scenario
 unfoldable pub work : List Frame → Frame → List Frame → List Choice → ℕ → ℕ
-work fs k gs cs n = sum (λ j. nodeWork (ofNode gs j) (alignments fs k j) (choiceOf cs j) n) (range 1 nodes)
+work fs k gs cs n = sum (λ j. groupWork (ofGroup gs j) (alignments fs k j) (choiceOf cs j) n) (range 1 groups)
 
 -- ---- the busy window and the response times of a scenario
 
@@ -137,9 +137,9 @@ delayLoad fs k cs q w = blocking fs k + q * k .length + work fs k (better fs k) 
 unfoldable pub queueingDelay : List Frame → Frame → List Choice → ℕ → Found
 queueingDelay fs k cs q = least (λ w. leb (delayLoad fs k cs q w) w) windowLimit 0
 
--- k's own distance d; the bounds fix k's own node
+-- k's own distance d; the bounds fix k's own group
 unfoldable pub ownDistance : Frame → List Choice → ℕ
-ownDistance k cs = elim (choiceOf cs (k .node)) [ Fixed a ↦ distance k a | Any ↦ 0 ]
+ownDistance k cs = elim (choiceOf cs (k .group)) [ Fixed a ↦ distance k a | Any ↦ 0 ]
 
 -- "response" of instance q of k: w + C of k - d - q×p, which is never cut at 0 (theory/Response.antt, response-whole)
 unfoldable pub instanceResponse : List Frame → Frame → List Choice → ℕ → ℕ
@@ -155,18 +155,18 @@ scenarioResponse fs k cs = elim (busyWindow fs k cs) [ At l ↦ responseTime fs 
 
 -- ---- the bounds
 
--- the greatest response over the scenarios in which the nodes that `fixes` names take each of their alignments
+-- the greatest response over the scenarios in which the groups that `fixes` names take each of their alignments
 unfoldable pub boundOf : List Frame → Frame → (ℕ → Bool) → ℕ
 boundOf fs k fixes = greatest (scenarioResponse fs k) (scenarios fs k fixes)
 
 -- "Exact bound": the greatest response over all scenarios and q
 abbrev pub preciseBound : List Frame → Frame → ℕ
-preciseBound fs k = boundOf fs k everyNode
+preciseBound fs k = boundOf fs k everyGroup
 
--- "Rough bound": k's own node takes each of its alignments in turn, every other node stands at `Any`
+-- "Rough bound": k's own group takes each of its alignments in turn, every other group stands at `Any`
 abbrev pub approximateBound : List Frame → Frame → ℕ
-approximateBound fs k = boundOf fs k (ownNode k)
+approximateBound fs k = boundOf fs k (ownGroup k)
 
--- "Scenario count": the product of the nodes' numbers of alignments, empty ones counting 1
+-- "Scenario count": the product of the groups' numbers of alignments, empty ones counting 1
 unfoldable pub scenarioCount : List Frame → Frame → ℕ
-scenarioCount fs k = product (λ j. length (orEmpty (alignments fs k j))) (range 1 nodes)
+scenarioCount fs k = product (λ j. length (orEmpty (alignments fs k j))) (range 1 groups)

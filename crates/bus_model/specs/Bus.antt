@@ -1,5 +1,5 @@
 -- The bus rule: what a schedule is, and what it means that a frame meets its claim (document 01, "The bus rule").
--- `starts j` is when node j starts; `sent i` is how many instances of row i have started, older ones first.
+-- `starts j` is when group j starts; `sent i` is how many instances of row i have started, older ones first.
 use Prim.Native.Nat.{ℕ, suc, _+_, _≤_, _<_}
 use mathlib.Core.Path.{_≡_}
 use mathlib.Core.List.{List, [], _∷_, List·Memᴰ as Mem}

@@ -7,7 +7,7 @@ use Rattle.bus_model.specs.declared.Frame.{Frame}
 
 -- what stands in no row
 abbrev pub noFrame : Frame
-noFrame = record { node = 0; priority = 0; length = 0; period = 0; offset = 0 }
+noFrame = record { group = 0; priority = 0; length = 0; period = 0; offset = 0 }
 
 -- the frame in row i
 abbrev pub row : List Frame → ℕ → Frame

@@ -10,7 +10,7 @@ use lib.IntN.{ℤ, pos, _-ℤ_}
 use lib.Signed.{_<ℤ_}
 use Rattle.arith.specs.Lists.{exists}
 use Rattle.arith.specs.Least.{isNone}
-use Rattle.bus_model.specs.Bounds.{busyWindow, scenarios, ownNode, approximateBound, preciseBound, scenarioCount}
+use Rattle.bus_model.specs.Bounds.{busyWindow, scenarios, ownGroup, approximateBound, preciseBound, scenarioCount}
 use Rattle.bus_model.specs.declared.Frame.{Frame}
 use Rattle.bus_model.specs.declared.Outcome.{Outcome}
 use Rattle.bus_model.specs.declared.Outcome.the-variants.{CertifiedApproximate, CertifiedPrecise, ClaimTooSmall, Undecided, NoWindow}
@@ -20,9 +20,9 @@ use Rattle.bus_model.specs.declared.Judgement.{Judgement}
 unfoldable pub scenarioLimit : ℕ
 scenarioLimit = 65536
 
--- "no window": for some alignment of k's node no l up to the limit serves the rough bound
+-- "no window": for some alignment of k's group no l up to the limit serves the rough bound
 unfoldable pub lacksWindow : List Frame → Frame → Bool
-lacksWindow fs k = exists (λ cs. isNone (busyWindow fs k cs)) (scenarios fs k (ownNode k))
+lacksWindow fs k = exists (λ cs. isNone (busyWindow fs k cs)) (scenarios fs k (ownGroup k))
 
 -- "the scenario count exceeds 65536"
 unfoldable pub tooManyScenarios : List Frame → Frame → Bool

@@ -1,4 +1,5 @@
--- The pattern in which a node's frames are released (document 01, "The table": "Pattern").
+-- The pattern in which a group's frames are released (document 01, "The table": "Pattern"). What document 01 says of a node there, and
+-- of its start, its alignments and its sums, is said of a group of nodes that start together (document 02, request 6).
 -- It repeats after each hyperperiod.
 use Prim.Native.Nat.{ℕ, _/_}
 use mathlib.Core.List.{List}
@@ -7,9 +8,9 @@ use Rattle.arith.specs.Lists.{sum, keep}
 use Rattle.arith.specs.Multiples.{lcmOf}
 use Rattle.bus_model.specs.declared.Frame.{Frame}
 
--- the frames of node j
-unfoldable pub ofNode : List Frame → ℕ → List Frame
-ofNode fs j = keep (λ g. eqb (g .node) j) fs
+-- the frames of group j
+unfoldable pub ofGroup : List Frame → ℕ → List Frame
+ofGroup fs j = keep (λ g. eqb (g .group) j) fs
 
 -- "hyperperiod": the least common multiple of the frames' periods
 unfoldable pub hyperperiod : List Frame → ℕ

@@ -11,8 +11,8 @@ use Rattle.bus_model.specs.declared.Frame.{Frame}
 pub record ValidFrame (g : Frame) : Type 0 where
   pub period : 1 ≤ g .period
   pub length : 1 ≤ g .length
-  pub node-low : 1 ≤ g .node
-  pub node-high : g .node ≤ 16
+  pub group-low : 1 ≤ g .group
+  pub group-high : g .group ≤ 16
   pub offset : g .offset < g .period
 
 -- a table: every frame is valid, and no two rows have the same priority

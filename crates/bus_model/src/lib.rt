@@ -2,7 +2,8 @@
 
 // A frame of the table, by the numbers that the bus rule and the bounds read.
 pub struct Frame {
-    pub node: u32,
+    // Nodes that start together are a group; which of its nodes sends the frame plays no part.
+    pub group: u32,
     // Document 01's "rank": the smaller number goes first.
     pub priority: u64,
     // "Largest length", C: in ticks, with the space between frames.
@@ -13,7 +14,7 @@ pub struct Frame {
     pub offset: u32,
 }
 
-// A node's part in a scenario: one of its alignments, or whichever gives the greatest sum, chosen anew
+// A group's part in a scenario: one of its alignments, or whichever gives the greatest sum, chosen anew
 // at each tick.
 pub enum Choice {
     Fixed(u32),

@@ -26,7 +26,7 @@ ghost use Rattle.delay_search.specs.Load.{loadOf, holds, laidHolds, shif
 // The longest busy window that is looked for.
 pub const WINDOW_LIMIT: u32 = 1_000_000;
 
-// The load of x: of a busy window of length x, or, where `delay` is set, of a start at x. The greatest works of nodes left open are
+// The load of x: of a busy window of length x, or, where `delay` is set, of a start at x. The greatest works of groups left open are
 // kept from one to the next.
 pub fn load(
     frames: &[u32],
@@ -42,7 +42,7 @@ pub fn load(
     sums: &mut [u64],
 ) -> u64
     requires { ⌜ Ready (stored (now frames)) k (now members) (now counts) (now ends) (now sums) ⌝ }
-    requires { ⌜ (T delay → choiceOf choices (k .node) ≡ Fixed own) × (base ≤ 1000000000) × (x ≤ 1000000) ⌝ }
+    requires { ⌜ (T delay → choiceOf choices (k .group) ≡ Fixed own) × (base ≤ 1000000000) × (x ≤ 1000000) ⌝ }
     ensures { λ r. ⌜ r ≡ loadOf (stored (now (frames .entry))) k choices delay base x ⌝ }
     ensures kept { λ _. ⌜ Ready (stored (now (frames .entry))) k (now (members .entry)) (now (counts .entry)) (now (ends .entry)) (now (sums .exit)) ⌝ }
 {
@@ -123,7 +123,7 @@ pub fn settle(
     sums: &mut [u64],
 ) -> Found
     requires { ⌜ Ready (stored (now frames)) k (now members) (now counts) (now ends) (now sums) ⌝ }
-    requires { ⌜ (T delay → choiceOf choices (k .node) ≡ Fixed own) × (base ≤ 1000000000) × (end ≤ 1000001) ⌝ }
+    requires { ⌜ (T delay → choiceOf choices (k .group) ≡ Fixed own) × (base ≤ 1000000000) × (end ≤ 1000001) ⌝ }
     ensures { λ r. ⌜ r ≡ least (holds (stored (now (frames .entry))) k choices delay base) (end - from) from ⌝ }
     ensures kept { λ _. ⌜ Ready (stored (now (frames .entry))) k (now (members .entry)) (now (counts .entry)) (now (ends .entry)) (now (sums .exit)) ⌝ }
 {

@@ -69,7 +69,7 @@ fn served_at(
     sums: &mut [u64],
 ) -> Served
     requires { ⌜ Ready (stored (now frames)) k (now members) (now counts) (now ends) (now sums) ⌝ }
-    requires { ⌜ (choiceOf choices (k .node) ≡ Fixed own) × (base ≤ 1000000000) × (latest ≤ 1000000) ⌝ }
+    requires { ⌜ (choiceOf choices (k .group) ≡ Fixed own) × (base ≤ 1000000000) × (latest ≤ 1000000) ⌝ }
     ensures { λ r. ⌜ Serves (stored (now (frames .entry))) k choices base latest (r .start) (r .count) ⌝ }
     ensures small { λ r. ⌜ r .count ≤ 1000001 ⌝ }
     ensures kept { λ _. ⌜ Ready (stored (now (frames .entry))) k (now (members .entry)) (now (counts .entry)) (now (ends .entry)) (now (sums .exit)) ⌝ }
@@ -125,7 +125,7 @@ fn climb_above(laid: &[u32], length: u32, base: u64, from: u32, latest: u32) -> 
     Served { start: 0, count: 0 }
 }
 
-// A start by `latest`, as far as some that are tried tell. Where a node is open, the work of the frames laid out is tried before
+// A start by `latest`, as far as some that are tried tell. Where a group is open, the work of the frames laid out is tried before
 // the loads themselves, for which all alignments are visited.
 fn served_tried(
     frames: &[u32],
@@ -143,7 +143,7 @@ fn served_tried(
     sums: &mut [u64],
 ) -> Served
     requires { ⌜ Ready (stored (now frames)) k (now members) (now counts) (now ends) (now sums) ⌝ }
-    requires { ⌜ (choiceOf choices (k .node) ≡ Fixed own) × (base ≤ 1000000000) × (latest ≤ 1000000) ⌝ }
+    requires { ⌜ (choiceOf choices (k .group) ≡ Fixed own) × (base ≤ 1000000000) × (latest ≤ 1000000) ⌝ }
     requires { ⌜ stored (now laid) ≡ laidOut (stored (now frames)) k true choices ⌝ }
     ensures { λ r. ⌜ Serves (stored (now (frames .entry))) k choices base latest (r .start) (r .count) ⌝ }
     ensures small { λ r. ⌜ r .count ≤ 1000001 ⌝ }
@@ -190,7 +190,7 @@ fn served_late(
     sums: &mut [u64],
 ) -> Served
     requires { ⌜ Ready (stored (now frames)) k (now members) (now counts) (now ends) (now sums) ⌝ }
-    requires { ⌜ (choiceOf choices (k .node) ≡ Fixed own) × (base ≤ 1000000000) × (latest ≤ 1000000) ⌝ }
+    requires { ⌜ (choiceOf choices (k .group) ≡ Fixed own) × (base ≤ 1000000000) × (latest ≤ 1000000) ⌝ }
     ensures { λ r. ⌜ Serves (stored (now (frames .entry))) k choices base latest (r .start) (r .count) ⌝ }
     ensures small { λ r. ⌜ r .count ≤ 1000001 ⌝ }
     ensures kept { λ _. ⌜ Ready (stored (now (frames .entry))) k (now (members .entry)) (now (counts .entry)) (now (ends .entry)) (now (sums .exit)) ⌝ }
@@ -244,7 +244,7 @@ fn served_by(
     sums: &mut [u64],
 ) -> Served
     requires { ⌜ Ready (stored (now frames)) k (now members) (now counts) (now ends) (now sums) ⌝ }
-    requires { ⌜ (choiceOf choices (k .node) ≡ Fixed own) × (base ≤ 1000000000) × (latest ≤ 1000000) ⌝ }
+    requires { ⌜ (choiceOf choices (k .group) ≡ Fixed own) × (base ≤ 1000000000) × (latest ≤ 1000000) ⌝ }
     requires { ⌜ stored (now laid) ≡ laidOut (stored (now frames)) k true choices ⌝ }
     ensures { λ r. ⌜ Serves (stored (now (frames .entry))) k choices base latest (r .start) (r .count) ⌝ }
     ensures small { λ r. ⌜ r .count ≤ 1000001 ⌝ }
@@ -317,7 +317,7 @@ pub fn served_instance(
     sums: &mut [u64],
 ) -> Passed
     requires { ⌜ Ready (stored (now frames)) k (now members) (now counts) (now ends) (now sums) ⌝ }
-    requires { ⌜ (choiceOf choices (k .node) ≡ Fixed own) × (blocked ≡ blocking (stored (now frames)) k) × (d ≡ distance k own) ⌝ }
+    requires { ⌜ (choiceOf choices (k .group) ≡ Fixed own) × (blocked ≡ blocking (stored (now frames)) k) × (d ≡ distance k own) ⌝ }
     requires { ⌜ (blocked + q * k .length ≤ 1000000000) × (d + q * k .period < 1000000) ⌝ }
     requires { ⌜ stored (now laid) ≡ laidOut (stored (now frames)) k true choices ⌝ }
     ensures { λ r. ⌜ ((i : ℕ) → i < r .count → InTime (stored (now (frames .entry))) k choices own most (q + i)) ⌝ }

@@ -1,4 +1,4 @@
-// The greatest work that a node's alignments give, kept in stairs, and guesses of the alignment that gives it.
+// The greatest work that a group's alignments give, kept in stairs, and guesses of the alignment that gives it.
 mod guesses;
 mod kept;
 mod stairs;

@@ -1,5 +1,5 @@
-// The memory of greatest works. A node's greatest work rises in stairs: where two lengths have the same, so has each between them. A
-// number holds a stair as far as it is known: the node, its first and last length that were asked for, and the work.
+// The memory of greatest works. A group's greatest work rises in stairs: where two lengths have the same, so has each between them. A
+// number holds a stair as far as it is known: the group, its first and last length that were asked for, and the work.
 use arith::Found;
 ghost use mathlib.Core.Path.{_≡_};
 ghost use Prim.Native.Nat.{ℕ, _≤_, _<_, min, max};
@@ -7,7 +7,7 @@ ghost use lib.ListN.{length};
 ghost use Rattle.arith.specs.declared.Found.the-variants.{At};
 ghost use Rattle.greatest_work.specs.Kept.{packed, isOn, isOf, widened, Told, KeptWith};
 
-// So many numbers are kept: stairs, and an alignment for each node.
+// So many numbers are kept: stairs, and an alignment for each group.
 pub const SUMS: usize = 2064;
 
 // There the alignments start.
@@ -19,12 +19,12 @@ const WAYS: usize = 4;
 // and so many places there are.
 const SETS: usize = 512;
 
-// So many of them a node has for each of its frames: those of all nodes, 64 frames at the most, are just these.
+// So many of them a group has for each of its frames: those of all groups, 64 frames at the most, are just these.
 const FRAME_SETS: usize = 8;
 
 const UNIT: u64 = 1_048_576;
 
-// The place for a length of a node, whose frames are `count`, behind those of the nodes before it: the lengths below `end`, after which
+// The place for a length of a group, whose frames are `count`, behind those of the groups before it: the lengths below `end`, after which
 // they look the same, are cut into as many parts. Nothing is promised of it, since a stair says itself what it holds of.
 pub fn set_of(before: usize, count: usize, n: u32, end: u32) -> usize
     requires { ⌜ (before ≤ 1024) × (count ≤ 64) × (n ≤ 1000001) × (1 ≤ end) ⌝ }
@@ -77,7 +77,7 @@ fn widen(v: u64, n: u32) -> u64
     pack(v / UNIT / UNIT / UNIT, low, high, v % UNIT)
 }
 
-// The greatest work of node j + 1 in the first n ticks, if a stair tells it.
+// The greatest work of group j + 1 in the first n ticks, if a stair tells it.
 pub fn told(sums: &[u64], set: usize, j: usize, n: u32) -> Found
     requires { ⌜ (length (now sums) ≡ 2064) × (set < 512) ⌝ }
     ensures { λ r. ⌜ ((w : ℕ) → r ≡ At w → Told (now (sums .entry)) j n w) ⌝ }
@@ -93,7 +93,7 @@ pub fn told(sums: &[u64], set: usize, j: usize, n: u32) -> Found
     Found::Nothing
 }
 
-// The place for a stair of node j + 1 with this work: where one stands or none yet, or else the last. Lengths are asked for rising, over
+// The place for a stair of group j + 1 with this work: where one stands or none yet, or else the last. Lengths are asked for rising, over
 // and over: so the others stay, where those that were used least lately would go just before they are asked for.
 fn place_for(sums: &[u64], set: usize, j: usize, work: u64) -> usize
     requires { ⌜ (length (now sums) ≡ 2064) × (set < 512) ⌝ }
@@ -110,7 +110,7 @@ fn place_for(sums: &[u64], set: usize, j: usize, work: u64) -> usize
     WAYS * set + WAYS - 1
 }
 
-// Keeps the greatest work of node j + 1 in the first n ticks: a stair of the same work is widened, or else there is a new one.
+// Keeps the greatest work of group j + 1 in the first n ticks: a stair of the same work is widened, or else there is a new one.
 pub fn keep(sums: &mut [u64], set: usize, j: usize, n: u32, work: u64)
     requires { ⌜ (length (now sums) ≡ 2064) × (set < 512) × (j < 16) × (n < 1048576) ⌝ }
     ensures { λ _. ⌜ KeptWith j n work (now (sums .entry)) (now (sums .exit)) ⌝ }

@@ -5,7 +5,7 @@ use mathlib.Core.List.{List, [], _∷_, _++_, map}
 use Rattle.arith.specs.Lists.{sum, greatest, keep, exists, range}
 use Rattle.arith.specs.Multiples.{euclid, gcd, lcm, lcmOf}
 use Rattle.decimal.specs.Decimal.{writeColumn}
-use Rattle.bus_model.specs.Pattern.{ofNode, hyperperiod}
+use Rattle.bus_model.specs.Pattern.{ofGroup, hyperperiod}
 use Rattle.table_checks.specs.Frames.{standardLengths, priorityOf, largestLength, frameAt, framesOf}
 use Rattle.load_sheet.specs.declared.Load.{Load}
 use Rattle.load_sheet.specs.Load.{workIn, dividend, loadOf}
@@ -13,7 +13,7 @@ use Rattle.load_sheet.specs.Sheet.{hasFrames, nodesOf, nodeLoad, nodeLin
 
 -- what computing a sheet unfolds
 unfoldable everything : ℕ
-unfolding sum greatest keep exists range euclid gcd lcm lcmOf writeColumn ofNode hyperperiod priorityOf largestLength frameAt framesOf workIn dividend loadOf hasFrames nodesOf nodeLoad nodeLine linesOf lastLine greatestQuotient sheetWith sheetOf
+unfolding sum greatest keep exists range euclid gcd lcm lcmOf writeColumn ofGroup hyperperiod priorityOf largestLength frameAt framesOf workIn dividend loadOf hasFrames nodesOf nodeLoad nodeLine linesOf lastLine greatestQuotient sheetWith sheetOf
 everything = 0
 
 load : ℕ → ℕ → ℕ → Load

@@ -7,8 +7,8 @@ use lib.ListN.{length}
 use Rattle.arith.specs.Lists.{greatest, keep, exists, range}
 use Rattle.decimal.specs.Decimal.{writeColumn}
 use Rattle.bus_model.specs.declared.Frame.{Frame}
-use Rattle.bus_model.specs.Pattern.{ofNode}
-use Rattle.bus_model.specs.Bounds.{nodes}
+use Rattle.bus_model.specs.Pattern.{ofGroup}
+use Rattle.bus_model.specs.Bounds.{groups}
 use Rattle.table_checks.specs.Frames.{framesOf}
 use Rattle.load_sheet.specs.declared.Load.{Load}
 use Rattle.load_sheet.specs.Load.{loadOf}
@@ -17,15 +17,15 @@ use Rattle.load_sheet.specs.Load.{loadOf}
 
 -- whether node j has frames
 unfoldable pub hasFrames : List Frame → ℕ → Bool
-hasFrames fs j = exists (λ g. eqb (g .node) j) fs
+hasFrames fs j = exists (λ g. eqb (g .group) j) fs
 
 -- the nodes that have frames, rising
 unfoldable pub nodesOf : List Frame → List ℕ
-nodesOf fs = keep (hasFrames fs) (range 1 nodes)
+nodesOf fs = keep (hasFrames fs) (range 1 groups)
 
 -- the load of node j
 unfoldable pub nodeLoad : List Frame → ℕ → Load
-nodeLoad fs j = loadOf (ofNode fs j)
+nodeLoad fs j = loadOf (ofGroup fs j)
 
 -- ---- lines
 

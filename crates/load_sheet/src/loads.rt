@@ -6,7 +6,7 @@ ghost use mathlib.Core.Path.{_≡_};
 ghost use mathlib.Core.Bool.{cond};
 ghost use Prim.Native.Nat.{_*_, _/_, _≤_};
 ghost use lib.Dec.{eqb};
-ghost use Rattle.bus_model.specs.Pattern.{ofNode};
+ghost use Rattle.bus_model.specs.Pattern.{ofGroup};
 ghost use Rattle.table_checks.specs.Frames.{framesOf};
 ghost use Rattle.table_checks.specs.Checks.{Loadable, Accepted};
 ghost use Rattle.load_sheet.specs.Load.{workIn};
@@ -19,7 +19,7 @@ pub fn has_frames(lengths: [[u32; 9]; 2], rows: &[u32], node: u32) -> bool
     let mut i = 0;
     while i < rows.len() / ROW {
         let g = table_checks::frame(lengths, rows, i);
-        if g.node == node {
+        if g.group == node {
             return true;
         }
         i += 1;
@@ -30,10 +30,10 @@ pub fn has_frames(lengths: [[u32; 9]; 2], rows: &[u32], node: u32) -> bool
 // The work of a frame in h ticks, where it is the node's.
 fn frame_work(h: u64, node: u32, g: Frame) -> u64
     requires { ⌜ (h ≤ 1000000) × (1 ≤ g .period) × (g .length ≤ 400) ⌝ }
-    ensures { λ r. ⌜ r ≡ cond (eqb (g .node) node) (g .length * (h / g .period)) 0 ⌝ }
+    ensures { λ r. ⌜ r ≡ cond (eqb (g .group) node) (g .length * (h / g .period)) 0 ⌝ }
     ensures small { λ r. ⌜ r ≤ 400000000 ⌝ }
 {
-    if g.node == node {
+    if g.group == node {
         g.length as u64 * (h / g.period as u64)
     } else {
         0
@@ -44,7 +44,7 @@ fn frame_work(h: u64, node: u32, g: Frame) -> u64
 fn work(lengths: [[u32; 9]; 2], rows: &[u32], node: u32, h: u64) -> u64
     requires { ⌜ Loadable lengths × Accepted (now rows) ⌝ }
     requires { ⌜ h ≤ 1000000 ⌝ }
-    ensures { λ r. ⌜ r ≡ workIn h (ofNode (framesOf lengths (now (rows .entry))) node) ⌝ }
+    ensures { λ r. ⌜ r ≡ workIn h (ofGroup (framesOf lengths (now (rows .entry))) node) ⌝ }
     ensures small { λ r. ⌜ r ≤ 400000000 * 64 ⌝ }
 {
     let mut sum = 0;

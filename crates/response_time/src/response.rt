@@ -56,7 +56,7 @@ fn greatest_response(
     sums: &mut [u64],
 ) -> u32
     requires { ⌜ Ready (stored (now frames)) k (now members) (now counts) (now ends) (now sums) ⌝ }
-    requires { ⌜ (choiceOf choices (k .node) ≡ Fixed own) × (blocked ≡ blocking (stored (now frames)) k) × (busyWindow (stored (now frames)) k choices ≡ At l) ⌝ }
+    requires { ⌜ (choiceOf choices (k .group) ≡ Fixed own) × (blocked ≡ blocking (stored (now frames)) k) × (busyWindow (stored (now frames)) k choices ≡ At l) ⌝ }
     ensures { λ r. ⌜ r ≡ max most (responseTime (stored (now (frames .entry))) k choices l) ⌝ }
     ensures kept { λ _. ⌜ Ready (stored (now (frames .entry))) k (now (members .entry)) (now (counts .entry)) (now (ends .entry)) (now (sums .exit)) ⌝ }
 {
@@ -147,7 +147,7 @@ pub fn busy_window(
     )
 }
 
-// The greater of `most` and the response of a scenario in which k's node has alignment `own`, where it has a busy window.
+// The greater of `most` and the response of a scenario in which k's group has alignment `own`, where it has a busy window.
 fn scenario_response(
     frames: &[u32],
     members: &[u8],
@@ -162,7 +162,7 @@ fn scenario_response(
     sums: &mut [u64],
 ) -> Found
     requires { ⌜ Ready (stored (now frames)) k (now members) (now counts) (now ends) (now sums) ⌝ }
-    requires { ⌜ (choiceOf choices (k .node) ≡ Fixed own) × (blocked ≡ blocking (stored (now frames)) k) ⌝ }
+    requires { ⌜ (choiceOf choices (k .group) ≡ Fixed own) × (blocked ≡ blocking (stored (now frames)) k) ⌝ }
     ensures { λ r. ⌜ r ≡ both (At most) (scenarioFound (stored (now (frames .entry))) k choices) ⌝ }
     ensures kept { λ _. ⌜ Ready (stored (now (frames .entry))) k (now (members .entry)) (now (counts .entry)) (now (ends .entry)) (now (sums .exit)) ⌝ }
 {
@@ -203,7 +203,7 @@ fn is_limited(
     sums: &mut [u64],
 ) -> bool
     requires { ⌜ Ready (stored (now frames)) k (now members) (now counts) (now ends) (now sums) ⌝ }
-    requires { ⌜ (choiceOf choices (k .node) ≡ Fixed own) × (blocked ≡ blocking (stored (now frames)) k) ⌝ }
+    requires { ⌜ (choiceOf choices (k .group) ≡ Fixed own) × (blocked ≡ blocking (stored (now frames)) k) ⌝ }
     requires { ⌜ ((l : ℕ) → limit ≡ At l → (l ≤ 1000000) × WindowWithin (stored (now frames)) k choices l) ⌝ }
     requires { ⌜ Left (stored (now frames)) k choices own most (known .list) (known .count) (known .end) ⌝ }
     ensures { λ r. ⌜ (T r → At most ≡ both (At most) (scenarioFound (stored (now (frames .entry))) k choices)) ⌝ }
@@ -230,7 +230,7 @@ fn is_limited(
 }
 
 // The greater of `most` and the scenario's response, where it has a busy window; `limit`, if there is one, is not below that.
-// `open` tells that some node stands at `Any`, and `known` which instances are left.
+// `open` tells that some group stands at `Any`, and `known` which instances are left.
 pub fn raised(
     frames: &[u32],
     members: &[u8],
@@ -247,7 +247,7 @@ pub fn raised(
     sums: &mut [u64],
 ) -> Found
     requires { ⌜ Ready (stored (now frames)) k (now members) (now counts) (now ends) (now sums) ⌝ }
-    requires { ⌜ (choiceOf choices (k .node) ≡ Fixed own) × (blocked ≡ blocking (stored (now frames)) k) ⌝ }
+    requires { ⌜ (choiceOf choices (k .group) ≡ Fixed own) × (blocked ≡ blocking (stored (now frames)) k) ⌝ }
     requires { ⌜ ((l : ℕ) → limit ≡ At l → (l ≤ 1000000) × WindowWithin (stored (now frames)) k choices l) ⌝ }
     requires { ⌜ Left (stored (now frames)) k choices own most (known .list) (known .count) (known .end) ⌝ }
     ensures { λ r. ⌜ r ≡ both (At most) (scenarioFound (stored (now (frames .entry))) k choices) ⌝ }

@@ -1,4 +1,4 @@
-// Which instances of a scenario no start is found for that leaves them a response of `most` at the most. Where more nodes are fixed, a start
+// Which instances of a scenario no start is found for that leaves them a response of `most` at the most. Where more groups are fixed, a start
 // that serves still does: only those that are left need be looked at there.
 use arith::greater;
 use bus_model::Choice;
@@ -127,7 +127,7 @@ pub fn sweep(
     sums: &mut [u64],
 ) -> Unserved
     requires { ⌜ Ready (stored (now frames)) k (now members) (now counts) (now ends) (now sums) ⌝ }
-    requires { ⌜ (choiceOf choices (k .node) ≡ Fixed own) × (blocked ≡ blocking (stored (now frames)) k) ⌝ }
+    requires { ⌜ (choiceOf choices (k .group) ≡ Fixed own) × (blocked ≡ blocking (stored (now frames)) k) ⌝ }
     requires { ⌜ (limit ≤ 1000000) × WindowWithin (stored (now frames)) k choices limit ⌝ }
     requires { ⌜ (room ≤ 64) × Left (stored (now frames)) k choices own most (known .list) (known .count) (known .end) ⌝ }
     ensures { λ r. ⌜ Left (stored (now (frames .entry))) k choices own most (r .list) (r .count) (r .end) ⌝ }
@@ -199,7 +199,7 @@ pub fn is_within(
     sums: &mut [u64],
 ) -> bool
     requires { ⌜ Ready (stored (now frames)) k (now members) (now counts) (now ends) (now sums) ⌝ }
-    requires { ⌜ (choiceOf choices (k .node) ≡ Fixed own) × (blocked ≡ blocking (stored (now frames)) k) ⌝ }
+    requires { ⌜ (choiceOf choices (k .group) ≡ Fixed own) × (blocked ≡ blocking (stored (now frames)) k) ⌝ }
     requires { ⌜ (limit ≤ 1000000) × WindowWithin (stored (now frames)) k choices limit ⌝ }
     requires { ⌜ Left (stored (now frames)) k choices own most (known .list) (known .count) (known .end) ⌝ }
     ensures { λ r. ⌜ (T r → scenarioResponse (stored (now (frames .entry))) k choices ≤ most) ⌝ }

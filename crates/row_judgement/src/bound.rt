@@ -16,7 +16,7 @@ ghost use Rattle.table_checks.specs.Checks.{Loadable, Accepted};
 ghost use Rattle.table_checks.specs.Returns.{loadedReturns};
 ghost use Rattle.workload.specs.Stored.{stored};
 ghost use Rattle.delay_search.specs.Ready.{Ready};
-ghost use Rattle.workload.specs.Grouped.{FineTable};
+ghost use Rattle.workload.specs.ByGroup.{FineTable};
 ghost use Rattle.row_judgement.specs.Judge.{boundFrame, boundRow};
 ghost use Rattle.row_judgement.specs.Returns.{boundedReturns, boundReturns};
 
@@ -69,14 +69,14 @@ fn bound_among(frames: &[u32], k: Frame, i: usize) -> Bounded
     ensures { λ r. ⌜ r ≡ boundFrame (stored (now (frames .entry))) i ⌝ }
 {
     let mut members = [0u8; workload::MEMBERS];
-    let mut counts = [0usize; workload::NODES];
-    let mut ends = [0u32; workload::NODES];
+    let mut counts = [0usize; workload::GROUPS];
+    let mut ends = [0u32; workload::GROUPS];
     let mut sums = [0u64; greatest_work::SUMS];
-    workload::group(frames, k, &mut members, &mut counts, &mut ends);
+    workload::by_group(frames, k, &mut members, &mut counts, &mut ends);
     bound_frame(frames, &members, &counts, &ends, k, i, &mut sums)
 }
 
-// The precise bound of frame k in row i, whose frames ahead are grouped.
+// The precise bound of frame k in row i, whose frames ahead stand by group.
 fn bound_frame(
     frames: &[u32],
     members: &[u8],

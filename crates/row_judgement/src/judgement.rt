@@ -23,7 +23,7 @@ ghost use Rattle.table_checks.specs.Checks.{Loadable, Accepted};
 ghost use Rattle.table_checks.specs.Returns.{loadedReturns};
 ghost use Rattle.workload.specs.Stored.{stored};
 ghost use Rattle.delay_search.specs.Ready.{Ready};
-ghost use Rattle.workload.specs.Grouped.{FineTable, InTable};
+ghost use Rattle.workload.specs.ByGroup.{FineTable, InTable};
 ghost use Rattle.row_judgement.specs.declared.Judged.the-variants.{Verdict};
 ghost use Rattle.row_judgement.specs.Judge.{claimOf, judgeRow, certified};
 ghost use Rattle.row_judgement.specs.Returns.{judgedReturns, judgeReturns};
@@ -81,14 +81,14 @@ fn judge_among(frames: &[u32], k: Frame, claim: u32) -> Judgement
     ensures { λ r. ⌜ r ≡ judge (stored (now (frames .entry))) k claim ⌝ }
 {
     let mut members = [0u8; workload::MEMBERS];
-    let mut counts = [0usize; workload::NODES];
-    let mut ends = [0u32; workload::NODES];
+    let mut counts = [0usize; workload::GROUPS];
+    let mut ends = [0u32; workload::GROUPS];
     let mut sums = [0u64; greatest_work::SUMS];
-    workload::group(frames, k, &mut members, &mut counts, &mut ends);
+    workload::by_group(frames, k, &mut members, &mut counts, &mut ends);
     judge_frame(frames, &members, &counts, &ends, k, claim, &mut sums)
 }
 
-// The judgement of frame k, whose frames ahead are grouped.
+// The judgement of frame k, whose frames ahead stand by group.
 fn judge_frame(
     frames: &[u32],
     members: &[u8],

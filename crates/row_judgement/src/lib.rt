@@ -16,12 +16,12 @@ pub enum Cause {
     // The checks of lengths and tables, and an output area that is too short.
     Table(table_checks::Cause),
     NoSuchRow,
-    // For some alignment of the row's node the approximate bound has no busy window.
+    // For some alignment of the row's group the approximate bound has no busy window.
     NoWindow,
     TooManyScenarios,
 }
 
-// A cause and its place: a line, a node, a row, or 0.
+// A cause and its place: a line, a group, a row, or 0.
 pub struct Refusal {
     pub cause: Cause,
     pub place: u32,

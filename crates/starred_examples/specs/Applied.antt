@@ -42,7 +42,7 @@ pub frame-64-meets : MeetsClaim (framesOf standardLengths listing) 3 200
 unfolding everything certified certifies
 frame-64-meets = judged-meets standardLengths listing 3 (rw frame-64-judged tt)
 
--- So where all nodes start at tick 0, it is finished in every schedule up to 200,
+-- So where all groups start at tick 0, it is finished in every schedule up to 200,
 pub frame-64-finished : (xs : List Transmission) → Schedule (framesOf standardLengths listing) (λ j. 0) 200 xs → Finished xs 3 0 200
 unfolding everything
 frame-64-finished = frame-64-due frame-64-meets

@@ -8,7 +8,7 @@ use native.Mathlib.Omega.{arith}
 use lib.IntN.{ℤ, pos, negsuc}
 use Rattle.bus_model.specs.declared.Judgement.{Judgement}
 use Rattle.bus_model.specs.Frame.{row}
-use Rattle.bus_model.specs.Pattern.{ofNode, patternReleases}
+use Rattle.bus_model.specs.Pattern.{ofGroup, patternReleases}
 use Rattle.bus_model.specs.Bounds.{approximateBound, preciseBound, scenarioCount}
 use Rattle.bus_model.specs.Judgement.{tooManyScenarios, judge, verdict}
 use Rattle.bus_model.specs.theory.Overload.{overloaded-judged}
@@ -34,21 +34,21 @@ listing =
 abbrev pub alone : ℕ → List ℕ
 alone p = 1 ∷ 0 ∷ 11 ∷ 8 ∷ p ∷ 0 ∷ 135 ∷ []
 
--- two frames of a node, of periods 1 and p
+-- two frames of a group, of periods 1 and p
 abbrev pub dense : ℕ → List ℕ
 dense p = 1 ∷ 0 ∷ 11 ∷ 0 ∷ 1 ∷ 0 ∷ 1000 ∷ 1 ∷ 1 ∷ 11 ∷ 0 ∷ p ∷ 0 ∷ 1000 ∷ []
 
--- frames of node j that are released at 256 instants of a hyperperiod of 510: every second one, and instant 1
+-- frames of group j that are released at 256 instants of a hyperperiod of 510: every second one, and instant 1
 abbrev pub crowd : ℕ → List ℕ → List ℕ
 crowd j rest = j ∷ (2 * j) ∷ 11 ∷ 0 ∷ 2 ∷ 0 ∷ 1000 ∷ j ∷ (2 * j + 1) ∷ 11 ∷ 0 ∷ 510 ∷ 1 ∷ 1000 ∷ rest
 
--- frames of node j that are released at 2 instants
+-- frames of group j that are released at 2 instants
 abbrev pub pair : ℕ → List ℕ → List ℕ
 pair j rest = j ∷ (2 * j) ∷ 11 ∷ 0 ∷ 10 ∷ 0 ∷ 1000 ∷ j ∷ (2 * j + 1) ∷ 11 ∷ 0 ∷ 10 ∷ 5 ∷ 1000 ∷ rest
 
 -- ---- the cases
 
--- a statement about a table, row i of it, or node j of it
+-- a statement about a table, row i of it, or group j of it
 pub data Case : Type 0 where
   approximate : (rows : List ℕ) (i bound : ℕ) → Case
   precise : (rows : List ℕ) (i bound : ℕ) → Case
@@ -72,7 +72,7 @@ Holds (approximate rows i b) = approximateBound (framesOf standardLengths rows) 
 Holds (precise rows i b) = preciseBound (framesOf standardLengths rows) (row (framesOf standardLengths rows) i) ≡ b
 Holds (judged rows i claim v b m) = numbers (judge (framesOf standardLengths rows) (row (framesOf standardLengths rows) i) claim) ≡ record { number = v; bound = b; margin = m }
 Holds (count rows i n many) = (scenarioCount (framesOf standardLengths rows) (row (framesOf standardLengths rows) i) ≡ n) × (tooManyScenarios (framesOf standardLengths rows) (row (framesOf standardLengths rows) i) ≡ many)
-Holds (releases rows j n) = patternReleases (ofNode (framesOf standardLengths rows) j) ≡ n
+Holds (releases rows j n) = patternReleases (ofGroup (framesOf standardLengths rows) j) ≡ n
 Holds (checked rows n p) = checkReturns (rowsCheck rows) ≡ record { number = n; place = p }
 
 unfoldable pub AllHold : List Case → Type 0
@@ -80,7 +80,7 @@ AllHold [] = Unit {0}
 AllHold (c ∷ cs) = Holds c × AllHold cs
 
 -- frame 64 and its claims; frames 16, 32 and 48; one frame of period 135 and of period 134; periods 1 and 255, 1 and 256 in a
--- node; nodes with 256 and 256 alignments, and with 256, 256 and 2
+-- group; groups with 256 and 256 alignments, and with 256, 256 and 2
 unfoldable pub cases : List Case
 cases =
     approximate listing 3 255

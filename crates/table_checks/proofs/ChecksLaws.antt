@@ -1,4 +1,4 @@
--- A node's hyperperiod and its releases, as the loops over the rows find them.
+-- A group's hyperperiod and its releases, as the loops over the rows find them.
 use Prim.Native.Nat.{ℕ, min, _+_, _-_, _/_, _≤_, _<_}
 use mathlib.Core.Path.{_≡_, refl, sym, ap, subst, _∙_}
 use mathlib.Core.Bool.{Bool, true, false, cond}
@@ -14,14 +14,14 @@ use Rattle.arith.specs.laws.Sums.{sum-keep}
 use Rattle.arith.specs.laws.Walks.{Down, down-start, down-more, down-end}
 use Rattle.bus_model.specs.declared.Frame.{Frame}
 use Rattle.bus_model.specs.Frame.{noFrame, row}
-use Rattle.bus_model.specs.Pattern.{ofNode, hyperperiod, patternReleases}
+use Rattle.bus_model.specs.Pattern.{ofGroup, hyperperiod, patternReleases}
 use Rattle.bus_model.specs.theory.Hyperperiod.{hyperOf, joinOf, hyper-more, hyper-le}
 use Rattle.table_checks.specs.declared.Cause.the-variants.{Hyperperiod, Releases}
 use Rattle.table_checks.specs.declared.Checked.the-variants.{Passed}
 use Rattle.table_checks.specs.Columns.{field, columns, periodColumn, nodeColumn}
 use Rattle.table_checks.specs.Frames.{frameAt, unmeasured}
 use Rattle.table_checks.specs.Refusal.{failed}
-use Rattle.table_checks.specs.Checks.{nodeCheck}
+use Rattle.table_checks.specs.Checks.{groupCheck}
 use Rattle.table_checks.specs.Steps.{Periods}
 use Rattle.table_checks.specs.laws.Accepted.{length-frames, frame-row}
 
@@ -48,7 +48,7 @@ module _ {B : Type 0} (F : List Frame → B) (t : List ℕ) where
 module _ (t : List ℕ) (j : ℕ) where
   -- The loop starts at 1.
   pub hyper-start : Rows (hyperOf j) t 1 (length t / columns)
-  unfolding hyperperiod lcmOf ofNode keep
+  unfolding hyperperiod lcmOf ofGroup keep
   hyper-start = rows-none (hyperOf j) t refl
 
   module _ (periods : Periods t) where
@@ -72,18 +72,18 @@ module _ (t : List ℕ) (j : ℕ) where
 -- ---- the releases in a hyperperiod of h ticks
 
 abbrev pub releasesOf : ℕ → ℕ → List Frame → ℕ
-releasesOf h j gs = sum (λ g. h / g .period) (ofNode gs j)
+releasesOf h j gs = sum (λ g. h / g .period) (ofGroup gs j)
 
 -- of a frame
 abbrev shareOf : ℕ → ℕ → Frame → ℕ
-shareOf h j g = cond (eqb (g .node) j) (h / g .period) 0
+shareOf h j g = cond (eqb (g .group) j) (h / g .period) 0
 
 releases-cons : (h j : ℕ) (g : Frame) (gs : List Frame) → releasesOf h j (g ∷ gs) ≡ shareOf h j g + releasesOf h j gs
-unfolding ofNode sum
+unfolding ofGroup sum
 releases-cons h j g gs = sum-keep _ _ (g ∷ gs) ∙ ap (λ (s : ℕ). shareOf h j g + s) (sym (sum-keep _ _ gs))
 
 share-le : (h j : ℕ) (g : Frame) → shareOf h j g ≤ h
-share-le h j g = go (eqb (g .node) j)
+share-le h j g = go (eqb (g .group) j)
   where
     go : (b : Bool) → cond b (h / g .period) 0 ≤ h
     go true = div-le-self h (g .period)
@@ -92,7 +92,7 @@ share-le h j g = go (eqb (g .node) j)
 module _ (t : List ℕ) (h j : ℕ) where
   -- The loop starts at 0.
   pub releases-none : Rows (releasesOf h j) t 0 (length t / columns)
-  unfolding sum ofNode keep
+  unfolding sum ofGroup keep
   releases-none = rows-none (releasesOf h j) t refl
 
   -- It takes one row more, whose releases are at most h.
@@ -108,30 +108,30 @@ module _ (t : List ℕ) (h j : ℕ) where
         rw is (share-le h j (frameAt [] t (i - 1))),
       )
 
--- ---- the check of a node, by its bounded hyperperiod
+-- ---- the check of a group, by its bounded hyperperiod
 
 module _ (fs : List Frame) (j h : ℕ) (e : h ≡ min (hyperOf j fs) 1000001) where
   -- One past its limit is refused.
-  pub node-long : 1000000 < h → failed Hyperperiod j ≡ nodeCheck fs j
-  unfolding nodeCheck
-  node-long l = let k : 1000000 < hyperOf j fs = omega arith in simp (lt-ltb _ _ k)
+  pub group-long : 1000000 < h → failed Hyperperiod j ≡ groupCheck fs j
+  unfolding groupCheck
+  group-long l = let k : 1000000 < hyperOf j fs = omega arith in simp (lt-ltb _ _ k)
 
   -- One within its limit is the hyperperiod, and the releases decide.
   module _ (l : h ≤ 1000000) (q : ℕ) (p : q ≡ releasesOf h j fs) where
     whole : hyperOf j fs ≡ h
     whole = omega arith
 
-    counted : patternReleases (ofNode fs j) ≡ q
+    counted : patternReleases (ofGroup fs j) ≡ q
     unfolding patternReleases
     counted = rw whole (sym p)
 
     short : hyperOf j fs ≤ 1000000
     short = omega arith
 
-    pub node-many : 256 < q → failed Releases j ≡ nodeCheck fs j
-    unfolding nodeCheck
-    node-many k = simp (le-ltb _ _ short, counted, lt-ltb _ _ k)
+    pub group-many : 256 < q → failed Releases j ≡ groupCheck fs j
+    unfolding groupCheck
+    group-many k = simp (le-ltb _ _ short, counted, lt-ltb _ _ k)
 
-    pub node-passes : q ≤ 256 → Passed ≡ nodeCheck fs j
-    unfolding nodeCheck
-    node-passes k = simp (le-ltb _ _ short, counted, le-ltb _ _ k)
+    pub group-passes : q ≤ 256 → Passed ≡ groupCheck fs j
+    unfolding groupCheck
+    group-passes k = simp (le-ltb _ _ short, counted, le-ltb _ _ k)

@@ -8,7 +8,7 @@ use lib.ListN.{length}
 use lib.Dec.{ltb, eqb}
 use Rattle.arith.specs.Lists.{exists, range}
 use Rattle.bus_model.specs.declared.Frame.{Frame}
-use Rattle.bus_model.specs.Pattern.{ofNode, hyperperiod, patternReleases}
+use Rattle.bus_model.specs.Pattern.{ofGroup, hyperperiod, patternReleases}
 use Rattle.table_checks.specs.declared.Cause.the-variants.{FileForm, TooManyLines, Notation, Limit, Duplicate, Hyperperiod, Releases, RowsLength, Length}
 use Rattle.table_checks.specs.declared.Checked.{Checked}
 use Rattle.table_checks.specs.declared.Checked.the-variants.{Passed, Failed}
@@ -93,22 +93,22 @@ lineCheck t i = first (columnsCheck t i) (cond (standsEarlier t i) (failed Dupli
 unfoldable pub linesCheck : List ℕ → Checked
 linesCheck t = firstOf (lineCheck t) (length t / columns) 0
 
--- ---- a node
+-- ---- a group
 
--- "Pattern" of node j: 6, then 7
-unfoldable pub nodeCheck : List Frame → ℕ → Checked
-nodeCheck fs j =
-    cond (ltb 1_000_000 (hyperperiod (ofNode fs j))) (failed Hyperperiod j)
-    (cond (ltb 256 (patternReleases (ofNode fs j))) (failed Releases j) Passed)
+-- "Pattern" of group j: 6, then 7
+unfoldable pub groupCheck : List Frame → ℕ → Checked
+groupCheck fs j =
+    cond (ltb 1_000_000 (hyperperiod (ofGroup fs j))) (failed Hyperperiod j)
+    (cond (ltb 256 (patternReleases (ofGroup fs j))) (failed Releases j) Passed)
 
--- the nodes, rising
-unfoldable pub nodesCheck : List Frame → Checked
-nodesCheck fs = firstOf (nodeCheck fs) 16 1
+-- the groups, rising
+unfoldable pub groupsCheck : List Frame → Checked
+groupsCheck fs = firstOf (groupCheck fs) 16 1
 
--- ---- a table: line by line, then the nodes
+-- ---- a table: line by line, then the groups
 
 unfoldable pub tableCheck : List ℕ → Checked
-tableCheck t = first (linesCheck t) (nodesCheck (unmeasured t))
+tableCheck t = first (linesCheck t) (groupsCheck (unmeasured t))
 
 -- ---- rows in memory: their size, then the table
 

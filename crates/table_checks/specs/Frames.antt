@@ -46,7 +46,7 @@ stuffable = 34 ∷ 54 ∷ []
 unfoldable pub frameAt : List (List ℕ) → List ℕ → ℕ → Frame
 frameAt ls t i =
     record {
-      node = field t i nodeColumn;
+      group = field t i nodeColumn;
       priority = priorityOf (field t i kindColumn) (field t i identifierColumn);
       length = largestLength ls (field t i kindColumn) (field t i payloadColumn);
       period = field t i periodColumn;

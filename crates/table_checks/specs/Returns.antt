@@ -7,7 +7,7 @@ use lib.Dec.{ltb, eqb}
 use Rattle.table_checks.specs.Columns.{columns, mostLines, mostNumbers, lineLength}
 use Rattle.table_checks.specs.Frames.{unmeasured}
 use Rattle.table_checks.specs.Refusal.{Returned, returned, checkReturns}
-use Rattle.table_checks.specs.Checks.{breaksLimits, linesCheck, nodesCheck}
+use Rattle.table_checks.specs.Checks.{breaksLimits, linesCheck, groupsCheck}
 
 -- the first of two that fails
 abbrev pub firstReturned : Returned → Returned → Returned
@@ -26,10 +26,10 @@ fileSizeReturns size =
 unfoldable pub rowsSizeReturns : ℕ → Returned
 rowsSizeReturns size = cond (eqb size 0 || (not (eqb (size % columns) 0) || ltb mostNumbers size)) (returned 10 0) (returned 0 0)
 
--- rows in memory: their size, then line by line, then the nodes
+-- rows in memory: their size, then line by line, then the groups
 unfoldable pub rowsReturns : List ℕ → Returned
 rowsReturns rows =
-    firstReturned (rowsSizeReturns (length rows)) (firstReturned (checkReturns (linesCheck rows)) (checkReturns (nodesCheck (unmeasured rows))))
+    firstReturned (rowsSizeReturns (length rows)) (firstReturned (checkReturns (linesCheck rows)) (checkReturns (groupsCheck (unmeasured rows))))
 
 -- lengths and rows: the lengths first
 unfoldable pub loadedReturns : List (List ℕ) → List ℕ → Returned

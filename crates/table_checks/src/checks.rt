@@ -22,20 +22,20 @@ ghost use lib.ListN.{length};
 ghost use lib.Dec.{eqb};
 ghost use Rattle.arith.specs.Multiples.{lcm};
 ghost use Rattle.arith.specs.Lists.{sum};
-ghost use Rattle.bus_model.specs.Pattern.{ofNode, hyperperiod};
+ghost use Rattle.bus_model.specs.Pattern.{ofGroup, hyperperiod};
 ghost use Rattle.table_checks.specs.Columns.{between, isIdentifier, within, columns, mostLines, mostNumbers};
 ghost use Rattle.table_checks.specs.Frames.{unmeasured};
 ghost use Rattle.table_checks.specs.Refusal.{failed, checkReturns};
-ghost use Rattle.table_checks.specs.Checks.{fileSizeCheck, rowsSizeCheck, columnCheck, columnsCheck, isSameFrame, standsEarlier, lineCheck, linesCheck, nodeCheck, nodesCheck, tableCheck, rowsCheck};
+ghost use Rattle.table_checks.specs.Checks.{fileSizeCheck, rowsSizeCheck, columnCheck, columnsCheck, isSameFrame, standsEarlier, lineCheck, linesCheck, groupCheck, groupsCheck, tableCheck, rowsCheck};
 ghost use Rattle.table_checks.specs.Returns.{fileSizeReturns, rowsReturns};
 ghost use Rattle.table_checks.specs.Steps.{Periods};
 
-// A node's hyperperiod is at most this, and so many releases are in one.
+// A group's hyperperiod is at most this, and so many releases are in one.
 const MOST_TICKS: u64 = 1_000_000;
 
 const MOST_RELEASES: u64 = 256;
 
-const NODES: u64 = 16;
+const GROUPS: u64 = 16;
 
 pub fn fail(cause: Cause, place: u32) -> Checked
     ensures { λ r. ⌜ r ≡ failed cause place ⌝ }
@@ -209,28 +209,28 @@ fn lines(t: &[u64]) -> Checked
     Checked::Passed
 }
 
-// The least common multiple of h and the period of a frame, where it is the node's.
-fn joined(h: u64, node: u64, frame_node: u64, period: u64) -> u64
+// The least common multiple of h and the period of a frame, where it is the group's.
+fn joined(h: u64, group: u64, frame_group: u64, period: u64) -> u64
     requires { ⌜ (0 < h) × (h ≤ 1000000) × (period ≤ 1000000) ⌝ }
-    ensures { λ r. ⌜ r ≡ cond (eqb «frame_node» node) (lcm period h) h ⌝ }
+    ensures { λ r. ⌜ r ≡ cond (eqb «frame_group» group) (lcm period h) h ⌝ }
 {
-    if frame_node == node {
+    if frame_group == group {
         arith::lcm(period, h)
     } else {
         h
     }
 }
 
-// The node's hyperperiod, or 1000001 where it is greater than that.
-pub fn bounded_hyperperiod(t: &[u64], node: u64) -> u64
+// The group's hyperperiod, or 1000001 where it is greater than that.
+pub fn bounded_hyperperiod(t: &[u64], group: u64) -> u64
     requires { ⌜ Periods (now t) ⌝ }
-    ensures { λ r. ⌜ r ≡ min (hyperperiod (ofNode (unmeasured (now (t .entry))) node)) 1000001 ⌝ }
+    ensures { λ r. ⌜ r ≡ min (hyperperiod (ofGroup (unmeasured (now (t .entry))) group)) 1000001 ⌝ }
 {
     let mut h = 1;
     let mut i = t.len() / ROW;
     while 0 < i {
         i -= 1;
-        h = joined(h, node, t[ROW * i + NODE], t[ROW * i + PERIOD]);
+        h = joined(h, group, t[ROW * i + NODE], t[ROW * i + PERIOD]);
         if MOST_TICKS < h {
             return MOST_TICKS + 1;
         }
@@ -238,55 +238,55 @@ pub fn bounded_hyperperiod(t: &[u64], node: u64) -> u64
     h
 }
 
-// The releases of a frame in a hyperperiod, where it is the node's.
-fn frame_releases(h: u64, node: u64, frame_node: u64, period: u64) -> u64
+// The releases of a frame in a hyperperiod, where it is the group's.
+fn frame_releases(h: u64, group: u64, frame_group: u64, period: u64) -> u64
     requires { ⌜ 0 < period ⌝ }
-    ensures { λ r. ⌜ r ≡ cond (eqb «frame_node» node) (h / period) 0 ⌝ }
+    ensures { λ r. ⌜ r ≡ cond (eqb «frame_group» group) (h / period) 0 ⌝ }
 {
-    if frame_node == node { h / period } else { 0 }
+    if frame_group == group { h / period } else { 0 }
 }
 
-// The releases of the node's frames in a hyperperiod.
-fn node_releases(t: &[u64], node: u64, h: u64) -> u64
+// The releases of the group's frames in a hyperperiod.
+fn group_releases(t: &[u64], group: u64, h: u64) -> u64
     requires { ⌜ Periods (now t) ⌝ }
     requires { ⌜ (length (now t) ≤ mostNumbers) × (h ≤ 1000000) ⌝ }
-    ensures { λ r. ⌜ r ≡ sum (λ g. h / g .period) (ofNode (unmeasured (now (t .entry))) node) ⌝ }
+    ensures { λ r. ⌜ r ≡ sum (λ g. h / g .period) (ofGroup (unmeasured (now (t .entry))) group) ⌝ }
 {
     let mut sum = 0;
     let mut i = t.len() / ROW;
     while 0 < i {
         i -= 1;
-        sum = frame_releases(h, node, t[ROW * i + NODE], t[ROW * i + PERIOD]) + sum;
+        sum = frame_releases(h, group, t[ROW * i + NODE], t[ROW * i + PERIOD]) + sum;
     }
     sum
 }
 
-// The check of a node.
-fn node(t: &[u64], node: u64) -> Checked
+// The check of a group.
+fn group(t: &[u64], group: u64) -> Checked
     requires { ⌜ Periods (now t) ⌝ }
-    requires { ⌜ (length (now t) ≤ mostNumbers) × (node ≤ 16) ⌝ }
-    ensures { λ r. ⌜ r ≡ nodeCheck (unmeasured (now (t .entry))) node ⌝ }
+    requires { ⌜ (length (now t) ≤ mostNumbers) × (group ≤ 16) ⌝ }
+    ensures { λ r. ⌜ r ≡ groupCheck (unmeasured (now (t .entry))) group ⌝ }
 {
-    let h = bounded_hyperperiod(t, node);
+    let h = bounded_hyperperiod(t, group);
     if MOST_TICKS < h {
-        return fail(Cause::Hyperperiod, node as u32);
+        return fail(Cause::Hyperperiod, group as u32);
     }
-    if MOST_RELEASES < node_releases(t, node, h) {
-        fail(Cause::Releases, node as u32)
+    if MOST_RELEASES < group_releases(t, group, h) {
+        fail(Cause::Releases, group as u32)
     } else {
         Checked::Passed
     }
 }
 
-// The check of the nodes.
-fn nodes(t: &[u64]) -> Checked
+// The check of the groups.
+fn groups(t: &[u64]) -> Checked
     requires { ⌜ Periods (now t) ⌝ }
     requires { ⌜ length (now t) ≤ mostNumbers ⌝ }
-    ensures { λ r. ⌜ r ≡ nodesCheck (unmeasured (now (t .entry))) ⌝ }
+    ensures { λ r. ⌜ r ≡ groupsCheck (unmeasured (now (t .entry))) ⌝ }
 {
     let mut j = 1;
-    while j <= NODES {
-        let checked = node(t, j);
+    while j <= GROUPS {
+        let checked = group(t, j);
         let Checked::Passed = checked else {
             return checked;
         };
@@ -316,5 +316,5 @@ pub fn table(t: &[u64]) -> Checked
     let Checked::Passed = checked else {
         return checked;
     };
-    nodes(t)
+    groups(t)
 }

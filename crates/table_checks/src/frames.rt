@@ -57,7 +57,7 @@ pub fn frame(lengths: [[u32; 9]; 2], rows: &[u32], i: usize) -> Frame
 {
     if rows.len() / ROW <= i {
         return Frame {
-            node: 0,
+            group: 0,
             priority: 0,
             length: 0,
             period: 0,
@@ -69,7 +69,7 @@ pub fn frame(lengths: [[u32; 9]; 2], rows: &[u32], i: usize) -> Frame
     let kind = rows[at + KIND];
     let payload = rows[at + PAYLOAD];
     Frame {
-        node: rows[at + NODE],
+        group: rows[at + NODE],
         priority: priority(kind, identifier),
         length: largest_length(lengths, kind, payload),
         period: rows[at + PERIOD],

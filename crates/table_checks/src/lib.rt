@@ -17,7 +17,7 @@ ghost use mathlib.Core.Path.{_≡_};
 ghost use Prim.Native.Nat.{_≤_};
 ghost use mathlib.Core.List.{_++_};
 ghost use lib.ListN.{length, drop};
-ghost use Rattle.bus_model.specs.Pattern.{ofNode, hyperperiod};
+ghost use Rattle.bus_model.specs.Pattern.{ofGroup, hyperperiod};
 ghost use Rattle.table_checks.specs.Frames.{unmeasured};
 ghost use Rattle.table_checks.specs.Refusal.{numberOf, checkReturns};
 ghost use Rattle.table_checks.specs.Checks.{rowsCheck, loadedCheck, Accepted};
@@ -70,9 +70,9 @@ pub enum Cause {
     Limit,
     // Kind and identifier stand on an earlier line.
     Duplicate,
-    // A node's hyperperiod is too great.
+    // A group's hyperperiod is too great.
     Hyperperiod,
-    // A node has too many releases in its hyperperiod.
+    // A group has too many releases in its hyperperiod.
     Releases,
     // The output area is shorter than the result.
     OutputArea,
@@ -84,7 +84,7 @@ pub enum Cause {
     Length,
 }
 
-// A cause, and the line (from 1) or the node where it was found, or 0.
+// A cause, and the line (from 1) or the group where it was found, or 0.
 pub struct Refusal {
     pub cause: Cause,
     pub place: u32,
@@ -142,16 +142,16 @@ pub fn check_loaded(lengths: [[u32; 9]; 2], rows: &[u32]) -> Checked
     check(rows)
 }
 
-// The hyperperiod of a node of an accepted table.
-pub fn hyperperiod(rows: &[u32], node: u64) -> u64
+// The hyperperiod of a group of an accepted table.
+pub fn hyperperiod(rows: &[u32], group: u64) -> u64
     requires { ⌜ Accepted (now rows) ⌝ }
-    requires { ⌜ (1 ≤ node) × (node ≤ 16) ⌝ }
-    ensures { λ r. ⌜ r ≡ hyperperiod (ofNode (unmeasured (now (rows .entry))) node) ⌝ }
+    requires { ⌜ (1 ≤ group) × (group ≤ 16) ⌝ }
+    ensures { λ r. ⌜ r ≡ hyperperiod (ofGroup (unmeasured (now (rows .entry))) group) ⌝ }
 {
     let size = rows.len();
     let mut fields = [0u64; MOST_NUMBERS];
     widen(rows, &mut fields);
-    checks::bounded_hyperperiod(&fields[..size], node)
+    checks::bounded_hyperperiod(&fields[..size], group)
 }
 
 // Copies rows to the start of wider fields.

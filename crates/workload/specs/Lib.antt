@@ -1,5 +1,5 @@
 -- What the code of this crate works with. The work itself is defined in bus_model.
 pub mod Stored
-pub mod Grouped
+pub mod ByGroup
 pub mod Laid
 pub mod laws

@@ -5,11 +5,11 @@ use lib.ListN.{length, getD, set}
 use Rattle.arith.specs.Lists.{range}
 use Rattle.bus_model.specs.declared.Frame.{Frame}
 
--- frame i: node, priority, length, period, offset
+-- frame i: group, priority, length, period, offset
 unfoldable pub storedAt : List ℕ → ℕ → Frame
 storedAt t i =
     record {
-      node = getD t (6 * i) 0;
+      group = getD t (6 * i) 0;
       priority = getD t (6 * i + 1) 0;
       length = getD t (6 * i + 2) 0;
       period = getD t (6 * i + 3) 0;
@@ -27,4 +27,4 @@ inverseAt t i = getD t (6 * i + 5) 0
 -- with frame g put at place i, and v as its inverse
 unfoldable pub putAt : List ℕ → ℕ → Frame → ℕ → List ℕ
 putAt t i g v =
-    set (set (set (set (set (set t (6 * i) (g .node)) (6 * i + 1) (g .priority)) (6 * i + 2) (g .length)) (6 * i + 3) (g .period)) (6 * i + 4) (g .offset)) (6 * i + 5) v
+    set (set (set (set (set (set t (6 * i) (g .group)) (6 * i + 1) (g .priority)) (6 * i + 2) (g .length)) (6 * i + 3) (g .period)) (6 * i + 4) (g .offset)) (6 * i + 5) v

@@ -8,7 +8,7 @@ ghost use Prim.Native.Nat.{_≤_, max};
 ghost use lib.Dec.{ltb};
 ghost use Rattle.bus_model.specs.Bounds.{blocking};
 ghost use Rattle.workload.specs.Stored.{stored};
-ghost use Rattle.workload.specs.Grouped.{FineTable};
+ghost use Rattle.workload.specs.ByGroup.{FineTable};
 
 // The greater of a length and that of a frame, where it is below k.
 fn longer(longest: u32, k: Frame, g: Frame) -> u32

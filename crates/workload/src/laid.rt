@@ -1,4 +1,4 @@
-// The frames that load a scenario, laid out for a search: each stands as if its node's alignment were at 0, with its first release as
+// The frames that load a scenario, laid out for a search: each stands as if its group's alignment were at 0, with its first release as
 // its offset. A look at them computes no distance.
 use crate::stored::count;
 use crate::stored::frame_at;
@@ -12,7 +12,7 @@ ghost use mathlib.Core.Path.{_≡_};
 ghost use Prim.Native.Nat.{_*_, _≤_};
 ghost use lib.ListN.{length, take};
 ghost use Rattle.workload.specs.Stored.{stored};
-ghost use Rattle.workload.specs.Grouped.{Fine, FineTable};
+ghost use Rattle.workload.specs.ByGroup.{Fine, FineTable};
 ghost use Rattle.workload.specs.Laid.{isLoad, firstRelease, laidBy, laidOut, laidWork, FineFrames};
 
 // Whether a frame loads a start of k, where `delay` is set, or else its busy window.
@@ -37,13 +37,13 @@ fn first_release(g: Frame, choice: Choice, inverse: u32) -> u32
     }
 }
 
-// The frame as it is laid out by its node's choice; its priority matters no more.
+// The frame as it is laid out by its group's choice; its priority matters no more.
 fn laid_frame(g: Frame, choice: Choice, inverse: u32) -> Frame
     requires { ⌜ Fine g ⌝ }
     ensures { λ r. ⌜ r ≡ laidBy choice g ⌝ }
 {
     Frame {
-        node: g.node,
+        group: g.group,
         priority: 0,
         length: g.length,
         period: g.period,
@@ -71,7 +71,7 @@ pub fn lay_out(
         let g = frame_at(frames, i);
         if is_load(g, k, delay) {
             let inverse = inverse_at(frames, i);
-            let at = (g.node - 1) as usize;
+            let at = (g.group - 1) as usize;
             let choice = choices[at];
             put_with(area, found, laid_frame(g, choice, inverse), inverse);
             found += 1;

@@ -1,4 +1,4 @@
-// The work that the frames ahead of one bring at fixed alignments, over the frames of an accepted table: node by node, or laid out for
+// The work that the frames ahead of one bring at fixed alignments, over the frames of an accepted table: group by group, or laid out for
 // a search.
 mod blocking;
 mod groups;
@@ -7,11 +7,11 @@ mod stored;
 mod work;
 
 pub use blocking::frame_blocking;
-pub use groups::GROUP;
+pub use groups::GROUP_ROWS;
+pub use groups::GROUPS;
 pub use groups::MEMBERS;
-pub use groups::NODES;
+pub use groups::by_group;
 pub use groups::common_multiple;
-pub use groups::group;
 pub use laid::laid_work;
 pub use laid::lay_out;
 pub use stored::FRAME;

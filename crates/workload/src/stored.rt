@@ -1,4 +1,4 @@
-// The frames of a table in memory, six numbers a frame: node, priority, length, period, offset, and an inverse of the period
+// The frames of a table in memory, six numbers a frame: group, priority, length, period, offset, and an inverse of the period
 // to divide by. Nothing is promised of the inverse: a quotient that it gives is looked at.
 use bus_model::Frame;
 ghost use mathlib.Core.Path.{_≡_};
@@ -32,7 +32,7 @@ pub fn frame_at(frames: &[u32], i: usize) -> Frame
 {
     if frames.len() / FRAME <= i {
         return Frame {
-            node: 0,
+            group: 0,
             priority: 0,
             length: 0,
             period: 0,
@@ -41,7 +41,7 @@ pub fn frame_at(frames: &[u32], i: usize) -> Frame
     }
     let at = FRAME * i;
     Frame {
-        node: frames[at],
+        group: frames[at],
         priority: wide(frames[at + 1]),
         length: frames[at + 2],
         period: frames[at + 3],
@@ -73,7 +73,7 @@ pub fn put_with(frames: &mut [u32], i: usize, g: Frame, inverse: u32)
     ensures { λ _. ⌜ now (frames .exit) ≡ putAt (now (frames .entry)) i g inverse ⌝ }
 {
     let at = FRAME * i;
-    frames[at] = g.node;
+    frames[at] = g.group;
     frames[at + 1] = g.priority as u32;
     frames[at + 2] = g.length;
     frames[at + 3] = g.period;

@@ -1,4 +1,4 @@
-// The work that a node's frames bring in the first n ticks after one of its alignments.
+// The work that a group's frames bring in the first n ticks after one of its alignments.
 use crate::stored::frame_at;
 use crate::stored::inverse_at;
 use bus_model::Frame;
@@ -7,7 +7,7 @@ ghost use Prim.Native.Nat.{_-_, _*_, _/_, _≤_, _<_, min};
 ghost use Rattle.arith.specs.Releases.{releasesBefore};
 ghost use Rattle.bus_model.specs.Bounds.{distance, demand, workAt};
 ghost use Rattle.workload.specs.Stored.{stored};
-ghost use Rattle.workload.specs.Grouped.{Fine, FinePart, framesIn};
+ghost use Rattle.workload.specs.ByGroup.{Fine, FinePart, framesIn};
 
 // A place in the table as an index.
 pub fn index(row: u8) -> usize

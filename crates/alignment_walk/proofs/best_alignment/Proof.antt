@@ -15,7 +15,7 @@ use Rattle.arith.specs.laws.Walks.{keep-next, keep-found, keep-end, Walk, walk-
 use Rattle.bus_model.specs.Bounds.{workAt, orEmpty}
 use Rattle.bus_model.specs.theory.Alignment.{or-empty}
 use Rattle.workload.specs.Stored.{stored}
-use Rattle.workload.specs.Grouped.{framesIn, isInstant, instantsIn}
+use Rattle.workload.specs.ByGroup.{framesIn, isInstant, instantsIn}
 use Rattle.alignment_walk.specs.Steps.{waitFrom, Noted}
 use Rattle.alignment_walk.specs.laws.Parts.{ended-at, ended-none}
 use Rattle.alignment_walk.specs.laws.Steps.{noted-next, offset-late}

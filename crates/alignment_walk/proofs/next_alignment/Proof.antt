@@ -9,7 +9,7 @@ use Rattle.arith.specs.Lists.{greatest}
 use Rattle.arith.specs.laws.Walks.{Through, through-start, through-more, through-end, greatest-more}
 use Rattle.bus_model.specs.Frame.{row}
 use Rattle.workload.specs.Stored.{stored}
-use Rattle.workload.specs.Grouped.{framesIn}
+use Rattle.workload.specs.ByGroup.{framesIn}
 use Rattle.alignment_walk.specs.Steps.{nextRelease}
 use Rattle.workload.specs.laws.Fine.{part-fine}
 use Rattle.alignment_walk.specs.laws.Parts.{lead, next-is, next-none}

@@ -10,7 +10,7 @@ use Rattle.arith.specs.laws.Walks.{Through, through-start, through-more, throug
 use Rattle.bus_model.specs.declared.Frame.{Frame}
 use Rattle.bus_model.specs.Frame.{row}
 use Rattle.workload.specs.Stored.{stored}
-use Rattle.workload.specs.Grouped.{Fine, framesIn}
+use Rattle.workload.specs.ByGroup.{Fine, framesIn}
 use Rattle.alignment_walk.specs.Steps.{nextRelease, waitFrom, extraDemand}
 use Rattle.workload.specs.laws.Fine.{part-fine}
 use Rattle.alignment_walk.specs.laws.Parts.{next-late, lead, next-or-end}

@@ -20,7 +20,7 @@ use Rattle.arith.specs.declared.Found.the-variants.{At, Nothing}
 use Rattle.bus_model.specs.declared.Frame.{Frame}
 use Rattle.bus_model.specs.Bounds.{phase, isReleasedAt, distance, orEmpty}
 use Rattle.bus_model.specs.theory.Alignment.{released-at, released-turn, distance-lt, distance-reaches}
-use Rattle.workload.specs.Grouped.{Fine, FinePart, framesIn, isInstant, orEnd}
+use Rattle.workload.specs.ByGroup.{Fine, FinePart, framesIn, isInstant, orEnd}
 use Rattle.workload.specs.laws.Fine.{of-fine}
 use Rattle.alignment_walk.specs.Steps.{nextRelease, waitFrom}
 
@@ -135,7 +135,7 @@ module _ (p : ℕ → Bool) (e n : ℕ) {m : ℕ} where
   pub ended-none : m ≡ orEnd e (least p (e - n) n) → e ≤ m → least p (e - n) n ≡ Nothing
   ended-none is over = end-none (least p (e - n) n) refl is over
 
--- A node without alignments counts 1.
+-- A group without alignments counts 1.
 pub length-or-empty : (als : List ℕ) → length (orEmpty als) ≡ max (length als) 1
 unfolding orEmpty
 length-or-empty [] = refl

@@ -1,4 +1,4 @@
--- A walk along the alignments of a node: the demand of the whole periods and of their rest, and what is noted of each frame.
+-- A walk along the alignments of a group: the demand of the whole periods and of their rest, and what is noted of each frame.
 use Prim.Native.Nat.{ℕ, _+_, _-_, _/_, _%_, _≤_, _<_}
 use mathlib.Core.Path.{_≡_, refl, ap, _∙_}
 use mathlib.Core.Bool.{Bool, true, false, cond}
@@ -22,7 +22,7 @@ use Rattle.bus_model.specs.declared.Frame.{Frame}
 use Rattle.bus_model.specs.Frame.{row}
 use Rattle.bus_model.specs.Bounds.{isReleasedAt, distance, demand, workAt}
 use Rattle.bus_model.specs.theory.Alignment.{distance-lt}
-use Rattle.workload.specs.Grouped.{Fine, FinePart, framesIn, isInstant}
+use Rattle.workload.specs.ByGroup.{Fine, FinePart, framesIn, isInstant}
 use Rattle.alignment_walk.specs.Steps.{nextRelease, waitFrom, restOf, wholeDemand, extraDemand, Noted}
 use Rattle.workload.specs.laws.Fine.{of-fine}
 use Rattle.alignment_walk.specs.laws.Parts.{next-released, next-late, next-distance, next-stays, next-period, next-offset}
@@ -96,7 +96,7 @@ module _ {g : Frame} (fine : Fine g) (a : ℕ) {w : ℕ} (is : w ≡ waitFrom a 
 
 -- ---- what is noted
 
--- the first i places of an area for a node's frames are noted
+-- the first i places of an area for a group's frames are noted
 pub record NotedTo (f : Frame → ℕ) (fs : List Frame) (part area : List ℕ) (i : ℕ) : Type 0 where
   pub size : length area ≡ 64
   pub each : (j : ℕ) → j < i → getD area j 0 ≡ f (row fs (getD part j 0))

@@ -1,4 +1,4 @@
--- What the searches for the bounds need: the number of scenarios, the greatest value over a node's alignments as a loop finds it,
+-- What the searches for the bounds need: the number of scenarios, the greatest value over a group's alignments as a loop finds it,
 -- and the choices of a search that goes one level on.
 use Prim.Native.Nat.{ℕ, _+_, _-_, _≤_, _<_, max}
 use mathlib.Core.Path.{_≡_, refl, sym, ap, subst, _∙_}
@@ -20,36 +20,36 @@ use Rattle.bus_model.specs.declared.Frame.{Frame}
 use Rattle.bus_model.specs.declared.Choice.{Choice}
 use Rattle.bus_model.specs.declared.Choice.the-variants.{Fixed, Any}
 use Rattle.bus_model.specs.Frame.{row}
-use Rattle.bus_model.specs.Pattern.{ofNode, hyperperiod}
+use Rattle.bus_model.specs.Pattern.{ofGroup, hyperperiod}
 use Rattle.bus_model.specs.Valid.{ValidFrame, Valid}
-use Rattle.bus_model.specs.Bounds.{nodes, alignments, orEmpty, choiceOf, busyWindow, scenarioResponse, preciseBound, scenarioCount}
+use Rattle.bus_model.specs.Bounds.{groups, alignments, orEmpty, choiceOf, busyWindow, scenarioResponse, preciseBound, scenarioCount}
 use Rattle.bus_model.specs.Judgement.{lacksWindow}
-use Rattle.bus_model.specs.theory.Frames.{node-listed}
+use Rattle.bus_model.specs.theory.Frames.{group-listed}
 use Rattle.bus_model.specs.theory.Work.{RefinedBy}
 use Rattle.bus_model.specs.theory.Response.{window-refine}
 use Rattle.bus_model.specs.theory.Judged.{has-windows}
 use Rattle.bus_model.specs.theory.Visits.{isAlignment}
-use Rattle.bus_model.specs.theory.Refine.{refined, free, set-same, nodeAt, levels, node-first, level-node, of-levels, own-scenarios, precise-refined, refined-step, Level, level-start, level-more, own-kept, refines-node, pruned}
+use Rattle.bus_model.specs.theory.Refine.{refined, free, set-same, groupAt, levels, group-first, level-group, of-levels, own-scenarios, precise-refined, refined-step, Level, level-start, level-more, own-kept, refines-group, pruned}
 use Rattle.bus_model.specs.theory.Approximate.{both, greatestFound, scenarioFound, approximateFound, found-at, found-counts}
 use Rattle.bus_model.specs.theory.Turns.{turn, firstTurn, refined-turn, approximate-turn, visit-first, found-listed, first-listed}
-use Rattle.workload.specs.Grouped.{FineTable, framesIn, instantsIn, Grouped, InTable}
+use Rattle.workload.specs.ByGroup.{FineTable, framesIn, instantsIn, ByGroup, InTable}
 use Rattle.delay_search.specs.Load.{WindowWithin, Left}
 use Rattle.delay_search.specs.laws.Within.{left-finer}
 use Rattle.workload.specs.laws.Groups.{lent, lent-frames}
 
 -- ---- the number of scenarios
 
--- how many alignments the rows of node i + 1 give, an empty one counting 1
+-- how many alignments the rows of group i + 1 give, an empty one counting 1
 abbrev pub countAt : List Frame → List ℕ → List ℕ → ℕ → ℕ
-countAt fs members counts i = length (orEmpty (instantsIn (framesIn fs (lent members counts i)) (hyperperiod (ofNode fs (i + 1)))))
+countAt fs members counts i = length (orEmpty (instantsIn (framesIn fs (lent members counts i)) (hyperperiod (ofGroup fs (i + 1)))))
 
 -- Their product is the scenario count.
-pub counts-product : {fs : List Frame} {k : Frame} {members counts ends : List ℕ} → Grouped fs k members counts ends
+pub counts-product : {fs : List Frame} {k : Frame} {members counts ends : List ℕ} → ByGroup fs k members counts ends
     → product (countAt fs members counts) (range 0 16) ≡ scenarioCount fs k
 unfolding scenarioCount alignments
-counts-product {fs} {k} grouped =
+counts-product {fs} {k} by-group =
     product-shift _ (λ j. length (orEmpty (alignments fs k j))) 0 16
-    (λ i low high. ap (λ (instants : List ℕ). length (orEmpty instants)) (rw (lent-frames grouped i (omega arith), add-one i)))
+    (λ i low high. ap (λ (instants : List ℕ). length (orEmpty instants)) (rw (lent-frames by-group i (omega arith), add-one i)))
 
 -- Each is at least 1.
 some-alignment : (xs : List ℕ) → 1 ≤ length (orEmpty xs)
@@ -57,7 +57,7 @@ unfolding orEmpty
 some-alignment [] = omega arith
 some-alignment (x ∷ xs) = omega arith
 
--- So is the product over some nodes.
+-- So is the product over some groups.
 pub counts-some : (fs : List Frame) (members counts js : List ℕ) → 1 ≤ product (countAt fs members counts) js
 unfolding product
 counts-some fs members counts [] = omega arith
@@ -65,16 +65,16 @@ counts-some fs members counts (j ∷ js) = mul-pos (some-alignment _) (counts-so
 
 -- ---- the approximate bound, as a loop finds it
 
--- the response of its scenario in which k's own node has alignment a
+-- the response of its scenario in which k's own group has alignment a
 abbrev pub ownFound : List Frame → Frame → ℕ → Found
-ownFound fs k a = scenarioFound fs k (set free (k .node - 1) (Fixed a))
+ownFound fs k a = scenarioFound fs k (set free (k .group - 1) (Fixed a))
 
 -- The loop ends with what it has found.
 pub found-end : (f : ℕ → Found) (done : ℕ) → At done ≡ both (At done) (greatestFound f [])
 unfolding both greatestFound
 found-end f done = ap At (omega arith)
 
--- ---- the greatest value over a node's alignments, as a loop finds it
+-- ---- the greatest value over a group's alignments, as a loop finds it
 
 -- The loop stands at a: `most` is the greatest of `from` and the values f of the alignments before a. Those of the first turn are visited.
 pub record Best (fs : List Frame) (k : Frame) (j : ℕ) (f : ℕ → ℕ) (from most a : ℕ) : Type 0 where
@@ -124,13 +124,13 @@ module _ {fs : List Frame} {k : Frame} {cs : List Choice} {limit : ℕ} where
 
 -- ---- one level on
 
--- the greatest response from level i on, where its node j takes alignment a
+-- the greatest response from level i on, where its group j takes alignment a
 abbrev pub nextLevel : List Frame → Frame → List Choice → ℕ → ℕ → ℕ → ℕ
-nextLevel fs k cs i j a = refined fs k (levels k (i + 1) nodes) (set cs (j - 1) (Fixed a))
+nextLevel fs k cs i j a = refined fs k (levels k (i + 1) groups) (set cs (j - 1) (Fixed a))
 
--- A search has come to level i with the choices cs: k's own node has alignment own, and there is a window within the limit.
+-- A search has come to level i with the choices cs: k's own group has alignment own, and there is a window within the limit.
 abbrev pub Reached : List Frame → Frame → ℕ → ℕ → ℕ → List Choice → Type 0
-Reached fs k i own limit cs = (choiceOf cs (k .node) ≡ Fixed own) × Level k i cs × WindowWithin fs k cs limit
+Reached fs k i own limit cs = (choiceOf cs (k .group) ≡ Fixed own) × Level k i cs × WindowWithin fs k cs limit
 
 module _ {fs : List Frame} (valid : Valid fs) {n : ℕ} (inside : n < length fs) where
   abbrev f : Frame
@@ -145,36 +145,36 @@ module _ {fs : List Frame} (valid : Valid fs) {n : ℕ} (inside : n < length fs)
       let (l, is, le) = window-refine valid inside cs cs′ refines (w .window) (w .is) in
       record { window = l; is = is; within = omega (arith, w .within) }
 
-  row-free : {a : ℕ} → Mem a (orEmpty (alignments fs f (f .node))) → {l : ℕ} → busyWindow fs f free ≡ At l → {cs : List Choice} → cs ≡ set free (f .node - 1) (Fixed a) → WindowWithin fs f cs l
+  row-free : {a : ℕ} → Mem a (orEmpty (alignments fs f (f .group))) → {l : ℕ} → busyWindow fs f free ≡ At l → {cs : List Choice} → cs ≡ set free (f .group - 1) (Fixed a) → WindowWithin fs f cs l
   row-free {a} m {l} is e =
-      rw e (within-refined (refines-node fs f free (node-listed self) refl (rw (node-first f) at (level-start self .left 0 (omega arith) (omega arith))) m) (record { window = l; is = is; within = omega arith }))
+      rw e (within-refined (refines-group fs f free (group-listed self) refl (rw (group-first f) at (level-start self .left 0 (omega arith) (omega arith))) m) (record { window = l; is = is; within = omega arith }))
 
-  row-first : lacksWindow fs f ≡ false → {a : ℕ} → Mem a (orEmpty (alignments fs f (f .node))) → {cs : List Choice} → cs ≡ set free (f .node - 1) (Fixed a)
+  row-first : lacksWindow fs f ≡ false → {a : ℕ} → Mem a (orEmpty (alignments fs f (f .group))) → {cs : List Choice} → cs ≡ set free (f .group - 1) (Fixed a)
       → {limit : ℕ} → limit ≡ orZero (busyWindow fs f cs) → Reached fs f 1 a limit cs
   unfolding orZero
   row-first has {a} m e {limit} is =
       let (l, window) = has-windows fs f (λ t. subst T has t) _ (own-scenarios fs self .1 (a, m, refl)) in
       let long : limit ≡ l = rw (e, window) at is in
       rw e (
-        set-same free (node-listed self) a refl,
-        level-more self (level-start self) (omega arith) (f .node) a (sym (node-first f)),
+        set-same free (group-listed self) a refl,
+        level-more self (level-start self) (omega arith) (f .group) a (sym (group-first f)),
         record { window = l; is = window; within = omega arith },
       )
 
-  row-split : {i own limit : ℕ} {cs : List Choice} → i < nodes → length cs ≡ nodes → choiceOf cs (nodeAt f i) ≡ Any → choiceOf cs (f .node) ≡ Fixed own → WindowWithin fs f cs limit
-      → {j : ℕ} → j ≡ nodeAt f i → {a : ℕ} → Mem a (orEmpty (alignments fs f j)) → {cs′ : List Choice} → cs′ ≡ set cs (j - 1) (Fixed a)
-      → (choiceOf cs′ (f .node) ≡ Fixed own) × WindowWithin fs f cs′ limit
+  row-split : {i own limit : ℕ} {cs : List Choice} → i < groups → length cs ≡ groups → choiceOf cs (groupAt f i) ≡ Any → choiceOf cs (f .group) ≡ Fixed own → WindowWithin fs f cs limit
+      → {j : ℕ} → j ≡ groupAt f i → {a : ℕ} → Mem a (orEmpty (alignments fs f j)) → {cs′ : List Choice} → cs′ ≡ set cs (j - 1) (Fixed a)
+      → (choiceOf cs′ (f .group) ≡ Fixed own) × WindowWithin fs f cs′ limit
   row-split {i} {cs = cs} less long left fixed within at {a} m e =
-      let refines = refines-node fs f cs (level-node f self i less) long left (rw at at m) in
-      rw (e, at) (own-kept fs f cs (set cs (nodeAt f i - 1) (Fixed a)) refines self fixed, within-refined refines within)
+      let refines = refines-group fs f cs (level-group f self i less) long left (rw at at m) in
+      rw (e, at) (own-kept fs f cs (set cs (groupAt f i - 1) (Fixed a)) refines self fixed, within-refined refines within)
 
-  row-levels : (cs : List Choice) → length cs ≡ nodes → {i j : ℕ} → j ≡ nodeAt f i → i < nodes
-      → greatest (nextLevel fs f cs i j) (orEmpty (firstTurn fs f j)) ≡ refined fs f (levels f i nodes) cs
+  row-levels : (cs : List Choice) → length cs ≡ groups → {i j : ℕ} → j ≡ groupAt f i → i < groups
+      → greatest (nextLevel fs f cs i j) (orEmpty (firstTurn fs f j)) ≡ refined fs f (levels f i groups) cs
   row-levels cs long {i} at less =
-      rw at (refined-turn valid inside cs long (nodeAt f i) (level-node f self i less) (levels f (i + 1) nodes) (λ j m. let (n, low, high, e) = of-levels f (i + 1) nodes m in rw e (level-node f self n high))
-      ∙ sym (refined-step fs f cs i nodes less))
+      rw at (refined-turn valid inside cs long (groupAt f i) (level-group f self i less) (levels f (i + 1) groups) (λ j m. let (n, low, high, e) = of-levels f (i + 1) groups m in rw e (level-group f self n high))
+      ∙ sym (refined-step fs f cs i groups less))
 
-  row-next : {i own limit : ℕ} {cs : List Choice} → Reached fs f i own limit cs → i < nodes → {j : ℕ} → j ≡ nodeAt f i → {a : ℕ} → Mem a (orEmpty (alignments fs f j))
+  row-next : {i own limit : ℕ} {cs : List Choice} → Reached fs f i own limit cs → i < groups → {j : ℕ} → j ≡ groupAt f i → {a : ℕ} → Mem a (orEmpty (alignments fs f j))
       → {cs′ : List Choice} → cs′ ≡ set cs (j - 1) (Fixed a) → Reached fs f (i + 1) own limit cs′
   row-next {i} (fixed, level, within) less {j} at {a} m e =
       let (own, window) = row-split less (level .long) (level .left i (omega arith) less) fixed within at m e in
@@ -184,46 +184,46 @@ module _ {fs : List Frame} (accepted : FineTable fs) {k : Frame} (table : InTabl
   valid-self : ValidFrame k
   valid-self = subst ValidFrame (sym (table .is)) (accepted .valid .frame (table .at) (table .inside))
 
-  -- A level's node is one of the nodes.
-  pub reached-node : {i j : ℕ} → j ≡ nodeAt k i → i < nodes → (1 ≤ j) × (j ≤ 16)
-  reached-node {i} at less = rw at (let (low, high) = of-range 1 nodes (level-node k valid-self i less) in (low, omega arith))
+  -- A level's group is one of the groups.
+  pub reached-group : {i j : ℕ} → j ≡ groupAt k i → i < groups → (1 ≤ j) × (j ≤ 16)
+  reached-group {i} at less = rw at (let (low, high) = of-range 1 groups (level-group k valid-self i less) in (low, omega arith))
 
-  pub own-node : (1 ≤ k .node) × (k .node ≤ 16)
-  own-node = reached-node (sym (node-first k)) (lit< tt)
+  pub own-group : (1 ≤ k .group) × (k .group ≤ 16)
+  own-group = reached-group (sym (group-first k)) (lit< tt)
 
-  -- The greatest over the alignments of a level's node is that from the level on.
-  pub next-levels : (cs : List Choice) → length cs ≡ nodes → {i j : ℕ} → j ≡ nodeAt k i → i < nodes
-      → greatest (nextLevel fs k cs i j) (orEmpty (firstTurn fs k j)) ≡ refined fs k (levels k i nodes) cs
+  -- The greatest over the alignments of a level's group is that from the level on.
+  pub next-levels : (cs : List Choice) → length cs ≡ groups → {i j : ℕ} → j ≡ groupAt k i → i < groups
+      → greatest (nextLevel fs k cs i j) (orEmpty (firstTurn fs k j)) ≡ refined fs k (levels k i groups) cs
   next-levels = rw (table .is) (row-levels (accepted .valid) (table .inside))
 
   -- The approximate bound is found in the first turn.
-  pub own-found : greatestFound (ownFound fs k) (orEmpty (firstTurn fs k (k .node))) ≡ approximateFound fs k
+  pub own-found : greatestFound (ownFound fs k) (orEmpty (firstTurn fs k (k .group))) ≡ approximateFound fs k
   own-found = rw (table .is) (approximate-turn (accepted .valid) (table .inside))
 
-  -- Where the scenario with no node fixed has a window, it is not exceeded where k's own is.
-  pub free-within : {a : ℕ} → Mem a (orEmpty (alignments fs k (k .node))) → {l : ℕ} → busyWindow fs k free ≡ At l
-      → {cs : List Choice} → cs ≡ set free (k .node - 1) (Fixed a) → WindowWithin fs k cs l
+  -- Where the scenario with no group fixed has a window, it is not exceeded where k's own is.
+  pub free-within : {a : ℕ} → Mem a (orEmpty (alignments fs k (k .group))) → {l : ℕ} → busyWindow fs k free ≡ At l
+      → {cs : List Choice} → cs ≡ set free (k .group - 1) (Fixed a) → WindowWithin fs k cs l
   free-within = rw (table .is) (row-free (accepted .valid) (table .inside))
 
-  -- The search starts with an alignment of k's own node, if none of these lacks a window.
-  pub reached-first : lacksWindow fs k ≡ false → {a : ℕ} → Mem a (orEmpty (alignments fs k (k .node)))
-      → {cs : List Choice} → cs ≡ set free (k .node - 1) (Fixed a) → {limit : ℕ} → limit ≡ orZero (busyWindow fs k cs) → Reached fs k 1 a limit cs
+  -- The search starts with an alignment of k's own group, if none of these lacks a window.
+  pub reached-first : lacksWindow fs k ≡ false → {a : ℕ} → Mem a (orEmpty (alignments fs k (k .group)))
+      → {cs : List Choice} → cs ≡ set free (k .group - 1) (Fixed a) → {limit : ℕ} → limit ≡ orZero (busyWindow fs k cs) → Reached fs k 1 a limit cs
   reached-first = rw (table .is) (row-first (accepted .valid) (table .inside))
 
   -- Nor are more instances left there.
-  pub left-next : {i : ℕ} {cs : List Choice} → i < nodes → length cs ≡ nodes → choiceOf cs (nodeAt k i) ≡ Any → {j : ℕ} → j ≡ nodeAt k i → {a : ℕ} → Mem a (orEmpty (alignments fs k j))
+  pub left-next : {i : ℕ} {cs : List Choice} → i < groups → length cs ≡ groups → choiceOf cs (groupAt k i) ≡ Any → {j : ℕ} → j ≡ groupAt k i → {a : ℕ} → Mem a (orEmpty (alignments fs k j))
       → {cs′ : List Choice} → cs′ ≡ set cs (j - 1) (Fixed a) → {own most count end : ℕ} {list : List ℕ} → Left fs k cs own most list count end → Left fs k cs′ own most list count end
-  left-next {i} {cs} less long any at m e left = rw (e, at) (left-finer (accepted .valid) (refines-node fs k cs (level-node k valid-self i less) long any (rw at at m)) left)
+  left-next {i} {cs} less long any at m e left = rw (e, at) (left-finer (accepted .valid) (refines-group fs k cs (level-group k valid-self i less) long any (rw at at m)) left)
 
-  -- It goes on with an alignment of the level's node.
-  pub reached-next : {i own limit : ℕ} {cs : List Choice} → Reached fs k i own limit cs → i < nodes → {j : ℕ} → j ≡ nodeAt k i
+  -- It goes on with an alignment of the level's group.
+  pub reached-next : {i own limit : ℕ} {cs : List Choice} → Reached fs k i own limit cs → i < groups → {j : ℕ} → j ≡ groupAt k i
       → {a : ℕ} → Mem a (orEmpty (alignments fs k j)) → {cs′ : List Choice} → cs′ ≡ set cs (j - 1) (Fixed a) → Reached fs k (i + 1) own limit cs′
   reached-next = rw (table .is) (row-next (accepted .valid) (table .inside))
 
   -- No scenario further on has a greater response.
-  pub reached-most : {i own limit : ℕ} {cs : List Choice} → Reached fs k i own limit cs → 1 ≤ i → refined fs k (levels k i nodes) cs ≤ scenarioResponse fs k cs
-  reached-most = rw (table .is) (λ (fixed, level, w) some. pruned (accepted .valid) (table .inside) level some nodes (le-refl nodes) (w .window) (w .is))
+  pub reached-most : {i own limit : ℕ} {cs : List Choice} → Reached fs k i own limit cs → 1 ≤ i → refined fs k (levels k i groups) cs ≤ scenarioResponse fs k cs
+  reached-most = rw (table .is) (λ (fixed, level, w) some. pruned (accepted .valid) (table .inside) level some groups (le-refl groups) (w .window) (w .is))
 
   -- From the first level on it finds the precise bound.
-  pub precise-levels : {most : ℕ} → most ≡ max 0 (greatest (nextLevel fs k free 0 (k .node)) (orEmpty (firstTurn fs k (k .node)))) → most ≡ preciseBound fs k
-  precise-levels is = omega (arith, next-levels free refl (sym (node-first k)) (lit< tt), precise-refined fs valid-self)
+  pub precise-levels : {most : ℕ} → most ≡ max 0 (greatest (nextLevel fs k free 0 (k .group)) (orEmpty (firstTurn fs k (k .group)))) → most ≡ preciseBound fs k
+  precise-levels is = omega (arith, next-levels free refl (sym (group-first k)) (lit< tt), precise-refined fs valid-self)

@@ -9,7 +9,7 @@ use Rattle.arith.specs.Lists.{greatest, range}
 use Rattle.arith.specs.Least.{least, orZero}
 use Rattle.arith.specs.Releases.{releasesBefore}
 use Rattle.bus_model.specs.Frame.{row}
-use Rattle.bus_model.specs.Bounds.{windowLimit, ahead, better, below, blocking, work, windowLoad, busyWindow, delayLoad, queueingDelay, ownDistance, instanceResponse, responseTime, scenarioResponse, scenarios, everyNode, boundOf, approximateBound, preciseBound}
+use Rattle.bus_model.specs.Bounds.{windowLimit, ahead, better, below, blocking, work, windowLoad, busyWindow, delayLoad, queueingDelay, ownDistance, instanceResponse, responseTime, scenarioResponse, scenarios, everyGroup, boundOf, approximateBound, preciseBound}
 use Rattle.bus_model.specs.examples.Compute.{everything}
 use Rattle.arith.specs.declared.Found.the-variants.{At, Nothing}
 use Rattle.bus_model.specs.declared.Frame.{Frame}
@@ -40,10 +40,10 @@ unchanged fs k fixes = refl
 -- document 01's listing: identifiers 16, 32, 48 and 64, each with the priority that table_checks gives it (524288 times as much)
 abbrev pub listing : List Frame
 listing =
-    record { node = 1; priority = 8_388_608; length = 135; period = 1000; offset = 0 } ∷
-    record { node = 1; priority = 16_777_216; length = 55; period = 1000; offset = 200 } ∷
-    record { node = 1; priority = 25_165_824; length = 135; period = 1000; offset = 300 } ∷
-    record { node = 2; priority = 33_554_432; length = 65; period = 1000; offset = 0 } ∷ []
+    record { group = 1; priority = 8_388_608; length = 135; period = 1000; offset = 0 } ∷
+    record { group = 1; priority = 16_777_216; length = 55; period = 1000; offset = 200 } ∷
+    record { group = 1; priority = 25_165_824; length = 135; period = 1000; offset = 300 } ∷
+    record { group = 2; priority = 33_554_432; length = 65; period = 1000; offset = 0 } ∷ []
 
 abbrev frame16 : Frame
 frame16 = row listing 0
@@ -51,29 +51,29 @@ frame16 = row listing 0
 abbrev frame64 : Frame
 frame64 = row listing 3
 
--- three nodes of one frame each; the second instance of the last frame responds later than its first
+-- three groups of one frame each; the second instance of the last frame responds later than its first
 abbrev three : List Frame
 three =
-    record { node = 1; priority = 1; length = 10; period = 25; offset = 0 } ∷
-    record { node = 2; priority = 2; length = 10; period = 35; offset = 0 } ∷
-    record { node = 3; priority = 3; length = 10; period = 35; offset = 0 } ∷ []
+    record { group = 1; priority = 1; length = 10; period = 25; offset = 0 } ∷
+    record { group = 2; priority = 2; length = 10; period = 35; offset = 0 } ∷
+    record { group = 3; priority = 3; length = 10; period = 35; offset = 0 } ∷ []
 
 -- "Counting better frames in 0..w-1": what is queued where the bus becomes free is left out.
 abbrev early : ℕ
-early = boundBy (blocking listing frame64) (λ w. w) (λ n. n) listing frame64 everyNode
+early = boundBy (blocking listing frame64) (λ w. w) (λ n. n) listing frame64 everyGroup
 
 -- "Looking at q = 1 only".
 abbrev first : ℕ
-first = boundBy (blocking three (row three 2)) suc (min 1) three (row three 2) everyNode
+first = boundBy (blocking three (row three 2)) suc (min 1) three (row three 2) everyGroup
 
 -- "Blocking by a whole C".
 abbrev whole : ℕ
-whole = boundBy (greatest (λ g. g .length) (below listing frame16)) suc (λ n. n) listing frame16 everyNode
+whole = boundBy (greatest (λ g. g .length) (below listing frame16)) suc (λ n. n) listing frame16 everyGroup
 
--- "Choosing one best alignment for all L in the rough bound": each other node has one alignment at all L and w, and of these
+-- "Choosing one best alignment for all L in the rough bound": each other group has one alignment at all L and w, and of these
 -- choices the one with the greatest response counts. No single choice gives more.
 abbrev one : ℕ
-one = boundBy (blocking listing frame64) suc (λ n. n) listing frame64 everyNode
+one = boundBy (blocking listing frame64) suc (λ n. n) listing frame64 everyGroup
 
 -- the bound by an error, and the right one
 abbrev pub Gives : (wrong right : ℕ) → ℕ → ℕ → Type 0
@@ -88,11 +88,11 @@ errors-differ = ((refl, refl), (refl, refl), (refl, refl), (refl, refl))
 
 -- ---- the last tick of a window
 
--- a node of two frames; the second is queued in the last tick of the first
+-- a group of two frames; the second is queued in the last tick of the first
 abbrev pair : List Frame
 pair =
-    record { node = 1; priority = 1; length = 10; period = 100; offset = 0 } ∷
-    record { node = 1; priority = 2; length = 10; period = 100; offset = 9 } ∷ []
+    record { group = 1; priority = 1; length = 10; period = 100; offset = 0 } ∷
+    record { group = 1; priority = 2; length = 10; period = 100; offset = 9 } ∷ []
 
 -- It waits for a tick. In a window of a tick less it would be missed, and 10 would be the bound.
 pub last-tick : preciseBound pair (row pair 1) ≡ 11

@@ -14,7 +14,7 @@ use Rattle.bus_model.specs.Release.{release}
 use Rattle.bus_model.specs.Bus.{Transmission, oneMore, Waiting, Idle, Next, Runs, Schedule, Finished, MeetsClaim}
 use Rattle.bus_model.specs.examples.Errors.{listing}
 
--- all nodes start at tick 0
+-- all groups start at tick 0
 abbrev zeros : ℕ → ℕ
 zeros j = 0
 

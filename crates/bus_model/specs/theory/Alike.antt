@@ -18,8 +18,8 @@ use Rattle.arith.specs.laws.Maps.{sum-map, greatest-map, lcmOf-map, exists-map,
 use Rattle.bus_model.specs.Frame.{noFrame, row}
 use Rattle.bus_model.specs.Release.{release}
 use Rattle.bus_model.specs.Bus.{Transmission, Waiting, Idle, Next, Runs, Schedule, MeetsClaim}
-use Rattle.bus_model.specs.Pattern.{ofNode, hyperperiod}
-use Rattle.bus_model.specs.Bounds.{nodes, windowLimit, isAhead, isBetter, isBelow, ahead, better, below, blocking, phase, isReleasedAt, alignments, distance, choiceOf, orEmpty, choices, scenarios, ownNode, demand, workAt, nodeWork, work, windowLoad, busyWindow, delayLoad, queueingDelay, ownDistance, instanceResponse, responseTime, scenarioResponse, boundOf, scenarioCount}
+use Rattle.bus_model.specs.Pattern.{ofGroup, hyperperiod}
+use Rattle.bus_model.specs.Bounds.{groups, windowLimit, isAhead, isBetter, isBelow, ahead, better, below, blocking, phase, isReleasedAt, alignments, distance, choiceOf, orEmpty, choices, scenarios, ownGroup, demand, workAt, groupWork, work, windowLoad, busyWindow, delayLoad, queueingDelay, ownDistance, instanceResponse, responseTime, scenarioResponse, boundOf, scenarioCount}
 use Rattle.bus_model.specs.Judgement.{lacksWindow, tooManyScenarios, preciseOutcome, refinedOutcome, windowedOutcome, outcomeOf, judge}
 use Rattle.arith.specs.declared.Found.the-variants.{At, Nothing}
 use Rattle.bus_model.specs.declared.Frame.{Frame}
@@ -28,24 +28,24 @@ use Rattle.bus_model.specs.declared.Choice.the-variants.{Fixed, Any}
 
 -- the frame with another priority and another offset
 abbrev pub recast : (Frame → ℕ) → (Frame → ℕ) → Frame → Frame
-recast r o g = record { node = g .node; priority = r g; length = g .length; period = g .period; offset = o g }
+recast r o g = record { group = g .group; priority = r g; length = g .length; period = g .period; offset = o g }
 
 -- r keeps the order of the frames' priorities.
 abbrev pub KeepsOrder : (Frame → ℕ) → List Frame → Type 0
 KeepsOrder r fs = (f g : Frame) → Mem f fs → Mem g fs → (r f ≤ r g) ↔ (f .priority ≤ g .priority)
 
--- The rows of the frames recast are the rows recast, and so are the frames of a node, with the same hyperperiod.
+-- The rows of the frames recast are the rows recast, and so are the frames of a group, with the same hyperperiod.
 module _ (r o : Frame → ℕ) (fs : List Frame) where
   pub row-recast : (i : ℕ) → i < length fs → row (map (recast r o) fs) i ≡ recast r o (row fs i)
   row-recast i l = getD-within (map (recast r o) fs) i noFrame (recast r o noFrame) (rw (length-map fs (recast r o)) l) ∙ List·getD-map (recast r o) fs i noFrame
 
-  pub node-recast : (j : ℕ) → ofNode (map (recast r o) fs) j ≡ map (recast r o) (ofNode fs j)
-  unfolding ofNode
-  node-recast j = keep-map (recast r o) _ _ fs (λ g n. refl)
+  pub group-recast : (j : ℕ) → ofGroup (map (recast r o) fs) j ≡ map (recast r o) (ofGroup fs j)
+  unfolding ofGroup
+  group-recast j = keep-map (recast r o) _ _ fs (λ g n. refl)
 
-  pub hyper-recast : (j : ℕ) → hyperperiod (ofNode (map (recast r o) fs) j) ≡ hyperperiod (ofNode fs j)
+  pub hyper-recast : (j : ℕ) → hyperperiod (ofGroup (map (recast r o) fs) j) ≡ hyperperiod (ofGroup fs j)
   unfolding hyperperiod
-  hyper-recast j = rw (node-recast j) (lcmOf-map (recast r o) (λ g. g .period) (ofNode fs j))
+  hyper-recast j = rw (group-recast j) (lcmOf-map (recast r o) (λ g. g .period) (ofGroup fs j))
 
 module _ (r o : Frame → ℕ) (phased : (g : Frame) → phase (recast r o g) ≡ phase g) {fs : List Frame} (keeps : KeepsOrder r fs) {k : Frame} (m : Mem k fs) where
   abbrev h : Frame → Frame
@@ -80,8 +80,8 @@ module _ (r o : Frame → ℕ) (phased : (g : Frame) → phase (recast r o g) �
   pub alignments-alike : alignments (map h fs) (h k) ≡ alignments fs k
   unfolding alignments isReleasedAt
   alignments-alike = fun-ext (λ j.
-      rw (ahead-alike, hyper-recast r o fs j, node-recast r o (ahead fs k) j)
-      (ap (λ (p : ℕ → Bool). keep p (range 0 (hyperperiod (ofNode fs j)))) (fun-ext (λ a. exists-map h (isReleasedAt a) (ofNode (ahead fs k) j) ∙ ap (λ (p : Frame → Bool). exists p (ofNode (ahead fs k) j)) (released a)))))
+      rw (ahead-alike, hyper-recast r o fs j, group-recast r o (ahead fs k) j)
+      (ap (λ (p : ℕ → Bool). keep p (range 0 (hyperperiod (ofGroup fs j)))) (fun-ext (λ a. exists-map h (isReleasedAt a) (ofGroup (ahead fs k) j) ∙ ap (λ (p : Frame → Bool). exists p (ofGroup (ahead fs k) j)) (released a)))))
     where
       released : (a : ℕ) → _≡_ {A = Frame → Bool} (λ g. isReleasedAt a (h g)) (isReleasedAt a)
       released a = fun-ext (λ g. rw (phased g))
@@ -98,14 +98,14 @@ module _ (r o : Frame → ℕ) (phased : (g : Frame) → phase (recast r o g) �
       sum-map h (λ g. demand g a n) gs
       ∙ ap (λ (d : Frame → ℕ → ℕ). sum (λ g. g .length * releasesBefore (d g a) (g .period) n) gs) (fun-ext distance-alike)
 
-  node-work-alike : (gs : List Frame) (als : List ℕ) (c : Choice) (n : ℕ) → nodeWork (map h gs) als c n ≡ nodeWork gs als c n
-  unfolding nodeWork
-  node-work-alike gs als (Fixed a) n = at-alike gs a n
-  node-work-alike gs als Any n = ap (λ (f : ℕ → ℕ). greatest f als) (fun-ext (λ a. at-alike gs a n))
+  group-work-alike : (gs : List Frame) (als : List ℕ) (c : Choice) (n : ℕ) → groupWork (map h gs) als c n ≡ groupWork gs als c n
+  unfolding groupWork
+  group-work-alike gs als (Fixed a) n = at-alike gs a n
+  group-work-alike gs als Any n = ap (λ (f : ℕ → ℕ). greatest f als) (fun-ext (λ a. at-alike gs a n))
 
   work-alike : (gs : List Frame) (cs : List Choice) (n : ℕ) → work (map h fs) (h k) (map h gs) cs n ≡ work fs k gs cs n
   unfolding work
-  work-alike gs cs n = ap (λ (f : ℕ → ℕ). sum f (range 1 nodes)) (fun-ext (λ j. rw (alignments-alike, node-recast r o gs j) (node-work-alike (ofNode gs j) (alignments fs k j) (choiceOf cs j) n)))
+  work-alike gs cs n = ap (λ (f : ℕ → ℕ). sum f (range 1 groups)) (fun-ext (λ j. rw (alignments-alike, group-recast r o gs j) (group-work-alike (ofGroup gs j) (alignments fs k j) (choiceOf cs j) n)))
 
   -- ---- windows, delays and responses
 
@@ -119,7 +119,7 @@ module _ (r o : Frame → ℕ) (phased : (g : Frame) → phase (recast r o g) �
 
   own-distance-alike : ownDistance (h k) ≡ ownDistance k
   unfolding ownDistance
-  own-distance-alike = fun-ext (λ cs. ap (λ (d : ℕ → ℕ). elim (choiceOf cs (k .node)) as (λ _. ℕ) [ Fixed a ↦ d a | Any ↦ 0 ]) (distance-alike k))
+  own-distance-alike = fun-ext (λ cs. ap (λ (d : ℕ → ℕ). elim (choiceOf cs (k .group)) as (λ _. ℕ) [ Fixed a ↦ d a | Any ↦ 0 ]) (distance-alike k))
 
   pub window-alike : busyWindow (map h fs) (h k) ≡ busyWindow fs k
   unfolding busyWindow
@@ -149,7 +149,7 @@ module _ (r o : Frame → ℕ) (phased : (g : Frame) → phase (recast r o g) �
 
   scenarios-alike : scenarios (map h fs) (h k) ≡ scenarios fs k
   unfolding scenarios
-  scenarios-alike = λ i fixes. combinations (map (λ j. choices-alike i (fixes j) j) (range 1 nodes))
+  scenarios-alike = λ i fixes. combinations (map (λ j. choices-alike i (fixes j) j) (range 1 groups))
 
   -- Every bound is the same.
   pub bound-alike : boundOf (map h fs) (h k) ≡ boundOf fs k
@@ -159,12 +159,12 @@ module _ (r o : Frame → ℕ) (phased : (g : Frame) → phase (recast r o g) �
   -- The scenario count is the same.
   pub count-alike : scenarioCount (map h fs) (h k) ≡ scenarioCount fs k
   unfolding scenarioCount
-  count-alike = λ i. product (λ j. length (orEmpty (alignments-alike i j))) (range 1 nodes)
+  count-alike = λ i. product (λ j. length (orEmpty (alignments-alike i j))) (range 1 groups)
 
   -- So is the lack of a window.
   pub lacks-alike : lacksWindow (map h fs) (h k) ≡ lacksWindow fs k
   unfolding lacksWindow
-  lacks-alike = λ i. exists (λ cs. isNone (window-alike i cs)) (scenarios-alike i (ownNode k))
+  lacks-alike = λ i. exists (λ cs. isNone (window-alike i cs)) (scenarios-alike i (ownGroup k))
 
   -- So the judgement is the same.
   pub judge-alike : judge (map h fs) (h k) ≡ judge fs k

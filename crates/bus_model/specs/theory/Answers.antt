@@ -10,17 +10,17 @@ use Rattle.arith.specs.laws.Maps.{sum-map}
 use Rattle.bus_model.specs.declared.Frame.{Frame}
 use Rattle.bus_model.specs.Frame.{noFrame, row}
 use Rattle.bus_model.specs.Bus.{Transmission, Schedule, MeetsClaim}
-use Rattle.bus_model.specs.Pattern.{ofNode, hyperperiod, patternReleases}
+use Rattle.bus_model.specs.Pattern.{ofGroup, hyperperiod, patternReleases}
 use Rattle.bus_model.specs.Bounds.{phase, boundOf, scenarioCount}
 use Rattle.bus_model.specs.Judgement.{lacksWindow, judge}
-use Rattle.bus_model.specs.theory.Alike.{recast, KeepsOrder, node-recast, hyper-recast, row-alike, bound-alike, count-alike, lacks-alike, judge-alike, schedule-alike, meets-alike}
+use Rattle.bus_model.specs.theory.Alike.{recast, KeepsOrder, group-recast, hyper-recast, row-alike, bound-alike, count-alike, lacks-alike, judge-alike, schedule-alike, meets-alike}
 
--- Each node has the same pattern; each row has the same bounds, whatever nodes are fixed, the same scenario count, lack of a window
+-- Each group has the same pattern; each row has the same bounds, whatever groups are fixed, the same scenario count, lack of a window
 -- and judgements; the same lists are schedules; and the same claims are met.
 pub record SameAnswers (fs gs : List Frame) : Type 0 where
   pub size : length fs ≡ length gs
-  pub hyper : (j : ℕ) → hyperperiod (ofNode fs j) ≡ hyperperiod (ofNode gs j)
-  pub releases : (j : ℕ) → patternReleases (ofNode fs j) ≡ patternReleases (ofNode gs j)
+  pub hyper : (j : ℕ) → hyperperiod (ofGroup fs j) ≡ hyperperiod (ofGroup gs j)
+  pub releases : (j : ℕ) → patternReleases (ofGroup fs j) ≡ patternReleases (ofGroup gs j)
   pub bound : (k : ℕ) → k < length fs → boundOf fs (row fs k) ≡ boundOf gs (row gs k)
   pub count : (k : ℕ) → k < length fs → scenarioCount fs (row fs k) ≡ scenarioCount gs (row gs k)
   pub lacks : (k : ℕ) → k < length fs → lacksWindow fs (row fs k) ≡ lacksWindow gs (row gs k)
@@ -48,8 +48,8 @@ module _ (r : Frame → ℕ) {fs : List Frame} (keeps : KeepsOrder r fs) where
     size = length-map fs other;
     hyper = hyper-recast r (λ g. g .offset) fs;
     releases = λ j.
-        rw (hyper-recast r (λ g. g .offset) fs j, node-recast r (λ g. g .offset) fs j)
-        (sum-map other (λ g. hyperperiod (ofNode fs j) / g .period) (ofNode fs j));
+        rw (hyper-recast r (λ g. g .offset) fs j, group-recast r (λ g. g .offset) fs j)
+        (sum-map other (λ g. hyperperiod (ofGroup fs j) / g .period) (ofGroup fs j));
     bound = of-row boundOf (λ k m. bound-alike r (λ g. g .offset) (λ g. refl) keeps m);
     count = of-row scenarioCount (λ k m. count-alike r (λ g. g .offset) (λ g. refl) keeps m);
     lacks = of-row lacksWindow (λ k m. lacks-alike r (λ g. g .offset) (λ g. refl) keeps m);

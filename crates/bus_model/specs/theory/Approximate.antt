@@ -1,4 +1,4 @@
--- The approximate bound beside its windows, as one search finds both: nothing where an alignment of k's own node has no window,
+-- The approximate bound beside its windows, as one search finds both: nothing where an alignment of k's own group has no window,
 -- and otherwise the bound.
 use Prim.Native.Nat.{ℕ, _-_, max}
 use mathlib.Core.Path.{_≡_, refl, sym, ap, _∙_, fun-ext}
@@ -12,10 +12,10 @@ use Rattle.arith.specs.Least.{orZero, isNone}
 use Rattle.arith.specs.laws.Tests.{same-test}
 use Rattle.arith.specs.laws.Members.{exists-mem, of-exists}
 use Rattle.bus_model.specs.Valid.{ValidFrame}
-use Rattle.bus_model.specs.Bounds.{alignments, orEmpty, ownNode, scenarios, busyWindow, responseTime, scenarioResponse, approximateBound}
+use Rattle.bus_model.specs.Bounds.{alignments, orEmpty, ownGroup, scenarios, busyWindow, responseTime, scenarioResponse, approximateBound}
 use Rattle.bus_model.specs.Judgement.{lacksWindow}
 use Rattle.bus_model.specs.theory.Response.{response-at, response-none}
-use Rattle.bus_model.specs.theory.Refine.{free, refined, nodeAt, levels, own-scenarios, approximate-refined}
+use Rattle.bus_model.specs.theory.Refine.{free, refined, groupAt, levels, own-scenarios, approximate-refined}
 use Rattle.arith.specs.declared.Found.{Found}
 use Rattle.arith.specs.declared.Found.the-variants.{At, Nothing}
 use Rattle.bus_model.specs.declared.Frame.{Frame}
@@ -77,9 +77,9 @@ both-zero Nothing = refl
 unfoldable pub scenarioFound : List Frame → Frame → List Choice → Found
 scenarioFound fs k cs = elim (busyWindow fs k cs) [ At l ↦ At (responseTime fs k cs l) | Nothing ↦ Nothing ]
 
--- the greatest over the alignments of k's own node, each beside all other nodes at `Any`
+-- the greatest over the alignments of k's own group, each beside all other groups at `Any`
 unfoldable pub approximateFound : List Frame → Frame → Found
-approximateFound fs k = greatestFound (λ a. scenarioFound fs k (set free (k .node - 1) (Fixed a))) (orEmpty (alignments fs k (k .node)))
+approximateFound fs k = greatestFound (λ a. scenarioFound fs k (set free (k .group - 1) (Fixed a))) (orEmpty (alignments fs k (k .group)))
 
 module _ (fs : List Frame) (k : Frame) (cs : List Choice) where
   -- A window, and the response in it.
@@ -111,32 +111,32 @@ module _ (fs : List Frame) (k : Frame) (cs : List Choice) where
       go Nothing e = rw (found-none e, response-none fs k cs e)
 
 module _ (fs : List Frame) {k : Frame} (valid : ValidFrame k) where
-  -- the scenario in which the own node has alignment a
+  -- the scenario in which the own group has alignment a
   abbrev own : ℕ → List Choice
-  own a = set free (k .node - 1) (Fixed a)
+  own a = set free (k .group - 1) (Fixed a)
 
   -- some alignment has no window
-  lacks : exists (λ a. isNone (scenarioFound fs k (own a))) (orEmpty (alignments fs k (k .node))) ≡ lacksWindow fs k
+  lacks : exists (λ a. isNone (scenarioFound fs k (own a))) (orEmpty (alignments fs k (k .group))) ≡ lacksWindow fs k
   unfolding lacksWindow
   lacks =
       same-test _ _
       (λ t.
-      let (a, m, u) = of-exists _ (orEmpty (alignments fs k (k .node))) t in
+      let (a, m, u) = of-exists _ (orEmpty (alignments fs k (k .group))) t in
       exists-mem _ (own-scenarios fs valid .1 (a, m, refl)) (rw (found-missed fs k (own a)) at u))
       (λ t.
-      let (cs, m, u) = of-exists _ (scenarios fs k (ownNode k)) t in
+      let (cs, m, u) = of-exists _ (scenarios fs k (ownGroup k)) t in
       let (a, l, e) = own-scenarios fs valid .0 m in
       exists-mem _ l (rw (found-missed fs k (own a), ← e) u))
 
   -- the greatest response is the bound
-  bounds : greatest (λ a. orZero (scenarioFound fs k (own a))) (orEmpty (alignments fs k (k .node))) ≡ approximateBound fs k
-  unfolding refined levels nodeAt range
-  bounds = ap (λ (h : ℕ → ℕ). greatest h (orEmpty (alignments fs k (k .node)))) (fun-ext (λ a. found-counts fs k (own a))) ∙ approximate-refined fs valid
+  bounds : greatest (λ a. orZero (scenarioFound fs k (own a))) (orEmpty (alignments fs k (k .group))) ≡ approximateBound fs k
+  unfolding refined levels groupAt range
+  bounds = ap (λ (h : ℕ → ℕ). greatest h (orEmpty (alignments fs k (k .group)))) (fun-ext (λ a. found-counts fs k (own a))) ∙ approximate-refined fs valid
 
   -- It is nothing where an alignment has no window, and otherwise the approximate bound.
   pub approximate-found : approximateFound fs k ≡ cond (lacksWindow fs k) Nothing (At (approximateBound fs k))
   unfolding approximateFound
-  approximate-found = greatest-found (λ a. scenarioFound fs k (own a)) (orEmpty (alignments fs k (k .node))) ∙ rw (lacks, bounds)
+  approximate-found = greatest-found (λ a. scenarioFound fs k (own a)) (orEmpty (alignments fs k (k .group))) ∙ rw (lacks, bounds)
 
   -- So it is nothing just where a window lacks,
   pub approximate-none : (approximateFound fs k ≡ Nothing) ↔ (lacksWindow fs k ≡ true)

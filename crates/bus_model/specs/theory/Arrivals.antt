@@ -6,7 +6,7 @@ use Rattle.bus_model.specs.declared.Frame.{Frame}
 
 -- how many instances of the frame are released before tick t
 unfoldable pub releasedBy : (ℕ → ℕ) → Frame → ℕ → ℕ
-releasedBy starts g t = releasesBefore (starts (g .node) + g .offset) (g .period) t
+releasedBy starts g t = releasesBefore (starts (g .group) + g .offset) (g .period) t
 
 -- how many are released at the ticks t .. t + x - 1
 unfoldable pub arrived : (ℕ → ℕ) → Frame → ℕ → ℕ → ℕ

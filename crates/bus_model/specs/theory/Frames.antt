@@ -1,4 +1,4 @@
--- The frames of a valid table: those of a node, those ahead, their phases, and the hyperperiod of a node.
+-- The frames of a valid table: those of a group, those ahead, their phases, and the hyperperiod of a group.
 -- `phase` and the hyperperiod are used through these laws alone.
 use Prim.Native.Nat.{ℕ, _≤_, _<_, _%_, _∣_}
 use mathlib.Core.Path.{_≡_, refl}
@@ -12,8 +12,8 @@ use Rattle.arith.specs.laws.Members.{mem-keep, of-keep, mem-getD, mem-range, pl
 use Rattle.arith.specs.laws.Multiples.{divides-lcmOf, lcmOf-pos}
 use Rattle.bus_model.specs.Frame.{noFrame, row}
 use Rattle.bus_model.specs.Valid.{ValidFrame, Valid}
-use Rattle.bus_model.specs.Pattern.{ofNode, hyperperiod}
-use Rattle.bus_model.specs.Bounds.{nodes, ahead, better, phase}
+use Rattle.bus_model.specs.Pattern.{ofGroup, hyperperiod}
+use Rattle.bus_model.specs.Bounds.{groups, ahead, better, phase}
 use Rattle.bus_model.specs.declared.Frame.{Frame}
 
 -- ---- one frame
@@ -28,9 +28,9 @@ pub phase-fits : {g : Frame} → ValidFrame g → phase g < g .period
 unfolding phase
 phase-fits valid = valid .offset
 
--- A frame's node is one of the nodes.
-pub node-listed : {g : Frame} → ValidFrame g → Mem (g .node) (range 1 nodes)
-node-listed {g} valid = mem-range 1 nodes (g .node) (valid .node-low) (omega (arith, valid .node-high))
+-- A frame's group is one of the groups.
+pub group-listed : {g : Frame} → ValidFrame g → Mem (g .group) (range 1 groups)
+group-listed {g} valid = mem-range 1 groups (g .group) (valid .group-low) (omega (arith, valid .group-high))
 
 -- ---- the frames of a table
 
@@ -52,37 +52,37 @@ pub of-ahead : (fs : List Frame) (k : Frame) {g : Frame} → Mem g (ahead fs k) 
 unfolding ahead
 of-ahead fs k m = of-keep _ fs m .0
 
--- ---- the frames of a node
+-- ---- the frames of a group
 
--- A frame of node j is one of the list, and of that node.
-pub of-node : (gs : List Frame) (j : ℕ) {g : Frame} → Mem g (ofNode gs j) → Mem g gs × (g .node ≡ j)
-unfolding ofNode
-of-node gs j {g} m = let (n, t) = of-keep _ gs m in (n, eqb→eq (g .node) j t)
+-- A frame of group j is one of the list, and of that group.
+pub of-group : (gs : List Frame) (j : ℕ) {g : Frame} → Mem g (ofGroup gs j) → Mem g gs × (g .group ≡ j)
+unfolding ofGroup
+of-group gs j {g} m = let (n, t) = of-keep _ gs m in (n, eqb→eq (g .group) j t)
 
--- And a frame of the list is one of its node.
-pub mem-node : {gs : List Frame} {g : Frame} → Mem g gs → {j : ℕ} → g .node ≡ j → Mem g (ofNode gs j)
-unfolding ofNode
-mem-node m {j} e = mem-keep _ m (rw e (eqb-refl j))
+-- And a frame of the list is one of its group.
+pub mem-group : {gs : List Frame} {g : Frame} → Mem g gs → {j : ℕ} → g .group ≡ j → Mem g (ofGroup gs j)
+unfolding ofGroup
+mem-group m {j} e = mem-keep _ m (rw e (eqb-refl j))
 
--- A part of the frames ahead is so at each node.
-pub node-part : (fs : List Frame) (k : Frame) {gs : List Frame} → Part fs k gs → (j : ℕ) (g : Frame) → Mem g (ofNode gs j) → Mem g (ofNode (ahead fs k) j)
-node-part fs k {gs} part j g m = let (n, e) = of-node gs j m in mem-node (part g n) e
+-- A part of the frames ahead is so at each group.
+pub group-part : (fs : List Frame) (k : Frame) {gs : List Frame} → Part fs k gs → (j : ℕ) (g : Frame) → Mem g (ofGroup gs j) → Mem g (ofGroup (ahead fs k) j)
+group-part fs k {gs} part j g m = let (n, e) = of-group gs j m in mem-group (part g n) e
 
 -- A frame is among those ahead of it.
-pub self-ahead : (fs : List Frame) (k : ℕ) → k < length fs → Mem (row fs k) (ofNode (ahead fs (row fs k)) (row fs k .node))
+pub self-ahead : (fs : List Frame) (k : ℕ) → k < length fs → Mem (row fs k) (ofGroup (ahead fs (row fs k)) (row fs k .group))
 unfolding ahead
 self-ahead fs k inside =
     let f = row fs k in
-    mem-node (mem-keep _ (mem-getD fs k noFrame inside) (le→leb (f .priority) (f .priority) (le-refl (f .priority)))) refl
+    mem-group (mem-keep _ (mem-getD fs k noFrame inside) (le→leb (f .priority) (f .priority) (le-refl (f .priority)))) refl
 
--- ---- the hyperperiod of a node
+-- ---- the hyperperiod of a group
 
--- It is a multiple of the period of each of the node's frames.
-pub node-divides : (fs : List Frame) (k : Frame) (j : ℕ) {g : Frame} → Mem g (ofNode (ahead fs k) j) → g .period ∣ hyperperiod (ofNode fs j)
+-- It is a multiple of the period of each of the group's frames.
+pub group-divides : (fs : List Frame) (k : Frame) (j : ℕ) {g : Frame} → Mem g (ofGroup (ahead fs k) j) → g .period ∣ hyperperiod (ofGroup fs j)
 unfolding hyperperiod
-node-divides fs k j m = let (n, e) = of-node (ahead fs k) j m in divides-lcmOf (λ g. g .period) (ofNode fs j) (mem-node (of-ahead fs k n) e)
+group-divides fs k j m = let (n, e) = of-group (ahead fs k) j m in divides-lcmOf (λ g. g .period) (ofGroup fs j) (mem-group (of-ahead fs k n) e)
 
 -- It is not 0.
-pub node-pos : {fs : List Frame} → Valid fs → (j : ℕ) → 1 ≤ hyperperiod (ofNode fs j)
+pub group-pos : {fs : List Frame} → Valid fs → (j : ℕ) → 1 ≤ hyperperiod (ofGroup fs j)
 unfolding hyperperiod
-node-pos {fs} valid j = lcmOf-pos (λ g. g .period) (ofNode fs j) (λ g m. valid-frame valid (of-node fs j m .0) .period)
+group-pos {fs} valid j = lcmOf-pos (λ g. g .period) (ofGroup fs j) (λ g m. valid-frame valid (of-group fs j m .0) .period)

@@ -14,7 +14,7 @@ use Rattle.arith.specs.laws.Multiples.{lcm-ge-second}
 use Rattle.arith.specs.laws.Walks.{Down, down-start, down-more, down-end}
 use Rattle.bus_model.specs.declared.Frame.{Frame}
 use Rattle.bus_model.specs.Frame.{noFrame, row}
-use Rattle.bus_model.specs.Pattern.{ofNode, hyperperiod}
+use Rattle.bus_model.specs.Pattern.{ofGroup, hyperperiod}
 
 -- of those frames that pass a test
 abbrev pub commonOf : (Frame → Bool) → List Frame → ℕ
@@ -55,20 +55,20 @@ module _ (fs : List Frame) (p : Frame → Bool) where
         let next = rw s at (common-more t (omega arith) refl refl) in
         le-trans (next .1) (common-le i _ (next .0))
 
--- ---- that of node j's frames
+-- ---- that of group j's frames
 
 abbrev pub hyperOf : ℕ → List Frame → ℕ
-hyperOf j gs = hyperperiod (ofNode gs j)
+hyperOf j gs = hyperperiod (ofGroup gs j)
 
 abbrev pub joinOf : ℕ → Frame → ℕ → ℕ
-joinOf j g h = joinBy (λ f. eqb (f .node) j) g h
+joinOf j g h = joinBy (λ f. eqb (f .group) j) g h
 
 module _ (fs : List Frame) (j : ℕ) (periods : (i : ℕ) → i < length fs → 1 ≤ row fs i .period) where
   pub hyper-more : {i : ℕ} {g : Frame} {h r : ℕ} → Down (hyperOf j) fs h i → 0 < i → g ≡ row fs (i - 1) → r ≡ joinOf j g h
       → Down (hyperOf j) fs r (i - 1) × (h ≤ r)
-  unfolding ofNode
-  hyper-more = common-more fs (λ f. eqb (f .node) j) periods
+  unfolding ofGroup
+  hyper-more = common-more fs (λ f. eqb (f .group) j) periods
 
   pub hyper-le : (i h : ℕ) → Down (hyperOf j) fs h i → h ≤ hyperOf j fs
-  unfolding ofNode
-  hyper-le = common-le fs (λ f. eqb (f .node) j) periods
+  unfolding ofGroup
+  hyper-le = common-le fs (λ f. eqb (f .group) j) periods

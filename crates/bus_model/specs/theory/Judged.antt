@@ -16,7 +16,7 @@ use Rattle.arith.specs.laws.Least.{not-none}
 use Rattle.bus_model.specs.Frame.{row}
 use Rattle.bus_model.specs.Valid.{Valid}
 use Rattle.bus_model.specs.Bus.{MeetsClaim}
-use Rattle.bus_model.specs.Bounds.{windowLimit, ownNode, everyNode, busyWindow, approximateBound, preciseBound}
+use Rattle.bus_model.specs.Bounds.{windowLimit, ownGroup, everyGroup, busyWindow, approximateBound, preciseBound}
 use Rattle.bus_model.specs.Judgement.{lacksWindow, tooManyScenarios, preciseOutcome, refinedOutcome, windowedOutcome, outcomeOf, verdict, boundUsed, marginOf, judge, MarginSign, certifies}
 use Rattle.bus_model.specs.theory.Scenarios.{Windowed, bound-le-limit, windows-refine, bound-refine}
 use Rattle.bus_model.specs.theory.Soundness.{sound-approximate, sound-precise}
@@ -25,17 +25,17 @@ use Rattle.bus_model.specs.declared.Outcome.{Outcome}
 use Rattle.bus_model.specs.declared.Outcome.the-variants.{CertifiedApproximate, CertifiedPrecise, ClaimTooSmall, Undecided, NoWindow}
 
 -- The approximate scenarios have windows where none lacks one.
-pub has-windows : (fs : List Frame) (k : Frame) → ¬ T (lacksWindow fs k) → Windowed fs k (ownNode k)
+pub has-windows : (fs : List Frame) (k : Frame) → ¬ T (lacksWindow fs k) → Windowed fs k (ownGroup k)
 unfolding lacksWindow
 has-windows fs k has cs m = not-none (busyWindow fs k cs) (λ t. has (exists-mem _ m t))
 
 -- What holds of an outcome in each of document 01's cases holds of the outcome.
 pub by-outcome : (P : Outcome → Type 0) (fs : List Frame) (k : Frame) (claim : ℕ)
     → (T (lacksWindow fs k) → P NoWindow)
-    → (Windowed fs k (ownNode k) → approximateBound fs k ≤ claim → P (CertifiedApproximate (approximateBound fs k)))
-    → (Windowed fs k (ownNode k) → claim < approximateBound fs k → T (tooManyScenarios fs k) → P (Undecided (approximateBound fs k)))
-    → (Windowed fs k (ownNode k) → claim < approximateBound fs k → ¬ T (tooManyScenarios fs k) → preciseBound fs k ≤ claim → P (CertifiedPrecise (preciseBound fs k)))
-    → (Windowed fs k (ownNode k) → claim < approximateBound fs k → ¬ T (tooManyScenarios fs k) → claim < preciseBound fs k → P (ClaimTooSmall (preciseBound fs k)))
+    → (Windowed fs k (ownGroup k) → approximateBound fs k ≤ claim → P (CertifiedApproximate (approximateBound fs k)))
+    → (Windowed fs k (ownGroup k) → claim < approximateBound fs k → T (tooManyScenarios fs k) → P (Undecided (approximateBound fs k)))
+    → (Windowed fs k (ownGroup k) → claim < approximateBound fs k → ¬ T (tooManyScenarios fs k) → preciseBound fs k ≤ claim → P (CertifiedPrecise (preciseBound fs k)))
+    → (Windowed fs k (ownGroup k) → claim < approximateBound fs k → ¬ T (tooManyScenarios fs k) → claim < preciseBound fs k → P (ClaimTooSmall (preciseBound fs k)))
     → P (outcomeOf fs k claim)
 unfolding outcomeOf windowedOutcome refinedOutcome preciseOutcome
 by-outcome P fs k claim lacking approximate crowded precise small =
@@ -103,23 +103,23 @@ module _ {fs : List Frame} (valid : Valid fs) {k : ℕ} (inside : k < length fs)
 
   -- ---- the bounds
 
-  own : T (ownNode f (f .node))
-  own = eqb-refl (f .node)
+  own : T (ownGroup f (f .group))
+  own = eqb-refl (f .group)
 
   -- Where the approximate scenarios have windows, the precise ones have.
-  pub precise-windows : Windowed fs f (ownNode f) → Windowed fs f everyNode
-  precise-windows windows = windows-refine valid inside (ownNode f) everyNode (λ j t. tt) windows
+  pub precise-windows : Windowed fs f (ownGroup f) → Windowed fs f everyGroup
+  precise-windows windows = windows-refine valid inside (ownGroup f) everyGroup (λ j t. tt) windows
 
   -- The precise bound is at most the approximate one.
-  pub precise-le-approximate : Windowed fs f (ownNode f) → preciseBound fs f ≤ approximateBound fs f
-  precise-le-approximate windows = bound-refine valid inside (ownNode f) everyNode (λ j t. tt) windows own
+  pub precise-le-approximate : Windowed fs f (ownGroup f) → preciseBound fs f ≤ approximateBound fs f
+  precise-le-approximate windows = bound-refine valid inside (ownGroup f) everyGroup (λ j t. tt) windows own
 
   -- The bound used is at most the longest window.
   pub judged-le-limit : (claim : ℕ) → judge fs f claim .bound ≤ windowLimit
   unfolding judge boundUsed
   judged-le-limit claim =
-      let approximate = bound-le-limit valid inside (ownNode f) own in
-      let precise = bound-le-limit valid inside everyNode tt in
+      let approximate = bound-le-limit valid inside (ownGroup f) own in
+      let precise = bound-le-limit valid inside everyGroup tt in
       by-outcome (λ o. boundUsed o ≤ windowLimit) fs f claim
       (λ lacks. omega arith)
       (λ windows le. approximate)

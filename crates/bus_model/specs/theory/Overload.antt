@@ -15,9 +15,9 @@ use Rattle.arith.specs.laws.Tests.{cond-yes}
 use Rattle.arith.specs.laws.Releases.{next-after}
 use Rattle.bus_model.specs.Frame.{row}
 use Rattle.bus_model.specs.Valid.{Valid}
-use Rattle.bus_model.specs.Bounds.{phase, distance, demand, choiceOf, scenarios, ownNode, windowLoad}
+use Rattle.bus_model.specs.Bounds.{phase, distance, demand, choiceOf, scenarios, ownGroup, windowLoad}
 use Rattle.bus_model.specs.Judgement.{lacksWindow, windowedOutcome, outcomeOf, boundUsed, marginOf, judge}
-use Rattle.bus_model.specs.theory.Frames.{node-listed, self-ahead}
+use Rattle.bus_model.specs.theory.Frames.{group-listed, self-ahead}
 use Rattle.bus_model.specs.theory.Alignment.{phase-aligned, phase-distance, or-empty}
 use Rattle.bus_model.specs.theory.Work.{work-own}
 use Rattle.bus_model.specs.theory.Response.{window-none}
@@ -39,15 +39,15 @@ module _ {fs : List Frame} (valid : Valid fs) {k : ℕ} (inside : k < length fs)
 
   -- the scenario in which the frame is released where its window opens
   abbrev at-once : List Choice
-  at-once = scenario (chosen (ownNode f) (λ j. phase f))
+  at-once = scenario (chosen (ownGroup f) (λ j. phase f))
 
   -- It is one of those of the approximate bound.
-  at-once-listed : Mem at-once (scenarios fs f (ownNode f))
-  at-once-listed = chosen-listed fs f (ownNode f) (λ j. phase f) (λ j t. rw (eqb→eq j (f .node) t) (or-empty (phase-aligned valid f (f .node) (self-ahead fs k inside))))
+  at-once-listed : Mem at-once (scenarios fs f (ownGroup f))
+  at-once-listed = chosen-listed fs f (ownGroup f) (λ j. phase f) (λ j t. rw (eqb→eq j (f .group) t) (or-empty (phase-aligned valid f (f .group) (self-ahead fs k inside))))
 
   -- It has that alignment.
-  at-once-own : choiceOf at-once (f .node) ≡ Fixed (phase f)
-  at-once-own = chosen-fixed (ownNode f) (λ j. phase f) (f .node) (node-listed (valid .frame k inside)) (eqb-refl (f .node))
+  at-once-own : choiceOf at-once (f .group) ≡ Fixed (phase f)
+  at-once-own = chosen-fixed (ownGroup f) (λ j. phase f) (f .group) (group-listed (valid .frame k inside)) (eqb-refl (f .group))
 
   -- A frame that is longer than its period has no window.
   pub overloaded : f .period < f .length → T (lacksWindow fs f)

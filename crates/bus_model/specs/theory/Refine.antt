@@ -1,6 +1,6 @@
--- The bounds found node by node: one node after the other takes each of its alignments, and the greatest response counts.
--- A branch may be left out where its scenario with the open nodes at `Any` has no greater response than one already found, or where
--- none has in which one of these nodes takes an alignment.
+-- The bounds found group by group: one group after the other takes each of its alignments, and the greatest response counts.
+-- A branch may be left out where its scenario with the open groups at `Any` has no greater response than one already found, or where
+-- none has in which one of these groups takes an alignment.
 use Prim.Native.Nat.{ℕ, zero, suc, _+_, _-_, _≤_, _<_}
 use mathlib.Core.Path.{_≡_, refl, sym, ap, _∙_}
 use mathlib.Core.List.{List, [], _∷_, map, List·Memᴰ as Mem, List·Memᴰ·head as here, List·Memᴰ·tail as there, List·Memᴰ·not-nil, List·Memᴰ·cases-cons, List·Memᴰ·eq-of-singleton, Memᴰ·map}
@@ -19,8 +19,8 @@ use Rattle.arith.specs.laws.Members.{exists-mem, of-exists, mem-range, of-range
 use Rattle.arith.specs.laws.Sums.{le-greatest, greatest-le}
 use Rattle.bus_model.specs.Frame.{row}
 use Rattle.bus_model.specs.Valid.{ValidFrame, Valid}
-use Rattle.bus_model.specs.Bounds.{nodes, alignments, orEmpty, choiceOf, choices, scenarios, ownNode, everyNode, busyWindow, scenarioResponse, boundOf, preciseBound, approximateBound}
-use Rattle.bus_model.specs.theory.Frames.{node-listed}
+use Rattle.bus_model.specs.Bounds.{groups, alignments, orEmpty, choiceOf, choices, scenarios, ownGroup, everyGroup, busyWindow, scenarioResponse, boundOf, preciseBound, approximateBound}
+use Rattle.bus_model.specs.theory.Frames.{group-listed}
 use Rattle.bus_model.specs.theory.Work.{Allows, RefinedBy}
 use Rattle.bus_model.specs.theory.Response.{response-refine}
 use Rattle.bus_model.specs.theory.Scenarios.{scenario-is, mem-scenarios, of-scenarios, scenarios-length, fixed-choice, allows-self}
@@ -29,35 +29,35 @@ use Rattle.bus_model.specs.declared.Frame.{Frame}
 use Rattle.bus_model.specs.declared.Choice.{Choice}
 use Rattle.bus_model.specs.declared.Choice.the-variants.{Fixed, Any}
 
--- ---- node by node
+-- ---- group by group
 
--- the greatest response where the nodes js take each of their alignments, one after the other, and the others stand as in cs
+-- the greatest response where the groups js take each of their alignments, one after the other, and the others stand as in cs
 unfoldable pub refined : List Frame → Frame → List ℕ → List Choice → ℕ
 refined fs k [] cs = scenarioResponse fs k cs
 refined fs k (j ∷ js) cs = greatest (λ a. refined fs k js (set cs (j - 1) (Fixed a))) (orEmpty (alignments fs k j))
 
--- no node is fixed
+-- no group is fixed
 abbrev pub free : List Choice
-free = replicate nodes Any
+free = replicate groups Any
 
--- ---- one node is fixed
+-- ---- one group is fixed
 
-module _ (cs : List Choice) {j : ℕ} (listed : Mem j (range 1 nodes)) where
+module _ (cs : List Choice) {j : ℕ} (listed : Mem j (range 1 groups)) where
   -- It has that alignment.
-  pub set-same : (a : ℕ) → length cs ≡ nodes → choiceOf (set cs (j - 1) (Fixed a)) j ≡ Fixed a
-  set-same a long = let (low, high) = of-range 1 nodes listed in getD-set-same cs (j - 1) (Fixed a) Any (omega arith)
+  pub set-same : (a : ℕ) → length cs ≡ groups → choiceOf (set cs (j - 1) (Fixed a)) j ≡ Fixed a
+  set-same a long = let (low, high) = of-range 1 groups listed in getD-set-same cs (j - 1) (Fixed a) Any (omega arith)
 
   -- The others stand as before.
-  pub set-other : (a : ℕ) {i : ℕ} → Mem i (range 1 nodes) → i ≢ j → choiceOf (set cs (j - 1) (Fixed a)) i ≡ choiceOf cs i
+  pub set-other : (a : ℕ) {i : ℕ} → Mem i (range 1 groups) → i ≢ j → choiceOf (set cs (j - 1) (Fixed a)) i ≡ choiceOf cs i
   set-other a {i} m other =
-      let (low, high) = of-range 1 nodes listed in
-      let (i-low, i-high) = of-range 1 nodes m in
+      let (low, high) = of-range 1 groups listed in
+      let (i-low, i-high) = of-range 1 groups m in
       getD-set-other cs (j - 1) (i - 1) (Fixed a) Any (λ e. other (omega arith))
 
 module _ (fs : List Frame) (k : Frame) where
   -- ---- the scenarios at the end
 
-  -- cs′ is cs with one alignment after the other for the nodes js
+  -- cs′ is cs with one alignment after the other for the groups js
   unfoldable Leaf : List ℕ → List Choice → List Choice → Type 0
   Leaf [] cs cs′ = cs′ ≡ cs
   Leaf (j ∷ js) cs cs′ = (a : ℕ) × Mem a (orEmpty (alignments fs k j)) × Leaf js (set cs (j - 1) (Fixed a)) cs′
@@ -84,42 +84,42 @@ module _ (fs : List Frame) (k : Frame) where
 
 -- ---- they are the scenarios of a bound
 
--- js lists the nodes that `fixes` names
+-- js lists the groups that `fixes` names
 pub record Names (fixes : ℕ → Bool) (js : List ℕ) : Type 0 where
-  pub node : (j : ℕ) → Mem j js → Mem j (range 1 nodes)
+  pub group : (j : ℕ) → Mem j js → Mem j (range 1 groups)
   pub named : (j : ℕ) → Mem j js → T (fixes j)
-  pub all : (j : ℕ) → Mem j (range 1 nodes) → T (fixes j) → Mem j js
+  pub all : (j : ℕ) → Mem j (range 1 groups) → T (fixes j) → Mem j js
 
--- Any nodes are those that a search for them names.
-pub listed-named : (js : List ℕ) → ((j : ℕ) → Mem j js → Mem j (range 1 nodes)) → Names (λ j. exists (eqb j) js) js
-listed-named js node =
+-- Any groups are those that a search for them names.
+pub listed-named : (js : List ℕ) → ((j : ℕ) → Mem j js → Mem j (range 1 groups)) → Names (λ j. exists (eqb j) js) js
+listed-named js group =
     record {
-      node = node;
+      group = group;
       named = λ j m. exists-mem (eqb j) m (eqb-refl j);
       all = λ j l t. let (i, m, u) = of-exists (eqb j) js t in rw (eqb→eq j i u) m;
     }
 
 module _ (fs : List Frame) (k : Frame) (fixes : ℕ → Bool) where
-  -- the choices of cs are those of a scenario, but for the nodes js, which are still to take theirs
+  -- the choices of cs are those of a scenario, but for the groups js, which are still to take theirs
   record Partly (js : List ℕ) (cs : List Choice) : Type 0 where
-    long : length cs ≡ nodes
-    node : (j : ℕ) → Mem j js → Mem j (range 1 nodes)
+    long : length cs ≡ groups
+    group : (j : ℕ) → Mem j js → Mem j (range 1 groups)
     named : (j : ℕ) → Mem j js → T (fixes j)
-    rest : (i : ℕ) → Mem i (range 1 nodes) → Mem i js ⊎ Mem (choiceOf cs i) (choices fs k (fixes i) i)
+    rest : (i : ℕ) → Mem i (range 1 groups) → Mem i js ⊎ Mem (choiceOf cs i) (choices fs k (fixes i) i)
 
-  -- one more node takes its alignment
+  -- one more group takes its alignment
   partly-more : (j : ℕ) (js : List ℕ) (cs : List Choice) (a : ℕ) → Mem a (orEmpty (alignments fs k j)) → Partly (j ∷ js) cs → Partly js (set cs (j - 1) (Fixed a))
   unfolding choices
   partly-more j js cs a m p =
       record {
         long = length-set cs (j - 1) (Fixed a) ∙ p .long;
-        node = λ i l. p .node i (there l);
+        group = λ i l. p .group i (there l);
         named = λ i l. p .named i (there l);
         rest = λ i l. elim (ℕ-discrete i j) [
-          | yes e ↦ inr (rw (e, set-same cs (p .node j (here refl)) a (p .long)) (taken (fixes j) (p .named j (here refl))))
+          | yes e ↦ inr (rw (e, set-same cs (p .group j (here refl)) a (p .long)) (taken (fixes j) (p .named j (here refl))))
           | no other ↦ elim (p .rest i l) [
             | inl later ↦ elim (List·Memᴰ·cases-cons later) [ inl e ↦ absurd (other e) | inr n ↦ inl n ]
-            | inr now ↦ inr (rw (set-other cs (p .node j (here refl)) a l other) now)
+            | inr now ↦ inr (rw (set-other cs (p .group j (here refl)) a l other) now)
           ]
         ];
       }
@@ -128,35 +128,35 @@ module _ (fs : List Frame) (k : Frame) (fixes : ℕ → Bool) where
       taken true t = Memᴰ·map Fixed m
       taken false t = absurd t
 
-  -- Where two lists of choices agree but for the nodes js, and the second fixes these, the first becomes the second.
-  becomes : (js : List ℕ) (cs cs′ : List Choice) → length cs ≡ nodes → length cs′ ≡ nodes → ((j : ℕ) → Mem j js → Mem j (range 1 nodes))
+  -- Where two lists of choices agree but for the groups js, and the second fixes these, the first becomes the second.
+  becomes : (js : List ℕ) (cs cs′ : List Choice) → length cs ≡ groups → length cs′ ≡ groups → ((j : ℕ) → Mem j js → Mem j (range 1 groups))
       → ((j : ℕ) → Mem j js → (a : ℕ) × Mem a (orEmpty (alignments fs k j)) × (choiceOf cs′ j ≡ Fixed a))
-      → ((i : ℕ) → Mem i (range 1 nodes) → ¬ Mem i js → choiceOf cs i ≡ choiceOf cs′ i) → Leaf fs k js cs cs′
+      → ((i : ℕ) → Mem i (range 1 groups) → ¬ Mem i js → choiceOf cs i ≡ choiceOf cs′ i) → Leaf fs k js cs cs′
   unfolding Leaf
-  becomes [] cs cs′ long long′ node takes agree =
+  becomes [] cs cs′ long long′ group takes agree =
       ext-getD Any cs′ cs (long′ ∙ sym long) (λ i inside.
       let place : suc i - 1 ≡ i = omega arith in
-      rw place at (sym (agree (suc i) (mem-range 1 nodes (suc i) (omega arith) (omega arith)) List·Memᴰ·not-nil)))
-  becomes (j ∷ js) cs cs′ long long′ node takes agree =
+      rw place at (sym (agree (suc i) (mem-range 1 groups (suc i) (omega arith) (omega arith)) List·Memᴰ·not-nil)))
+  becomes (j ∷ js) cs cs′ long long′ group takes agree =
       let (a, m, e) = takes j (here refl) in (
         a,
         m,
-        becomes js (set cs (j - 1) (Fixed a)) cs′ (length-set cs (j - 1) (Fixed a) ∙ long) long′ (λ i l. node i (there l)) (λ i l. takes i (there l)) (λ i l later.
+        becomes js (set cs (j - 1) (Fixed a)) cs′ (length-set cs (j - 1) (Fixed a) ∙ long) long′ (λ i l. group i (there l)) (λ i l. takes i (there l)) (λ i l later.
             elim (ℕ-discrete i j) [
-              | yes same ↦ rw (same, set-same cs (node j (here refl)) a long) (sym e)
-              | no other ↦ set-other cs (node j (here refl)) a l other ∙ agree i l (λ n. elim (List·Memᴰ·cases-cons n) [ inl now ↦ other now | inr later-on ↦ later later-on ])
+              | yes same ↦ rw (same, set-same cs (group j (here refl)) a long) (sym e)
+              | no other ↦ set-other cs (group j (here refl)) a l other ∙ agree i l (λ n. elim (List·Memᴰ·cases-cons n) [ inl now ↦ other now | inr later-on ↦ later later-on ])
             ]),
       )
 
   module _ (js : List ℕ) (names : Names fixes js) where
-    -- no node has taken one yet
+    -- no group has taken one yet
     partly-none : Partly js free
     unfolding choices
-    partly-none = record { long = refl; node = names .node; named = names .named; rest = λ i l. go i l (fixes i) refl }
+    partly-none = record { long = refl; group = names .group; named = names .named; rest = λ i l. go i l (fixes i) refl }
       where
-        go : (i : ℕ) → Mem i (range 1 nodes) → (b : Bool) → fixes i ≡ b → Mem i js ⊎ Mem (choiceOf free i) (choices fs k b i)
+        go : (i : ℕ) → Mem i (range 1 groups) → (b : Bool) → fixes i ≡ b → Mem i js ⊎ Mem (choiceOf free i) (choices fs k b i)
         go i l true e = inl (names .all i l (rw e tt))
-        go i l false e = let (low, high) = of-range 1 nodes l in inr (here (getD-replicate nodes (i - 1) Any Any (omega arith)))
+        go i l false e = let (low, high) = of-range 1 groups l in inr (here (getD-replicate groups (i - 1) Any Any (omega arith)))
 
     -- so all have in the end
     leaf-listed : {cs : List Choice} → Leaf fs k js free cs → Mem cs (scenarios fs k fixes)
@@ -168,15 +168,15 @@ module _ (fs : List Frame) (k : Frame) (fixes : ℕ → Bool) where
     listed-leaf : {cs : List Choice} → Mem cs (scenarios fs k fixes) → Leaf fs k js free cs
     unfolding choices
     listed-leaf {cs} m =
-        becomes js free cs refl (scenarios-length fs k fixes m) (names .node)
-        (λ j l. fixed-choice fs k j (fixes j) (names .named j l) (of-scenarios fs k fixes m j (names .node j l)))
+        becomes js free cs refl (scenarios-length fs k fixes m) (names .group)
+        (λ j l. fixed-choice fs k j (fixes j) (names .named j l) (of-scenarios fs k fixes m j (names .group j l)))
         (λ i l none. go i l none (fixes i) refl (of-scenarios fs k fixes m i l))
       where
-        go : (i : ℕ) → Mem i (range 1 nodes) → ¬ Mem i js → (b : Bool) → fixes i ≡ b → Mem (choiceOf cs i) (choices fs k b i) → choiceOf free i ≡ choiceOf cs i
+        go : (i : ℕ) → Mem i (range 1 groups) → ¬ Mem i js → (b : Bool) → fixes i ≡ b → Mem (choiceOf cs i) (choices fs k b i) → choiceOf free i ≡ choiceOf cs i
         go i l none true e n = absurd (none (names .all i l (rw e tt)))
-        go i l none false e n = let (low, high) = of-range 1 nodes l in getD-replicate nodes (i - 1) Any Any (omega arith) ∙ sym (List·Memᴰ·eq-of-singleton n)
+        go i l none false e n = let (low, high) = of-range 1 groups l in getD-replicate groups (i - 1) Any Any (omega arith) ∙ sym (List·Memᴰ·eq-of-singleton n)
 
-    -- Node by node the bound is found.
+    -- Group by group the bound is found.
     pub refined-bound : refined fs k js free ≡ boundOf fs k fixes
     unfolding boundOf
     refined-bound =
@@ -184,115 +184,115 @@ module _ (fs : List Frame) (k : Frame) (fixes : ℕ → Bool) where
         let least = greatest-le (scenarios fs k fixes) (λ cs m. leaf-le fs k js free cs (listed-leaf m)) in
         omega arith
 
--- ---- the order in which nodes are fixed
+-- ---- the order in which groups are fixed
 
--- the node of level i: k's own, then the others, rising
-unfoldable pub nodeAt : Frame → ℕ → ℕ
-nodeAt k zero = k .node
-nodeAt k (suc i) = cond (ltb (suc i) (k .node)) (suc i) (suc (suc i))
+-- the group of level i: k's own, then the others, rising
+unfoldable pub groupAt : Frame → ℕ → ℕ
+groupAt k zero = k .group
+groupAt k (suc i) = cond (ltb (suc i) (k .group)) (suc i) (suc (suc i))
 
 -- those of the levels i .. stop - 1
 unfoldable pub levels : Frame → ℕ → ℕ → List ℕ
-levels k i stop = map (nodeAt k) (range i (stop - i))
+levels k i stop = map (groupAt k) (range i (stop - i))
 
 module _ (k : Frame) where
-  -- What the levels list is the node of one of them.
-  pub of-levels : (i stop : ℕ) {j : ℕ} → Mem j (levels k i stop) → (m : ℕ) × (i ≤ m) × (m < stop) × (j ≡ nodeAt k m)
+  -- What the levels list is the group of one of them.
+  pub of-levels : (i stop : ℕ) {j : ℕ} → Mem j (levels k i stop) → (m : ℕ) × (i ≤ m) × (m < stop) × (j ≡ groupAt k m)
   unfolding levels
   of-levels i stop l =
-      let (m, r, e) = of-map (nodeAt k) (range i (stop - i)) l in
+      let (m, r, e) = of-map (groupAt k) (range i (stop - i)) l in
       let (low, high) = of-range i (stop - i) r in
       (m, low, omega arith, e)
 
   -- The first has k's own.
-  pub node-first : nodeAt k 0 ≡ k .node
-  unfolding nodeAt
-  node-first = refl
+  pub group-first : groupAt k 0 ≡ k .group
+  unfolding groupAt
+  group-first = refl
 
-  -- Up to k's own a level has the node of its number.
-  pub node-before : (i : ℕ) → 0 < i → i < k .node → nodeAt k i ≡ i
-  unfolding nodeAt
-  node-before zero some less = absurd (omega arith)
-  node-before (suc i) some less = rw (lt-ltb (suc i) (k .node) less)
+  -- Up to k's own a level has the group of its number.
+  pub group-before : (i : ℕ) → 0 < i → i < k .group → groupAt k i ≡ i
+  unfolding groupAt
+  group-before zero some less = absurd (omega arith)
+  group-before (suc i) some less = rw (lt-ltb (suc i) (k .group) less)
 
   -- From there on it has the next.
-  pub node-after : (i : ℕ) → 0 < i → k .node ≤ i → nodeAt k i ≡ i + 1
-  unfolding nodeAt
-  node-after zero some le = absurd (omega arith)
-  node-after (suc i) some le = rw (le-ltb (suc i) (k .node) le) (omega arith)
+  pub group-after : (i : ℕ) → 0 < i → k .group ≤ i → groupAt k i ≡ i + 1
+  unfolding groupAt
+  group-after zero some le = absurd (omega arith)
+  group-after (suc i) some le = rw (le-ltb (suc i) (k .group) le) (omega arith)
 
-  -- Two levels have two nodes.
-  node-apart : (i m : ℕ) → i < m → nodeAt k i ≢ nodeAt k m
-  node-apart zero m less e =
-      elim (decLt m (k .node)) [
-        | yes low ↦ omega (arith, node-first, node-before m less low)
-        | no high ↦ omega (arith, node-first, node-after m less (omega arith))
+  -- Two levels have two groups.
+  group-apart : (i m : ℕ) → i < m → groupAt k i ≢ groupAt k m
+  group-apart zero m less e =
+      elim (decLt m (k .group)) [
+        | yes low ↦ omega (arith, group-first, group-before m less low)
+        | no high ↦ omega (arith, group-first, group-after m less (omega arith))
       ]
-  node-apart (suc i) m less e =
-      elim (decLt m (k .node)) [
-        | yes low ↦ omega (arith, node-before (suc i) (omega arith) (omega arith), node-before m (omega arith) low)
-        | no high ↦ elim (decLt (suc i) (k .node)) [
-          | yes low ↦ omega (arith, node-before (suc i) (omega arith) low, node-after m (omega arith) (omega arith))
-          | no both ↦ omega (arith, node-after (suc i) (omega arith) (omega arith), node-after m (omega arith) (omega arith))
+  group-apart (suc i) m less e =
+      elim (decLt m (k .group)) [
+        | yes low ↦ omega (arith, group-before (suc i) (omega arith) (omega arith), group-before m (omega arith) low)
+        | no high ↦ elim (decLt (suc i) (k .group)) [
+          | yes low ↦ omega (arith, group-before (suc i) (omega arith) low, group-after m (omega arith) (omega arith))
+          | no both ↦ omega (arith, group-after (suc i) (omega arith) (omega arith), group-after m (omega arith) (omega arith))
         ]
       ]
 
   module _ (valid : ValidFrame k) where
-    -- A level's node is one of the nodes.
-    pub level-node : (i : ℕ) → i < nodes → Mem (nodeAt k i) (range 1 nodes)
-    level-node zero inside = rw node-first (node-listed valid)
-    level-node (suc i) inside =
-        elim (decLt (suc i) (k .node)) [
-          | yes low ↦ rw (node-before (suc i) (omega arith) low) (mem-range 1 nodes (suc i) (omega arith) (omega arith))
-          | no high ↦ rw (node-after (suc i) (omega arith) (omega arith)) (mem-range 1 nodes (suc i + 1) (omega arith) (omega arith))
+    -- A level's group is one of the groups.
+    pub level-group : (i : ℕ) → i < groups → Mem (groupAt k i) (range 1 groups)
+    level-group zero inside = rw group-first (group-listed valid)
+    level-group (suc i) inside =
+        elim (decLt (suc i) (k .group)) [
+          | yes low ↦ rw (group-before (suc i) (omega arith) low) (mem-range 1 groups (suc i) (omega arith) (omega arith))
+          | no high ↦ rw (group-after (suc i) (omega arith) (omega arith)) (mem-range 1 groups (suc i + 1) (omega arith) (omega arith))
         ]
 
-    -- Every node has a level.
-    node-level : (j : ℕ) → Mem j (range 1 nodes) → (i : ℕ) × (i < nodes) × (j ≡ nodeAt k i)
-    node-level j m =
-        let (low, high) = of-range 1 nodes m in
-        elim (decLt j (k .node)) [
-          | yes less ↦ (j, omega (arith, valid .node-high), sym (node-before j low less))
-          | no more ↦ elim (decLt (k .node) j) [
-            | yes after ↦ (j - 1, omega arith, omega (arith, node-after (j - 1) (omega (arith, valid .node-low)) (omega arith)))
-            | no same ↦ (0, omega arith, omega (arith, node-first))
+    -- Every group has a level.
+    group-level : (j : ℕ) → Mem j (range 1 groups) → (i : ℕ) × (i < groups) × (j ≡ groupAt k i)
+    group-level j m =
+        let (low, high) = of-range 1 groups m in
+        elim (decLt j (k .group)) [
+          | yes less ↦ (j, omega (arith, valid .group-high), sym (group-before j low less))
+          | no more ↦ elim (decLt (k .group) j) [
+            | yes after ↦ (j - 1, omega arith, omega (arith, group-after (j - 1) (omega (arith, valid .group-low)) (omega arith)))
+            | no same ↦ (0, omega arith, omega (arith, group-first))
           ]
         ]
 
-    -- The first level names k's own node.
-    own-named : Names (ownNode k) (levels k 0 1)
-    unfolding levels nodeAt range
+    -- The first level names k's own group.
+    own-named : Names (ownGroup k) (levels k 0 1)
+    unfolding levels groupAt range
     own-named =
         record {
-          node = λ j m. rw (List·Memᴰ·eq-of-singleton m) (node-listed valid);
-          named = λ j m. rw (List·Memᴰ·eq-of-singleton m) (eqb-refl (k .node));
-          all = λ j l t. here (eqb→eq j (k .node) t);
+          group = λ j m. rw (List·Memᴰ·eq-of-singleton m) (group-listed valid);
+          named = λ j m. rw (List·Memᴰ·eq-of-singleton m) (eqb-refl (k .group));
+          all = λ j l t. here (eqb→eq j (k .group) t);
         }
 
-    -- All levels together name every node.
-    every-named : Names everyNode (levels k 0 nodes)
+    -- All levels together name every group.
+    every-named : Names everyGroup (levels k 0 groups)
     unfolding levels
     every-named =
         record {
-          node = λ j l. let (i, low, high, e) = of-levels 0 nodes l in rw e (level-node i high);
+          group = λ j l. let (i, low, high, e) = of-levels 0 groups l in rw e (level-group i high);
           named = λ j m. tt;
-          all = λ j l t. let (i, inside, e) = node-level j l in rw e (Memᴰ·map (nodeAt k) (mem-range 0 nodes i (omega arith) (omega arith)));
+          all = λ j l t. let (i, inside, e) = group-level j l in rw e (Memᴰ·map (groupAt k) (mem-range 0 groups i (omega arith) (omega arith)));
         }
 
 module _ (fs : List Frame) {k : Frame} (valid : ValidFrame k) where
   -- The approximate bound is found at the first level.
   pub approximate-refined : refined fs k (levels k 0 1) free ≡ approximateBound fs k
-  approximate-refined = refined-bound fs k (ownNode k) (levels k 0 1) (own-named k valid)
+  approximate-refined = refined-bound fs k (ownGroup k) (levels k 0 1) (own-named k valid)
 
-  -- Its scenarios are those in which the own node has one of its alignments and no other is fixed.
-  pub own-scenarios : {cs : List Choice} → Mem cs (scenarios fs k (ownNode k)) ↔ ((a : ℕ) × Mem a (orEmpty (alignments fs k (k .node))) × (cs ≡ set free (k .node - 1) (Fixed a)))
-  unfolding Leaf levels nodeAt range
+  -- Its scenarios are those in which the own group has one of its alignments and no other is fixed.
+  pub own-scenarios : {cs : List Choice} → Mem cs (scenarios fs k (ownGroup k)) ↔ ((a : ℕ) × Mem a (orEmpty (alignments fs k (k .group))) × (cs ≡ set free (k .group - 1) (Fixed a)))
+  unfolding Leaf levels groupAt range
   own-scenarios =
-      (λ m. listed-leaf fs k (ownNode k) (levels k 0 1) (own-named k valid) m, λ l. leaf-listed fs k (ownNode k) (levels k 0 1) (own-named k valid) l)
+      (λ m. listed-leaf fs k (ownGroup k) (levels k 0 1) (own-named k valid) m, λ l. leaf-listed fs k (ownGroup k) (levels k 0 1) (own-named k valid) l)
 
   -- The precise bound is found at the last.
-  pub precise-refined : refined fs k (levels k 0 nodes) free ≡ preciseBound fs k
-  precise-refined = refined-bound fs k everyNode (levels k 0 nodes) (every-named k valid)
+  pub precise-refined : refined fs k (levels k 0 groups) free ≡ preciseBound fs k
+  precise-refined = refined-bound fs k everyGroup (levels k 0 groups) (every-named k valid)
 
 module _ (fs : List Frame) (k : Frame) (cs : List Choice) where
   -- Where no level is left, the scenario's response counts.
@@ -300,42 +300,42 @@ module _ (fs : List Frame) (k : Frame) (cs : List Choice) where
   unfolding refined levels range
   refined-end i stop over = let none : stop - i ≡ 0 = omega arith in rw none
 
-  -- Where one is, its node takes each of its alignments.
+  -- Where one is, its group takes each of its alignments.
   pub refined-step : (i stop : ℕ) → i < stop
-      → refined fs k (levels k i stop) cs ≡ greatest (λ a. refined fs k (levels k (i + 1) stop) (set cs (nodeAt k i - 1) (Fixed a))) (orEmpty (alignments fs k (nodeAt k i)))
+      → refined fs k (levels k i stop) cs ≡ greatest (λ a. refined fs k (levels k (i + 1) stop) (set cs (groupAt k i - 1) (Fixed a))) (orEmpty (alignments fs k (groupAt k i)))
   unfolding refined levels range
   refined-step i stop inside = let some : stop - i ≡ suc (stop - suc i) = omega arith in rw some (rw add-one)
 
--- The choices of a search that has come to level i: the nodes of the levels from i on are open, k's own is fixed before.
+-- The choices of a search that has come to level i: the groups of the levels from i on are open, k's own is fixed before.
 pub record Level (k : Frame) (i : ℕ) (cs : List Choice) : Type 0 where
-  pub long : length cs ≡ nodes
-  pub left : (m : ℕ) → i ≤ m → m < nodes → choiceOf cs (nodeAt k m) ≡ Any
-  pub own : 0 < i → (a : ℕ) × (choiceOf cs (k .node) ≡ Fixed a)
+  pub long : length cs ≡ groups
+  pub left : (m : ℕ) → i ≤ m → m < groups → choiceOf cs (groupAt k m) ≡ Any
+  pub own : 0 < i → (a : ℕ) × (choiceOf cs (k .group) ≡ Fixed a)
 
 module _ {k : Frame} (valid : ValidFrame k) where
-  -- It starts with no node fixed.
+  -- It starts with no group fixed.
   pub level-start : Level k 0 free
   level-start =
       record {
         long = refl;
-        left = λ m low high. let (l, h) = of-range 1 nodes (level-node k valid m high) in getD-replicate nodes (nodeAt k m - 1) Any Any (omega arith);
+        left = λ m low high. let (l, h) = of-range 1 groups (level-group k valid m high) in getD-replicate groups (groupAt k m - 1) Any Any (omega arith);
         own = λ some. absurd (omega arith);
       }
 
-  -- It goes on by an alignment a of the level's node j.
-  pub level-more : {i : ℕ} {cs : List Choice} → Level k i cs → i < nodes → (j a : ℕ) → j ≡ nodeAt k i → Level k (i + 1) (set cs (j - 1) (Fixed a))
+  -- It goes on by an alignment a of the level's group j.
+  pub level-more : {i : ℕ} {cs : List Choice} → Level k i cs → i < groups → (j a : ℕ) → j ≡ groupAt k i → Level k (i + 1) (set cs (j - 1) (Fixed a))
   level-more {i} {cs} level inside j a e =
       rw e (record {
-        long = length-set cs (nodeAt k i - 1) (Fixed a) ∙ level .long;
-        left = λ m low high. set-other cs (level-node k valid i inside) a (level-node k valid m high) (λ same. node-apart k i m (omega arith) (sym same)) ∙ level .left m (omega arith) high;
+        long = length-set cs (groupAt k i - 1) (Fixed a) ∙ level .long;
+        left = λ m low high. set-other cs (level-group k valid i inside) a (level-group k valid m high) (λ same. group-apart k i m (omega arith) (sym same)) ∙ level .left m (omega arith) high;
         own = λ some. own i refl;
       })
     where
-      own : (n : ℕ) → i ≡ n → (b : ℕ) × (choiceOf (set cs (nodeAt k i - 1) (Fixed a)) (k .node) ≡ Fixed b)
-      own zero z = (a, rw (z, node-first) (set-same cs (node-listed valid) a (level .long)))
+      own : (n : ℕ) → i ≡ n → (b : ℕ) × (choiceOf (set cs (groupAt k i - 1) (Fixed a)) (k .group) ≡ Fixed b)
+      own zero z = (a, rw (z, group-first) (set-same cs (group-listed valid) a (level .long)))
       own (suc n) z =
           let (b, fixed) = level .own (omega arith) in
-          (b, set-other cs (level-node k valid i inside) a (node-listed valid) (λ same. node-apart k 0 i (omega arith) (node-first k ∙ same)) ∙ fixed)
+          (b, set-other cs (level-group k valid i inside) a (group-listed valid) (λ same. group-apart k 0 i (omega arith) (group-first k ∙ same)) ∙ fixed)
 
 -- ---- leaving out a branch
 
@@ -346,13 +346,13 @@ allowed-fixed als (Fixed b) e = ap Fixed (sym e)
 allowed-fixed als Any none = absurd none
 
 module _ (fs : List Frame) (k : Frame) (cs cs′ : List Choice) (refines : RefinedBy fs k cs cs′) where
-  -- A scenario that refines cs fixes the same alignment of k's own node.
-  pub own-kept : ValidFrame k → {a : ℕ} → choiceOf cs (k .node) ≡ Fixed a → choiceOf cs′ (k .node) ≡ Fixed a
-  own-kept valid fixed = allowed-fixed (alignments fs k (k .node)) (choiceOf cs′ (k .node)) (rw fixed at (refines (k .node) (node-listed valid)))
+  -- A scenario that refines cs fixes the same alignment of k's own group.
+  pub own-kept : ValidFrame k → {a : ℕ} → choiceOf cs (k .group) ≡ Fixed a → choiceOf cs′ (k .group) ≡ Fixed a
+  own-kept valid fixed = allowed-fixed (alignments fs k (k .group)) (choiceOf cs′ (k .group)) (rw fixed at (refines (k .group) (group-listed valid)))
 
-  module _ {j : ℕ} (listed : Mem j (range 1 nodes)) {a : ℕ} where
-    -- It still does with an alignment more, of a node that cs leaves open.
-    refines-more : length cs′ ≡ nodes → choiceOf cs j ≡ Any → Mem a (orEmpty (alignments fs k j)) → RefinedBy fs k cs (set cs′ (j - 1) (Fixed a))
+  module _ {j : ℕ} (listed : Mem j (range 1 groups)) {a : ℕ} where
+    -- It still does with an alignment more, of a group that cs leaves open.
+    refines-more : length cs′ ≡ groups → choiceOf cs j ≡ Any → Mem a (orEmpty (alignments fs k j)) → RefinedBy fs k cs (set cs′ (j - 1) (Fixed a))
     unfolding Allows
     refines-more long left m i l =
         elim (ℕ-discrete i j) [
@@ -364,39 +364,39 @@ module _ (fs : List Frame) (k : Frame) (cs cs′ : List Choice) (refines : Refin
 refines-self : (fs : List Frame) (k : Frame) (cs : List Choice) → RefinedBy fs k cs cs
 refines-self fs k cs j l = allows-self (alignments fs k j) (choiceOf cs j)
 
--- and it is refined by an alignment of a node that is open.
-pub refines-node : (fs : List Frame) (k : Frame) (cs : List Choice) {j : ℕ} → Mem j (range 1 nodes) → {a : ℕ} → length cs ≡ nodes → choiceOf cs j ≡ Any
+-- and it is refined by an alignment of a group that is open.
+pub refines-group : (fs : List Frame) (k : Frame) (cs : List Choice) {j : ℕ} → Mem j (range 1 groups) → {a : ℕ} → length cs ≡ groups → choiceOf cs j ≡ Any
     → Mem a (orEmpty (alignments fs k j)) → RefinedBy fs k cs (set cs (j - 1) (Fixed a))
-refines-node fs k cs listed = refines-more fs k cs cs (refines-self fs k cs) listed
+refines-group fs k cs listed = refines-more fs k cs cs (refines-self fs k cs) listed
 
 module _ {fs : List Frame} (valid : Valid fs) {k : ℕ} (inside : k < length fs) where
   abbrev f : Frame
   f = row fs k
 
-  -- No scenario that refines one with a window has a greater response, where the frame's own node is fixed.
-  response-below : (cs cs′ : List Choice) → RefinedBy fs f cs cs′ → {a : ℕ} → choiceOf cs (f .node) ≡ Fixed a → {l : ℕ} → busyWindow fs f cs ≡ At l
+  -- No scenario that refines one with a window has a greater response, where the frame's own group is fixed.
+  response-below : (cs cs′ : List Choice) → RefinedBy fs f cs cs′ → {a : ℕ} → choiceOf cs (f .group) ≡ Fixed a → {l : ℕ} → busyWindow fs f cs ≡ At l
       → scenarioResponse fs f cs′ ≤ scenarioResponse fs f cs
   response-below cs cs′ refines {a} own {l} window = response-refine valid inside cs cs′ refines l window a own (own-kept fs f cs cs′ refines (valid .frame k inside) own)
 
-  -- cs′ refines cs, and cs leaves the nodes js open
+  -- cs′ refines cs, and cs leaves the groups js open
   record Finer (cs : List Choice) (js : List ℕ) (cs′ : List Choice) : Type 0 where
-    long : length cs′ ≡ nodes
-    node : (j : ℕ) → Mem j js → Mem j (range 1 nodes)
+    long : length cs′ ≡ groups
+    group : (j : ℕ) → Mem j js → Mem j (range 1 groups)
     left : (j : ℕ) → Mem j js → choiceOf cs j ≡ Any
     refines : RefinedBy fs f cs cs′
 
-  -- one more node takes its alignment
+  -- one more group takes its alignment
   finer-more : (cs : List Choice) (j : ℕ) (js : List ℕ) (cs′ : List Choice) (a : ℕ) → Mem a (orEmpty (alignments fs f j)) → Finer cs (j ∷ js) cs′ → Finer cs js (set cs′ (j - 1) (Fixed a))
   finer-more cs j js cs′ a m p =
       record {
         long = length-set cs′ (j - 1) (Fixed a) ∙ p .long;
-        node = λ i l. p .node i (there l);
+        group = λ i l. p .group i (there l);
         left = λ i l. p .left i (there l);
-        refines = refines-more fs f cs cs′ (p .refines) (p .node j (here refl)) (p .long) (p .left j (here refl)) m;
+        refines = refines-more fs f cs cs′ (p .refines) (p .group j (here refl)) (p .long) (p .left j (here refl)) m;
       }
 
   -- A search has come to a level after the first, and its scenario has a window.
-  module _ {i : ℕ} {cs : List Choice} (level : Level f i cs) (some : 0 < i) (stop : ℕ) (within : stop ≤ nodes) (l : ℕ) (window : busyWindow fs f cs ≡ At l) where
+  module _ {i : ℕ} {cs : List Choice} (level : Level f i cs) (some : 0 < i) (stop : ℕ) (within : stop ≤ groups) (l : ℕ) (window : busyWindow fs f cs ≡ At l) where
     self : ValidFrame f
     self = valid .frame k inside
 
@@ -405,7 +405,7 @@ module _ {fs : List Frame} (valid : Valid fs) {k : ℕ} (inside : k < length fs)
     unrefined =
         record {
           long = level .long;
-          node = λ j m. let (n, low, high, e) = of-levels f i stop m in rw e (level-node f self n (omega arith));
+          group = λ j m. let (n, low, high, e) = of-levels f i stop m in rw e (level-group f self n (omega arith));
           left = λ j m. let (n, low, high, e) = of-levels f i stop m in rw e (level .left n low (omega arith));
           refines = refines-self fs f cs;
         }

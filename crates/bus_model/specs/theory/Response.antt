@@ -67,8 +67,8 @@ module _ (fs : List Frame) (k : Frame) (cs : List Choice) where
   unfolding scenarioResponse
   response-none e = rw (e, scenarioResponse)
 
-  -- The frame's own distance is that from its node's alignment.
-  pub own-distance : (a : ℕ) → choiceOf cs (k .node) ≡ Fixed a → ownDistance k cs ≡ distance k a
+  -- The frame's own distance is that from its group's alignment.
+  pub own-distance : (a : ℕ) → choiceOf cs (k .group) ≡ Fixed a → ownDistance k cs ≡ distance k a
   unfolding ownDistance
   own-distance a own = rw (own, ownDistance)
 
@@ -80,9 +80,9 @@ module _ {fs : List Frame} (valid : Valid fs) {k : ℕ} (inside : k < length fs)
   self : ValidFrame f
   self = valid .frame k inside
 
-  -- ---- a scenario that fixes the frame's own node, and its window
+  -- ---- a scenario that fixes the frame's own group, and its window
 
-  module _ (cs : List Choice) (a : ℕ) (own : choiceOf cs (f .node) ≡ Fixed a) (l : ℕ) (window : busyWindow fs f cs ≡ At l) where
+  module _ (cs : List Choice) (a : ℕ) (own : choiceOf cs (f .group) ≡ Fixed a) (l : ℕ) (window : busyWindow fs f cs ≡ At l) where
     -- An instance released in the window has a delay, and ends within the window.
     pub delay-within : (q : ℕ) → distance f a + q * f .period < l → (w : ℕ) × (queueingDelay fs f cs q ≡ At w) × (w + f .length ≤ l)
     unfolding windowLoad delayLoad demand
@@ -151,7 +151,7 @@ module _ {fs : List Frame} (valid : Valid fs) {k : ℕ} (inside : k < length fs)
         window-found fs f cs′ l low high (omega (arith, work-refine valid f (λ g m. m) cs cs′ refines l))
 
     -- An instance's response is not greater than the first one's response time, if both fix the frame's own alignment.
-    instance-refine : (a : ℕ) → choiceOf cs (f .node) ≡ Fixed a → choiceOf cs′ (f .node) ≡ Fixed a
+    instance-refine : (a : ℕ) → choiceOf cs (f .group) ≡ Fixed a → choiceOf cs′ (f .group) ≡ Fixed a
         → (q : ℕ) → distance f a + q * f .period < l → instanceResponse fs f cs′ q ≤ scenarioResponse fs f cs
     unfolding instanceResponse orZero delayLoad
     instance-refine a own own′ q released =
@@ -163,7 +163,7 @@ module _ {fs : List Frame} (valid : Valid fs) {k : ℕ} (inside : k < length fs)
         omega (arith, ap orZero e, ap orZero e′, own-distance fs f cs a own, own-distance fs f cs′ a own′)
 
     -- So its response time is not greater.
-    pub response-refine : (a : ℕ) → choiceOf cs (f .node) ≡ Fixed a → choiceOf cs′ (f .node) ≡ Fixed a → scenarioResponse fs f cs′ ≤ scenarioResponse fs f cs
+    pub response-refine : (a : ℕ) → choiceOf cs (f .group) ≡ Fixed a → choiceOf cs′ (f .group) ≡ Fixed a → scenarioResponse fs f cs′ ≤ scenarioResponse fs f cs
     unfolding responseTime
     response-refine a own own′ =
         let (l′, window′, shorter) = window-refine in

@@ -1,5 +1,5 @@
 -- The scenarios of a bound: what their choices are, and how the bounds compare.
--- To fix the alignments of more nodes only lowers windows and bounds; the approximate bound and the precise one are the two ends.
+-- To fix the alignments of more groups only lowers windows and bounds; the approximate bound and the precise one are the two ends.
 use Prim.Native.Nat.{ℕ, _+_, _-_, _≤_, _<_}
 use mathlib.Core.Path.{_≡_, refl, sym, ap, _∙_}
 use mathlib.Core.List.{List, map, List·Memᴰ as Mem, List·Memᴰ·head as here, List·Memᴰ·eq-of-singleton, Memᴰ·map}
@@ -15,8 +15,8 @@ use Rattle.arith.specs.laws.Sums.{le-greatest, greatest-le}
 use Rattle.arith.specs.laws.Combinations.{length-combinations, length-combination}
 use Rattle.bus_model.specs.Frame.{row}
 use Rattle.bus_model.specs.Valid.{Valid}
-use Rattle.bus_model.specs.Bounds.{nodes, windowLimit, alignments, orEmpty, choiceOf, choices, scenarios, busyWindow, scenarioResponse, everyNode, boundOf, scenarioCount}
-use Rattle.bus_model.specs.theory.Frames.{node-listed}
+use Rattle.bus_model.specs.Bounds.{groups, windowLimit, alignments, orEmpty, choiceOf, choices, scenarios, busyWindow, scenarioResponse, everyGroup, boundOf, scenarioCount}
+use Rattle.bus_model.specs.theory.Frames.{group-listed}
 use Rattle.bus_model.specs.theory.Work.{Allows, RefinedBy}
 use Rattle.bus_model.specs.theory.Response.{window-at, window-refine, response-le, response-none, response-refine}
 use Rattle.arith.specs.declared.Found.{Found}
@@ -29,29 +29,29 @@ use Rattle.bus_model.specs.declared.Choice.the-variants.{Fixed, Any}
 
 -- the scenario with these choices
 abbrev pub scenario : (ℕ → Choice) → List Choice
-scenario c = map c (range 1 nodes)
+scenario c = map c (range 1 groups)
 
--- Its choice for a node is the one given.
-pub scenario-choice : (c : ℕ → Choice) (j : ℕ) → Mem j (range 1 nodes) → choiceOf (scenario c) j ≡ c j
-scenario-choice c j m = let (low, high) = of-range 1 nodes m in getD-table c 1 nodes (j - 1) Any (omega arith) ∙ ap c (omega arith)
+-- Its choice for a group is the one given.
+pub scenario-choice : (c : ℕ → Choice) (j : ℕ) → Mem j (range 1 groups) → choiceOf (scenario c) j ≡ c j
+scenario-choice c j m = let (low, high) = of-range 1 groups m in getD-table c 1 groups (j - 1) Any (omega arith) ∙ ap c (omega arith)
 
--- Each list of a choice for each node is such a scenario.
-pub scenario-is : (cs : List Choice) → length cs ≡ nodes → scenario (choiceOf cs) ≡ cs
+-- Each list of a choice for each group is such a scenario.
+pub scenario-is : (cs : List Choice) → length cs ≡ groups → scenario (choiceOf cs) ≡ cs
 unfolding range
 scenario-is cs long =
     ext-getD Any (scenario (choiceOf cs)) cs (sym long) (λ i inside.
     let place : 1 + i - 1 ≡ i = omega arith in
-    getD-table (choiceOf cs) 1 nodes i Any inside ∙ ap (λ (n : ℕ). getD cs n Any) place)
+    getD-table (choiceOf cs) 1 groups i Any inside ∙ ap (λ (n : ℕ). getD cs n Any) place)
 
--- ---- the scenarios in which the nodes that `fixes` names are fixed
+-- ---- the scenarios in which the groups that `fixes` names are fixed
 
--- A choice for a node that is fixed is one of its alignments.
+-- A choice for a group that is fixed is one of its alignments.
 pub fixed-choice : (fs : List Frame) (k : Frame) (j : ℕ) (b : Bool) {c : Choice} → T b → Mem c (choices fs k b j) → (a : ℕ) × Mem a (orEmpty (alignments fs k j)) × (c ≡ Fixed a)
 unfolding choices
 fixed-choice fs k j true t m = of-map Fixed (orEmpty (alignments fs k j)) m
 fixed-choice fs k j false t m = absurd t
 
--- The choice `any` allows each choice for a node.
+-- The choice `any` allows each choice for a group.
 pub open-choice : (fs : List Frame) (k : Frame) (j : ℕ) (b : Bool) {c : Choice} → Mem c (choices fs k b j) → Allows (alignments fs k j) Any c
 unfolding choices Allows
 open-choice fs k j true m = let (a, l, e) = of-map Fixed (orEmpty (alignments fs k j)) m in rw (e, Allows) l
@@ -64,45 +64,45 @@ allows-self als (Fixed a) = refl
 allows-self als Any = tt
 
 module _ (fs : List Frame) (k : Frame) (fixes : ℕ → Bool) where
-  -- A scenario with a choice for each node is one of them.
-  pub mem-scenarios : (c : ℕ → Choice) → ((j : ℕ) → Mem j (range 1 nodes) → Mem (c j) (choices fs k (fixes j) j)) → Mem (scenario c) (scenarios fs k fixes)
+  -- A scenario with a choice for each group is one of them.
+  pub mem-scenarios : (c : ℕ → Choice) → ((j : ℕ) → Mem j (range 1 groups) → Mem (c j) (choices fs k (fixes j) j)) → Mem (scenario c) (scenarios fs k fixes)
   unfolding scenarios
-  mem-scenarios c m = mem-combinations c (λ j. choices fs k (fixes j) j) (range 1 nodes) m
+  mem-scenarios c m = mem-combinations c (λ j. choices fs k (fixes j) j) (range 1 groups) m
 
-  -- Each of them has a choice for each node.
-  pub of-scenarios : {cs : List Choice} → Mem cs (scenarios fs k fixes) → (j : ℕ) → Mem j (range 1 nodes) → Mem (choiceOf cs j) (choices fs k (fixes j) j)
+  -- Each of them has a choice for each group.
+  pub of-scenarios : {cs : List Choice} → Mem cs (scenarios fs k fixes) → (j : ℕ) → Mem j (range 1 groups) → Mem (choiceOf cs j) (choices fs k (fixes j) j)
   unfolding scenarios
   of-scenarios {cs} m j l =
-      let (low, high) = of-range 1 nodes l in
+      let (low, high) = of-range 1 groups l in
       let same : 1 + (j - 1) ≡ j = omega arith in
-      rw same at (of-combinations (λ i. choices fs k (fixes i) i) 1 nodes Any m (j - 1) (omega arith))
+      rw same at (of-combinations (λ i. choices fs k (fixes i) i) 1 groups Any m (j - 1) (omega arith))
 
   -- Each of them is a list of so many.
-  pub scenarios-length : {cs : List Choice} → Mem cs (scenarios fs k fixes) → length cs ≡ nodes
+  pub scenarios-length : {cs : List Choice} → Mem cs (scenarios fs k fixes) → length cs ≡ groups
   unfolding scenarios range
   scenarios-length m = length-combination _ m
 
 -- The scenario count is the number of the precise bound's scenarios.
-pub count-scenarios : (fs : List Frame) (k : Frame) → length (scenarios fs k everyNode) ≡ scenarioCount fs k
+pub count-scenarios : (fs : List Frame) (k : Frame) → length (scenarios fs k everyGroup) ≡ scenarioCount fs k
 unfolding scenarios scenarioCount choices
-count-scenarios fs k = length-combinations (λ j. choices fs k true j) (range 1 nodes) ∙ simp length-map
+count-scenarios fs k = length-combinations (λ j. choices fs k true j) (range 1 groups) ∙ simp length-map
 
 -- every one of the scenarios has a window
 abbrev pub Windowed : List Frame → Frame → (ℕ → Bool) → Type 0
 Windowed fs k fixes = (cs : List Choice) → Mem cs (scenarios fs k fixes) → (l : ℕ) × (busyWindow fs k cs ≡ At l)
 
--- a choice where the node is fixed, and `any` where it is not
+-- a choice where the group is fixed, and `any` where it is not
 unfoldable pub whereFixed : Bool → Choice → Choice
 whereFixed true c = c
 whereFixed false c = Any
 
--- Where the node is fixed it is that choice.
+-- Where the group is fixed it is that choice.
 is-fixed : (b : Bool) (c : Choice) → T b → whereFixed b c ≡ c
 unfolding whereFixed
 is-fixed true c t = refl
 is-fixed false c t = absurd t
 
--- It is a choice for the node, if it is one where the node is fixed.
+-- It is a choice for the group, if it is one where the group is fixed.
 fixed-listed : (fs : List Frame) (k : Frame) (j : ℕ) (b : Bool) (c : Choice) → (T b → Mem c (choices fs k true j)) → Mem (whereFixed b c) (choices fs k b j)
 unfolding whereFixed choices
 fixed-listed fs k j true c m = m tt
@@ -110,7 +110,7 @@ fixed-listed fs k j false c m = here refl
 
 -- ---- the scenario that takes given alignments
 
--- alignment α j of each node j that `fixes` fixes
+-- alignment α j of each group j that `fixes` fixes
 abbrev pub chosen : (ℕ → Bool) → (ℕ → ℕ) → ℕ → Choice
 chosen fixes α j = whereFixed (fixes j) (Fixed (α j))
 
@@ -121,13 +121,13 @@ unfolding choices
 chosen-listed fs k fixes α real =
     mem-scenarios fs k fixes (chosen fixes α) (λ j l. fixed-listed fs k j (fixes j) (Fixed (α j)) (λ t. Memᴰ·map Fixed (real j t)))
 
--- It has the alignment of each node that is fixed.
-pub chosen-fixed : (fixes : ℕ → Bool) (α : ℕ → ℕ) (j : ℕ) → Mem j (range 1 nodes) → T (fixes j) → choiceOf (scenario (chosen fixes α)) j ≡ Fixed (α j)
+-- It has the alignment of each group that is fixed.
+pub chosen-fixed : (fixes : ℕ → Bool) (α : ℕ → ℕ) (j : ℕ) → Mem j (range 1 groups) → T (fixes j) → choiceOf (scenario (chosen fixes α)) j ≡ Fixed (α j)
 chosen-fixed fixes α j l t = scenario-choice (chosen fixes α) j l ∙ is-fixed (fixes j) (Fixed (α j)) t
 
--- ---- fixing more nodes
+-- ---- fixing more groups
 
--- Every node that the one fixes the other fixes too.
+-- Every group that the one fixes the other fixes too.
 infix 20 _⊆_
 abbrev pub _⊆_ : (ℕ → Bool) → (ℕ → Bool) → Type 0
 fixes ⊆ fixes′ = (j : ℕ) → T (fixes j) → T (fixes′ j)
@@ -156,33 +156,33 @@ module _ (fs : List Frame) (k : Frame) (fixes fixes′ : ℕ → Bool) (more : f
       go true = allows-self (alignments fs k j) (choiceOf cs j)
       go false = open-choice fs k j (fixes′ j) (of-scenarios fs k fixes′ m j l)
 
-  -- At a node that `fixes` fixes both have the same choice.
-  coarse-same : (j : ℕ) → Mem j (range 1 nodes) → T (fixes j) → choiceOf (scenario (coarse fixes cs)) j ≡ choiceOf cs j
+  -- At a group that `fixes` fixes both have the same choice.
+  coarse-same : (j : ℕ) → Mem j (range 1 groups) → T (fixes j) → choiceOf (scenario (coarse fixes cs)) j ≡ choiceOf cs j
   coarse-same j l t = scenario-choice (coarse fixes cs) j l ∙ is-fixed (fixes j) (choiceOf cs j) t
 
 module _ {fs : List Frame} (valid : Valid fs) {k : ℕ} (inside : k < length fs) where
   abbrev f : Frame
   f = row fs k
 
-  -- the frame's node is one of the nodes
-  listed : Mem (f .node) (range 1 nodes)
-  listed = node-listed (valid .frame k inside)
+  -- the frame's group is one of the groups
+  listed : Mem (f .group) (range 1 groups)
+  listed = group-listed (valid .frame k inside)
 
-  -- A scenario has an alignment of the frame's own node, if that is fixed.
-  pub own-fixed : (fixes : ℕ → Bool) → T (fixes (f .node)) → {cs : List Choice} → Mem cs (scenarios fs f fixes) → (a : ℕ) × (choiceOf cs (f .node) ≡ Fixed a)
-  own-fixed fixes own m = let (a, l, e) = fixed-choice fs f (f .node) (fixes (f .node)) own (of-scenarios fs f fixes m (f .node) listed) in (a, e)
+  -- A scenario has an alignment of the frame's own group, if that is fixed.
+  pub own-fixed : (fixes : ℕ → Bool) → T (fixes (f .group)) → {cs : List Choice} → Mem cs (scenarios fs f fixes) → (a : ℕ) × (choiceOf cs (f .group) ≡ Fixed a)
+  own-fixed fixes own m = let (a, l, e) = fixed-choice fs f (f .group) (fixes (f .group)) own (of-scenarios fs f fixes m (f .group) listed) in (a, e)
 
   -- No bound exceeds the longest window.
-  pub bound-le-limit : (fixes : ℕ → Bool) → T (fixes (f .node)) → boundOf fs f fixes ≤ windowLimit
+  pub bound-le-limit : (fixes : ℕ → Bool) → T (fixes (f .group)) → boundOf fs f fixes ≤ windowLimit
   unfolding boundOf
   bound-le-limit fixes own = greatest-le (scenarios fs f fixes) (λ cs m. go cs (own-fixed fixes own m) (busyWindow fs f cs) refl)
     where
-      go : (cs : List Choice) → (a : ℕ) × (choiceOf cs (f .node) ≡ Fixed a) → (r : Found) → busyWindow fs f cs ≡ r → scenarioResponse fs f cs ≤ windowLimit
+      go : (cs : List Choice) → (a : ℕ) × (choiceOf cs (f .group) ≡ Fixed a) → (r : Found) → busyWindow fs f cs ≡ r → scenarioResponse fs f cs ≤ windowLimit
       go cs (a, fixes-own) (At l) e = let (low, high, fits) = window-at fs f cs l e in le-trans (response-le valid inside cs a fixes-own l e) high
       go cs own Nothing e = rw (response-none fs f cs e) (omega arith)
 
   module _ (fixes fixes′ : ℕ → Bool) (more : fixes ⊆ fixes′) (windows : Windowed fs f fixes) where
-    -- Where fewer nodes are fixed and windows exist, they exist where more are.
+    -- Where fewer groups are fixed and windows exist, they exist where more are.
     pub windows-refine : Windowed fs f fixes′
     windows-refine cs m =
         let (l, e) = windows _ (coarse-listed fs f fixes fixes′ more cs m) in
@@ -190,7 +190,7 @@ module _ {fs : List Frame} (valid : Valid fs) {k : ℕ} (inside : k < length fs)
         (l′, e′)
 
     -- And the bound is not greater.
-    pub bound-refine : T (fixes (f .node)) → boundOf fs f fixes′ ≤ boundOf fs f fixes
+    pub bound-refine : T (fixes (f .group)) → boundOf fs f fixes′ ≤ boundOf fs f fixes
     unfolding boundOf
     bound-refine own = greatest-le (scenarios fs f fixes′) each
       where
@@ -199,5 +199,5 @@ module _ {fs : List Frame} (valid : Valid fs) {k : ℕ} (inside : k < length fs)
             let in-list = coarse-listed fs f fixes fixes′ more cs m in
             let (l, e) = windows _ in-list in
             let (a, is) = own-fixed fixes own in-list in
-            let same = sym (coarse-same fs f fixes fixes′ more cs m (f .node) listed own) ∙ is in
+            let same = sym (coarse-same fs f fixes fixes′ more cs m (f .group) listed own) ∙ is in
             le-trans (response-refine valid inside _ cs (coarse-refines fs f fixes fixes′ more cs m) l e a is same) (le-greatest (scenarioResponse fs f) in-list)

@@ -1,5 +1,5 @@
 -- The bounds are sound: in every schedule of a valid table, a frame whose bound is within its claim meets the claim.
--- One theorem for any set of fixed nodes, and its two ends, the approximate and the precise bound.
+-- One theorem for any set of fixed groups, and its two ends, the approximate and the precise bound.
 use Prim.Native.Nat.{ℕ, suc, _+_, _-_, _*_, _≤_, _<_}
 use mathlib.Core.Path.{_≡_, refl, ap}
 use mathlib.Core.List.{List}
@@ -16,11 +16,11 @@ use Rattle.bus_model.specs.Frame.{row}
 use Rattle.bus_model.specs.Valid.{ValidFrame, Valid}
 use Rattle.bus_model.specs.Release.{release}
 use Rattle.bus_model.specs.Bus.{Transmission, Finished, MeetsClaim}
-use Rattle.bus_model.specs.Bounds.{ahead, better, alignments, distance, choiceOf, work, ownNode, everyNode, windowLoad, busyWindow, delayLoad, queueingDelay, instanceResponse, scenarioResponse, boundOf, approximateBound, preciseBound}
+use Rattle.bus_model.specs.Bounds.{ahead, better, alignments, distance, choiceOf, work, ownGroup, everyGroup, windowLoad, busyWindow, delayLoad, queueingDelay, instanceResponse, scenarioResponse, boundOf, approximateBound, preciseBound}
 use Rattle.bus_model.specs.theory.Rows.{ahead-sum}
 use Rattle.bus_model.specs.theory.Arrivals.{releasedBy, arrived}
 use Rattle.bus_model.specs.theory.BusyWindow.{Window, busy-window}
-use Rattle.bus_model.specs.theory.Frames.{better-ahead, self-ahead, node-listed}
+use Rattle.bus_model.specs.theory.Frames.{better-ahead, self-ahead, group-listed}
 use Rattle.bus_model.specs.theory.Alignment.{Aligned, Stands, aligned}
 use Rattle.bus_model.specs.theory.Work.{Allows}
 use Rattle.bus_model.specs.theory.Response.{window-at, delay-at, own-distance, delay-within, instance-response}
@@ -46,11 +46,11 @@ module _ {fs : List Frame} (valid : Valid fs) {k : ℕ} (inside : k < length fs)
   module _
       (starts : ℕ → ℕ) (T : ℕ) (xs : List Transmission) (n : ℕ) (win : Window fs starts T xs k n)
       (α : ℕ → ℕ) (stands : Stands fs f starts (win .t1) α)
-      (cs : List Choice) (agrees : Agrees fs f α cs) (own : choiceOf cs (f .node) ≡ Fixed (α (f .node))) (l : ℕ) (window : busyWindow fs f cs ≡ At l)
+      (cs : List Choice) (agrees : Agrees fs f α cs) (own : choiceOf cs (f .group) ≡ Fixed (α (f .group))) (l : ℕ) (window : busyWindow fs f cs ≡ At l)
     where
       -- the frame's own distance
       abbrev d : ℕ
-      d = distance f (α (f .node))
+      d = distance f (α (f .group))
 
       -- how many instances of the frame are released in the window before it
       abbrev q : ℕ
@@ -59,13 +59,13 @@ module _ {fs : List Frame} (valid : Valid fs) {k : ℕ} (inside : k < length fs)
       -- It is not released before the window.
       released-le : releasedBy starts f (win .t1) ≤ n
       unfolding release releasedBy
-      released-le = count-le (starts (f .node) + f .offset) (self .period) (win .t1) n (win .early)
+      released-le = count-le (starts (f .group) + f .offset) (self .period) (win .t1) n (win .early)
 
       -- It is released where the scenario has it, or later.
       placed : win .t1 + (d + q * f .period) ≤ release starts f n
       unfolding release
       placed =
-          let after = stands (f .node) f (self-ahead fs k inside) in
+          let after = stands (f .group) f (self-ahead fs k inside) in
           let split : n * f .period ≡ (q + releasedBy starts f (win .t1)) * f .period = ap (λ (m : ℕ). m * f .period) (omega (arith, released-le)) in
           omega arith
 
@@ -88,7 +88,7 @@ module _ {fs : List Frame} (valid : Valid fs) {k : ℕ} (inside : k < length fs)
       -- Before its release no more instances of the frame arrive than go before it.
       fewer : (w : ℕ) → win .t1 + w < release starts f n → arrived starts f (win .t1) (suc w) ≤ q
       unfolding arrived release releasedBy
-      fewer w after = let few = count-le (starts (f .node) + f .offset) (self .period) (win .t1 + suc w) n (omega arith) in omega arith
+      fewer w after = let few = count-le (starts (f .group) + f .offset) (self .period) (win .t1 + suc w) n (omega arith) in omega arith
 
       -- It is released when its delay ends: otherwise the bus would be busy beyond that.
       in-time : (w : ℕ) → queueingDelay fs f cs q ≡ At w → release starts f n ≤ win .t1 + w
@@ -105,10 +105,10 @@ module _ {fs : List Frame} (valid : Valid fs) {k : ℕ} (inside : k < length fs)
       finished : (claim : ℕ) → scenarioResponse fs f cs ≤ claim → release starts f n + claim ≤ T → Finished xs k n (release starts f n + claim)
       unfolding instanceResponse orZero delayLoad
       finished claim bound before =
-          let (w, e, le) = delay-within valid inside cs (α (f .node)) own l window q within in
-          let response = instance-response valid inside cs (α (f .node)) own l window q within in
+          let (w, e, le) = delay-within valid inside cs (α (f .group)) own l window q within in
+          let response = instance-response valid inside cs (α (f .group)) own l window q within in
           let fits = delay-at fs f cs q w e in
-          let ends : w + f .length ≤ d + q * f .period + claim = omega (arith, ap orZero e, own-distance fs f cs (α (f .node)) own) in
+          let ends : w + f .length ≤ d + q * f .period + claim = omega (arith, ap orZero e, own-distance fs f cs (α (f .group)) own) in
           let b = win .begins w (omega (arith, better-covers (suc w))) (in-time w e) (omega (arith, placed, self .length)) in
           record { sent = b .sent; listed = b .listed; frame = b .frame; instance = b .instance; ended = omega (arith, b, placed) }
 
@@ -123,22 +123,22 @@ module _ {fs : List Frame} (valid : Valid fs) {k : ℕ} (inside : k < length fs)
       go true = refl
       go false = real j
 
-  -- A claim that is not below a bound is met, if the bound fixes the frame's own node and the approximate scenarios have windows.
-  pub sound : (fixes : ℕ → Bool) → ownNode f ⊆ fixes → Windowed fs f (ownNode f) → (claim : ℕ) → boundOf fs f fixes ≤ claim → MeetsClaim fs k claim
+  -- A claim that is not below a bound is met, if the bound fixes the frame's own group and the approximate scenarios have windows.
+  pub sound : (fixes : ℕ → Bool) → ownGroup f ⊆ fixes → Windowed fs f (ownGroup f) → (claim : ℕ) → boundOf fs f fixes ≤ claim → MeetsClaim fs k claim
   unfolding MeetsClaim boundOf
   sound fixes more windows claim bound starts T xs schedule n before =
       let win = busy-window valid inside schedule n in
       let (α, real, stands) = aligned fs valid f starts (win .t1) in
       let cs = scenario (chosen fixes α) in
       let listed = chosen-listed fs f fixes α (λ j t. real j) in
-      let own = chosen-fixed fixes α (f .node) (node-listed self) (more (f .node) (eqb-refl (f .node))) in
-      let (l, window) = windows-refine valid inside (ownNode f) fixes more windows cs listed in
+      let own = chosen-fixed fixes α (f .group) (group-listed self) (more (f .group) (eqb-refl (f .group))) in
+      let (l, window) = windows-refine valid inside (ownGroup f) fixes more windows cs listed in
       finished starts T xs n win α stands cs (chosen-agrees fixes α real) own l window claim (le-trans (le-greatest (scenarioResponse fs f) listed) bound) (omega arith)
 
   -- The approximate bound is sound.
-  pub sound-approximate : Windowed fs f (ownNode f) → (claim : ℕ) → approximateBound fs f ≤ claim → MeetsClaim fs k claim
-  sound-approximate = sound (ownNode f) (λ j t. t)
+  pub sound-approximate : Windowed fs f (ownGroup f) → (claim : ℕ) → approximateBound fs f ≤ claim → MeetsClaim fs k claim
+  sound-approximate = sound (ownGroup f) (λ j t. t)
 
   -- The precise bound is sound where the approximate bound has windows.
-  pub sound-precise : Windowed fs f (ownNode f) → (claim : ℕ) → preciseBound fs f ≤ claim → MeetsClaim fs k claim
-  sound-precise = sound everyNode (λ j t. tt)
+  pub sound-precise : Windowed fs f (ownGroup f) → (claim : ℕ) → preciseBound fs f ≤ claim → MeetsClaim fs k claim
+  sound-precise = sound everyGroup (λ j t. tt)

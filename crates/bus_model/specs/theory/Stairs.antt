@@ -1,4 +1,4 @@
--- The greatest work of a node as a function of time: it does not fall, so that between two lengths where it is the same it is so
+-- The greatest work of a group as a function of time: it does not fall, so that between two lengths where it is the same it is so
 -- throughout; and each turn adds the same to it. So its values below the turn say them all.
 use Prim.Native.Nat.{ℕ, zero, suc, _+_, _-_, _*_, _/_, _≤_, _<_, _∣_}
 use mathlib.Core.Path.{_≡_, refl, sym, ap, subst, _∙_, fun-ext}
@@ -10,12 +10,12 @@ use Rattle.arith.specs.Releases.{releasesBefore}
 use Rattle.arith.specs.laws.Releases.{count-small, count-turns}
 use Rattle.arith.specs.laws.Sums.{le-greatest, greatest-le}
 use Rattle.bus_model.specs.Valid.{ValidFrame, Valid}
-use Rattle.bus_model.specs.Pattern.{ofNode}
-use Rattle.bus_model.specs.Bounds.{ahead, alignments, phase, distance, demand, workAt, nodeWork}
+use Rattle.bus_model.specs.Pattern.{ofGroup}
+use Rattle.bus_model.specs.Bounds.{ahead, alignments, phase, distance, demand, workAt, groupWork}
 use Rattle.bus_model.specs.theory.Pattern.{hyperperiod-multiple}
 use Rattle.bus_model.specs.theory.Alignment.{phase-aligned, distance-lt}
-use Rattle.bus_model.specs.theory.Work.{node-mono}
-use Rattle.bus_model.specs.theory.Turns.{turn, node-frame}
+use Rattle.bus_model.specs.theory.Work.{group-mono}
+use Rattle.bus_model.specs.theory.Turns.{turn, group-frame}
 use Rattle.bus_model.specs.declared.Frame.{Frame}
 use Rattle.bus_model.specs.declared.Choice.the-variants.{Any}
 
@@ -55,29 +55,29 @@ greatest-add f c xs some =
 
 module _ {fs : List Frame} (valid : Valid fs) (k : Frame) (j : ℕ) where
   abbrev gs : List Frame
-  gs = ofNode (ahead fs k) j
+  gs = ofGroup (ahead fs k) j
 
-  -- the greatest work of the node in the first n ticks
+  -- the greatest work of the group in the first n ticks
   abbrev most : ℕ → ℕ
-  most n = nodeWork gs (alignments fs k j) Any n
+  most n = groupWork gs (alignments fs k j) Any n
 
   -- It is the same from one length to another, if it is at both.
   pub stair : {low high n : ℕ} → low ≤ n → n ≤ high → most low ≡ most high → most n ≡ most low
   stair {low} {high} {n} l h same =
-      let up = node-mono l gs (λ g m. node-frame valid k j m) (alignments fs k j) Any in
-      let down = node-mono h gs (λ g m. node-frame valid k j m) (alignments fs k j) Any in
+      let up = group-mono l gs (λ g m. group-frame valid k j m) (alignments fs k j) Any in
+      let down = group-mono h gs (λ g m. group-frame valid k j m) (alignments fs k j) Any in
       omega arith
 
   -- Each turn adds the work of a turn, which is the same from every instant.
   pub most-turns : (m n : ℕ) → most (m * turn fs k j + n) ≡ m * workAt gs 0 (turn fs k j) + most n
-  unfolding nodeWork workAt sum turn
+  unfolding groupWork workAt sum turn
   most-turns m n = rw same (greatest-add (λ a. workAt gs a n) c (alignments fs k j) (some gs refl))
     where
       c : ℕ
       c = m * workAt gs 0 (turn fs k j)
 
       same : _≡_ {A = ℕ → ℕ} (λ a. workAt gs a (m * turn fs k j + n)) (λ a. c + workAt gs a n)
-      same = fun-ext (λ a. work-turns gs (λ g l. node-frame valid k j l) (λ g l. hyperperiod-multiple gs l) a m n)
+      same = fun-ext (λ a. work-turns gs (λ g l. group-frame valid k j l) (λ g l. hyperperiod-multiple gs l) a m n)
 
       some : (hs : List Frame) → hs ≡ gs → 0 < m * workAt hs 0 (turn fs k j) → (a : ℕ) × Mem a (alignments fs k j)
       some [] none l = absurd (omega (arith, mul-zero m, l))

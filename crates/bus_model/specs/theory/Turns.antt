@@ -1,4 +1,4 @@
--- The alignments of a node repeat after the least common multiple of the periods of its frames ahead, its turn, which may be far
+-- The alignments of a group repeat after the least common multiple of the periods of its frames ahead, its turn, which may be far
 -- shorter than its hyperperiod: from an instant and from the same one a turn later these frames are released at the same distances.
 -- So a search need only visit the alignments of the first turn.
 use Prim.Native.Nat.{ℕ, suc, _+_, _-_, _*_, _%_, _≤_, _<_, _∣_}
@@ -20,10 +20,10 @@ use Rattle.arith.specs.laws.Walks.{Walk, keep-found, walk-start}
 use Rattle.arith.specs.laws.Multiples.{lcmOf-pos, lcmOf-least}
 use Rattle.bus_model.specs.Frame.{row}
 use Rattle.bus_model.specs.Valid.{ValidFrame, Valid}
-use Rattle.bus_model.specs.Pattern.{ofNode, hyperperiod}
-use Rattle.bus_model.specs.Bounds.{nodes, windowLimit, ahead, blocking, phase, isReleasedAt, alignments, orEmpty, distance, choiceOf, demand, workAt, nodeWork, work, windowLoad, busyWindow, delayLoad, queueingDelay, ownDistance, instanceResponse, responseTime, scenarioResponse}
+use Rattle.bus_model.specs.Pattern.{ofGroup, hyperperiod}
+use Rattle.bus_model.specs.Bounds.{groups, windowLimit, ahead, blocking, phase, isReleasedAt, alignments, orEmpty, distance, choiceOf, demand, workAt, groupWork, work, windowLoad, busyWindow, delayLoad, queueingDelay, ownDistance, instanceResponse, responseTime, scenarioResponse}
 use Rattle.bus_model.specs.theory.Pattern.{hyperperiod-multiple}
-use Rattle.bus_model.specs.theory.Frames.{Part, phase-fits, node-listed, valid-frame, better-ahead, of-ahead, of-node, node-part, self-ahead, node-divides, node-pos}
+use Rattle.bus_model.specs.theory.Frames.{Part, phase-fits, group-listed, valid-frame, better-ahead, of-ahead, of-group, group-part, self-ahead, group-divides, group-pos}
 use Rattle.bus_model.specs.theory.Alignment.{released-at, released-turn, or-empty}
 use Rattle.bus_model.specs.theory.Visits.{isAlignment, first-visited}
 use Rattle.bus_model.specs.theory.Refine.{refined, free, set-same, set-other}
@@ -34,9 +34,9 @@ use Rattle.bus_model.specs.declared.Frame.{Frame}
 use Rattle.bus_model.specs.declared.Choice.{Choice}
 use Rattle.bus_model.specs.declared.Choice.the-variants.{Fixed, Any}
 
--- after so many ticks the frames ahead of k at node j look the same again
+-- after so many ticks the frames ahead of k at group j look the same again
 unfoldable pub turn : List Frame → Frame → ℕ → ℕ
-turn fs k j = hyperperiod (ofNode (ahead fs k) j)
+turn fs k j = hyperperiod (ofGroup (ahead fs k) j)
 
 -- the alignments of the first turn
 unfoldable pub firstTurn : List Frame → Frame → ℕ → List ℕ
@@ -78,41 +78,41 @@ module _ (t : ℕ → ℕ) (xs ys : List ℕ) (into : (a : ℕ) → Mem a xs →
 module _ {fs : List Frame} (valid : Valid fs) (k : Frame) (j : ℕ) where
   -- ---- the turn
 
-  -- the frames ahead at the node are valid
-  pub node-frame : {g : Frame} → Mem g (ofNode (ahead fs k) j) → ValidFrame g
-  node-frame m = valid-frame valid (of-ahead fs k (of-node (ahead fs k) j m .0))
+  -- the frames ahead at the group are valid
+  pub group-frame : {g : Frame} → Mem g (ofGroup (ahead fs k) j) → ValidFrame g
+  group-frame m = valid-frame valid (of-ahead fs k (of-group (ahead fs k) j m .0))
 
   -- It is not 0.
   pub turn-pos : 1 ≤ turn fs k j
   unfolding turn hyperperiod
-  turn-pos = lcmOf-pos (λ g. g .period) (ofNode (ahead fs k) j) (λ g m. node-frame m .period)
+  turn-pos = lcmOf-pos (λ g. g .period) (ofGroup (ahead fs k) j) (λ g m. group-frame m .period)
 
   -- The hyperperiod is a whole number of turns.
-  pub turn-divides : turn fs k j ∣ hyperperiod (ofNode fs j)
+  pub turn-divides : turn fs k j ∣ hyperperiod (ofGroup fs j)
   unfolding turn hyperperiod
-  turn-divides = lcmOf-least (λ g. g .period) (ofNode (ahead fs k) j) (hyperperiod (ofNode fs j)) (λ g m. node-frame m .period) (λ g m. node-divides fs k j m)
+  turn-divides = lcmOf-least (λ g. g .period) (ofGroup (ahead fs k) j) (hyperperiod (ofGroup fs j)) (λ g m. group-frame m .period) (λ g m. group-divides fs k j m)
 
   -- So the turn is not longer.
-  pub turn-le : turn fs k j ≤ hyperperiod (ofNode fs j)
-  turn-le = le-of-dvd (node-pos valid j) turn-divides
+  pub turn-le : turn fs k j ≤ hyperperiod (ofGroup fs j)
+  turn-le = le-of-dvd (group-pos valid j) turn-divides
 
   -- Each frame ahead has a whole number of periods in it.
-  rest-turn : {g : Frame} → Mem g (ofNode (ahead fs k) j) → (a : ℕ) → a % turn fs k j % (g .period) ≡ a % (g .period)
+  rest-turn : {g : Frame} → Mem g (ofGroup (ahead fs k) j) → (a : ℕ) → a % turn fs k j % (g .period) ≡ a % (g .period)
   unfolding turn
-  rest-turn {g} m a = mod-mod-of-dvd (g .period) a (hyperperiod-multiple (ofNode (ahead fs k) j) m)
+  rest-turn {g} m a = mod-mod-of-dvd (g .period) a (hyperperiod-multiple (ofGroup (ahead fs k) j) m)
 
   -- At an instant and at the same one of the first turn its distances are the same.
-  pub distance-turn : {g : Frame} → Mem g (ofNode (ahead fs k) j) → (a : ℕ) → distance g (a % turn fs k j) ≡ distance g a
+  pub distance-turn : {g : Frame} → Mem g (ofGroup (ahead fs k) j) → (a : ℕ) → distance g (a % turn fs k j) ≡ distance g a
   unfolding distance
   distance-turn m a = rw (rest-turn m a)
 
   -- ---- the alignments of the first turn
 
   -- What leaves the same remainders is an alignment with it.
-  aligned-same : (a b : ℕ) → ((g : Frame) → Mem g (ofNode (ahead fs k) j) → b % (g .period) ≡ a % (g .period)) → T (isAlignment fs k j a) → T (isAlignment fs k j b)
+  aligned-same : (a b : ℕ) → ((g : Frame) → Mem g (ofGroup (ahead fs k) j) → b % (g .period) ≡ a % (g .period)) → T (isAlignment fs k j a) → T (isAlignment fs k j b)
   aligned-same a b same t =
-      let (g, m, u) = of-exists (isReleasedAt a) (ofNode (ahead fs k) j) t in
-      exists-mem (isReleasedAt b) m (released-at g b (same g m ∙ released-rest (node-frame m) a u))
+      let (g, m, u) = of-exists (isReleasedAt a) (ofGroup (ahead fs k) j) t in
+      exists-mem (isReleasedAt b) m (released-at g b (same g m ∙ released-rest (group-frame m) a u))
 
   -- An instant and the same one of the first turn are alignments together.
   pub aligned-turn : (a : ℕ) → isAlignment fs k j (a % turn fs k j) ≡ isAlignment fs k j a
@@ -124,13 +124,13 @@ module _ {fs : List Frame} (valid : Valid fs) (k : Frame) (j : ℕ) where
   first-alignment {a} m =
       let (r, t) = of-keep _ (range 0 (turn fs k j)) m in
       let (low, high) = of-range 0 (turn fs k j) r in
-      mem-keep _ (mem-range 0 (hyperperiod (ofNode fs j)) a low (omega (arith, turn-le))) t
+      mem-keep _ (mem-range 0 (hyperperiod (ofGroup fs j)) a low (omega (arith, turn-le))) t
 
   -- Every alignment is one of them, some turns later.
   pub turned-alignment : {a : ℕ} → Mem a (alignments fs k j) → Mem (a % turn fs k j) (firstTurn fs k j)
   unfolding firstTurn alignments
   turned-alignment {a} m =
-      let (r, t) = of-keep _ (range 0 (hyperperiod (ofNode fs j))) m in
+      let (r, t) = of-keep _ (range 0 (hyperperiod (ofGroup fs j))) m in
       mem-keep _ (mem-range 0 (turn fs k j) (a % turn fs k j) (omega arith) (omega (arith, mod-lt a turn-pos))) (rw (aligned-turn a) t)
 
   -- So are those that a search of the first turn visits,
@@ -158,32 +158,32 @@ module _ {fs : List Frame} (valid : Valid fs) (k : Frame) (j : ℕ) where
 
   module _ {gs : List Frame} (part : Part fs k gs) where
     -- The work at an alignment is that at the same one of the first turn.
-    pub work-turn : (a n : ℕ) → workAt (ofNode gs j) (a % turn fs k j) n ≡ workAt (ofNode gs j) a n
+    pub work-turn : (a n : ℕ) → workAt (ofGroup gs j) (a % turn fs k j) n ≡ workAt (ofGroup gs j) a n
     unfolding workAt demand
-    work-turn a n = sum-same (ofNode gs j) (λ g m. rw (distance-turn (node-part fs k part j g m) a))
+    work-turn a n = sum-same (ofGroup gs j) (λ g m. rw (distance-turn (group-part fs k part j g m) a))
 
     -- So the greatest is that of the first turn.
-    pub part-work-turn : (c : Choice) (n : ℕ) → nodeWork (ofNode gs j) (firstTurn fs k j) c n ≡ nodeWork (ofNode gs j) (alignments fs k j) c n
-    unfolding nodeWork
+    pub part-work-turn : (c : Choice) (n : ℕ) → groupWork (ofGroup gs j) (firstTurn fs k j) c n ≡ groupWork (ofGroup gs j) (alignments fs k j) c n
+    unfolding groupWork
     part-work-turn (Fixed a) n = refl
-    part-work-turn Any n = greatest-first (λ a. workAt (ofNode gs j) a n) (λ a. work-turn a n)
+    part-work-turn Any n = greatest-first (λ a. workAt (ofGroup gs j) a n) (λ a. work-turn a n)
 
-  -- The same of all the node's frames ahead.
-  pub node-work-turn : (c : Choice) (n : ℕ) → nodeWork (ofNode (ahead fs k) j) (firstTurn fs k j) c n ≡ nodeWork (ofNode (ahead fs k) j) (alignments fs k j) c n
-  node-work-turn = part-work-turn (λ g m. m)
+  -- The same of all the group's frames ahead.
+  pub group-work-turn : (c : Choice) (n : ℕ) → groupWork (ofGroup (ahead fs k) j) (firstTurn fs k j) c n ≡ groupWork (ofGroup (ahead fs k) j) (alignments fs k j) c n
+  group-work-turn = part-work-turn (λ g m. m)
 
 -- ---- scenarios that look alike
 
--- At node j two choices look alike: from both alignments the frames ahead are released at the same distances, or both leave the alignment open.
+-- At group j two choices look alike: from both alignments the frames ahead are released at the same distances, or both leave the alignment open.
 unfoldable pub SameChoice : List Frame → Frame → ℕ → Choice → Choice → Type 0
-SameChoice fs k j (Fixed a) (Fixed b) = (g : Frame) → Mem g (ofNode (ahead fs k) j) → distance g a ≡ distance g b
+SameChoice fs k j (Fixed a) (Fixed b) = (g : Frame) → Mem g (ofGroup (ahead fs k) j) → distance g a ≡ distance g b
 SameChoice fs k j (Fixed a) Any = ⊥
 SameChoice fs k j Any (Fixed b) = ⊥
 SameChoice fs k j Any Any = Unit {0}
 
--- Two scenarios do: their choices for each node.
+-- Two scenarios do: their choices for each group.
 abbrev pub Alike : List Frame → Frame → List Choice → List Choice → Type 0
-Alike fs k cs cs′ = (j : ℕ) → Mem j (range 1 nodes) → SameChoice fs k j (choiceOf cs j) (choiceOf cs′ j)
+Alike fs k cs cs′ = (j : ℕ) → Mem j (range 1 groups) → SameChoice fs k j (choiceOf cs j) (choiceOf cs′ j)
 
 module _ (fs : List Frame) (k : Frame) where
   -- A choice looks like itself,
@@ -196,8 +196,8 @@ module _ (fs : List Frame) (k : Frame) where
   pub alike-self : (cs : List Choice) → Alike fs k cs cs
   alike-self cs j m = same-self j (choiceOf cs j)
 
-  -- Two scenarios that look alike still do where one node is fixed, in each at an alignment with the same distances.
-  pub alike-set : (cs cs′ : List Choice) → Alike fs k cs cs′ → length cs ≡ nodes → length cs′ ≡ nodes → {j : ℕ} → Mem j (range 1 nodes)
+  -- Two scenarios that look alike still do where one group is fixed, in each at an alignment with the same distances.
+  pub alike-set : (cs cs′ : List Choice) → Alike fs k cs cs′ → length cs ≡ groups → length cs′ ≡ groups → {j : ℕ} → Mem j (range 1 groups)
       → (a b : ℕ) → SameChoice fs k j (Fixed a) (Fixed b) → Alike fs k (set cs (j - 1) (Fixed a)) (set cs′ (j - 1) (Fixed b))
   alike-set cs cs′ alike long long′ {j} listed a b same i l =
       elim (ℕ-discrete i j) [
@@ -208,9 +208,9 @@ module _ (fs : List Frame) (k : Frame) where
   module _ (cs cs′ : List Choice) (alike : Alike fs k cs cs′) where
     module _ {gs : List Frame} (part : Part fs k gs) where
       -- Choices that look alike give the same work.
-      choice-alike : (j n : ℕ) (c c′ : Choice) → SameChoice fs k j c c′ → nodeWork (ofNode gs j) (alignments fs k j) c n ≡ nodeWork (ofNode gs j) (alignments fs k j) c′ n
-      unfolding SameChoice nodeWork workAt demand
-      choice-alike j n (Fixed a) (Fixed b) same = sum-same (ofNode gs j) (λ g m. rw (same g (node-part fs k part j g m)))
+      choice-alike : (j n : ℕ) (c c′ : Choice) → SameChoice fs k j c c′ → groupWork (ofGroup gs j) (alignments fs k j) c n ≡ groupWork (ofGroup gs j) (alignments fs k j) c′ n
+      unfolding SameChoice groupWork workAt demand
+      choice-alike j n (Fixed a) (Fixed b) same = sum-same (ofGroup gs j) (λ g m. rw (same g (group-part fs k part j g m)))
       choice-alike j n (Fixed a) Any none = absurd none
       choice-alike j n Any (Fixed b) none = absurd none
       choice-alike j n Any Any u = refl
@@ -218,7 +218,7 @@ module _ (fs : List Frame) (k : Frame) where
       -- So do scenarios.
       pub work-alike : (n : ℕ) → work fs k gs cs n ≡ work fs k gs cs′ n
       unfolding work
-      work-alike n = sum-same (range 1 nodes) (λ j m. choice-alike j n (choiceOf cs j) (choiceOf cs′ j) (alike j m))
+      work-alike n = sum-same (range 1 groups) (λ j m. choice-alike j n (choiceOf cs j) (choiceOf cs′ j) (alike j m))
 
     -- They have the same window,
     pub window-alike : busyWindow fs k cs ≡ busyWindow fs k cs′
@@ -238,9 +238,9 @@ module _ {fs : List Frame} (valid : Valid fs) {k : ℕ} (inside : k < length fs)
     -- The frame's own distance is the same in both,
     pub own-alike : ownDistance f cs ≡ ownDistance f cs′
     unfolding ownDistance SameChoice
-    own-alike = go (choiceOf cs (f .node)) (choiceOf cs′ (f .node)) (alike (f .node) (node-listed (valid .frame k inside)))
+    own-alike = go (choiceOf cs (f .group)) (choiceOf cs′ (f .group)) (alike (f .group) (group-listed (valid .frame k inside)))
       where
-        go : (c c′ : Choice) → SameChoice fs f (f .node) c c′
+        go : (c c′ : Choice) → SameChoice fs f (f .group) c c′
             → _≡_ {A = ℕ} (elim c as (λ _. ℕ) [ Fixed a ↦ distance f a | Any ↦ 0 ]) (elim c′ as (λ _. ℕ) [ Fixed a ↦ distance f a | Any ↦ 0 ])
         go (Fixed a) (Fixed b) same = same f (self-ahead fs k inside)
         go (Fixed a) Any none = absurd none
@@ -264,21 +264,21 @@ module _ {fs : List Frame} (valid : Valid fs) {k : ℕ} (inside : k < length fs)
     pub response-alike : scenarioResponse fs f cs ≡ scenarioResponse fs f cs′
     response-alike = sym (found-counts fs f cs) ∙ ap orZero found-alike ∙ found-counts fs f cs′
 
-  -- Node by node the same is found from both.
-  pub refined-alike : (js : List ℕ) → ((j : ℕ) → Mem j js → Mem j (range 1 nodes)) → (cs cs′ : List Choice) → Alike fs f cs cs′ → length cs ≡ nodes → length cs′ ≡ nodes
+  -- Group by group the same is found from both.
+  pub refined-alike : (js : List ℕ) → ((j : ℕ) → Mem j js → Mem j (range 1 groups)) → (cs cs′ : List Choice) → Alike fs f cs cs′ → length cs ≡ groups → length cs′ ≡ groups
       → refined fs f js cs ≡ refined fs f js cs′
   unfolding refined
-  refined-alike [] node cs cs′ alike long long′ = response-alike cs cs′ alike
-  refined-alike (j ∷ js) node cs cs′ alike long long′ =
+  refined-alike [] group cs cs′ alike long long′ = response-alike cs cs′ alike
+  refined-alike (j ∷ js) group cs cs′ alike long long′ =
       ap (λ (h : ℕ → ℕ). greatest h (orEmpty (alignments fs f j))) (fun-ext (λ a.
-      refined-alike js (λ i l. node i (there l)) (set cs (j - 1) (Fixed a)) (set cs′ (j - 1) (Fixed a))
-      (alike-set fs f cs cs′ alike long long′ (node j (here refl)) a a (same-self fs f j (Fixed a)))
+      refined-alike js (λ i l. group i (there l)) (set cs (j - 1) (Fixed a)) (set cs′ (j - 1) (Fixed a))
+      (alike-set fs f cs cs′ alike long long′ (group j (here refl)) a a (same-self fs f j (Fixed a)))
       (length-set cs (j - 1) (Fixed a) ∙ long) (length-set cs′ (j - 1) (Fixed a) ∙ long′)))
 
-  -- ---- a node takes the alignments of its first turn
+  -- ---- a group takes the alignments of its first turn
 
-  module _ (cs : List Choice) (long : length cs ≡ nodes) (j : ℕ) (listed : Mem j (range 1 nodes)) where
-    -- the scenario with the node at alignment a
+  module _ (cs : List Choice) (long : length cs ≡ groups) (j : ℕ) (listed : Mem j (range 1 groups)) where
+    -- the scenario with the group at alignment a
     abbrev fixed : ℕ → List Choice
     fixed a = set cs (j - 1) (Fixed a)
 
@@ -288,24 +288,24 @@ module _ {fs : List Frame} (valid : Valid fs) {k : ℕ} (inside : k < length fs)
     alike-turn a = alike-set fs f cs cs (alike-self fs f cs) long long listed (a % turn fs f j) a (λ g m. distance-turn valid f j m a)
 
     -- So no more need be refined.
-    pub refined-turn : (js : List ℕ) → ((i : ℕ) → Mem i js → Mem i (range 1 nodes))
+    pub refined-turn : (js : List ℕ) → ((i : ℕ) → Mem i js → Mem i (range 1 groups))
         → greatest (λ a. refined fs f js (set cs (j - 1) (Fixed a))) (orEmpty (firstTurn fs f j)) ≡ greatest (λ a. refined fs f js (set cs (j - 1) (Fixed a))) (orEmpty (alignments fs f j))
-    refined-turn js node =
+    refined-turn js group =
         greatest-turn valid f j (λ a. refined fs f js (fixed a)) (λ a.
-        refined-alike js node (fixed (a % turn fs f j)) (fixed a) (alike-turn a) (length-set cs (j - 1) (Fixed (a % turn fs f j)) ∙ long) (length-set cs (j - 1) (Fixed a) ∙ long))
+        refined-alike js group (fixed (a % turn fs f j)) (fixed a) (alike-turn a) (length-set cs (j - 1) (Fixed (a % turn fs f j)) ∙ long) (length-set cs (j - 1) (Fixed a) ∙ long))
 
-  -- The approximate bound is found in the first turn of the frame's own node.
-  pub approximate-turn : greatestFound (λ a. scenarioFound fs f (set free (f .node - 1) (Fixed a))) (orEmpty (firstTurn fs f (f .node))) ≡ approximateFound fs f
+  -- The approximate bound is found in the first turn of the frame's own group.
+  pub approximate-turn : greatestFound (λ a. scenarioFound fs f (set free (f .group - 1) (Fixed a))) (orEmpty (firstTurn fs f (f .group))) ≡ approximateFound fs f
   unfolding approximateFound
   approximate-turn =
-      let own : ℕ → List Choice = λ a. set free (f .node - 1) (Fixed a) in
-      found-turn valid f (f .node) (λ a. scenarioFound fs f (own a)) (λ a.
-      found-alike (own (a % turn fs f (f .node))) (own a) (alike-turn free refl (f .node) (node-listed (valid .frame k inside)) a))
+      let own : ℕ → List Choice = λ a. set free (f .group - 1) (Fixed a) in
+      found-turn valid f (f .group) (λ a. scenarioFound fs f (own a)) (λ a.
+      found-alike (own (a % turn fs f (f .group))) (own a) (alike-turn free refl (f .group) (group-listed (valid .frame k inside)) a))
 
 -- ---- a visit of the first turn
 
 module _ {A B : Type 0} (F : List ℕ → B) (join : A → B → B) (goal : B) where
-  -- It starts at what a search finds first; a node without alignments is visited once, at 0.
+  -- It starts at what a search finds first; a group without alignments is visited once, at 0.
   pub visit-first : {fs : List Frame} → Valid fs → (k : Frame) (j : ℕ) {done : A} (found : Found) → found ≡ least (isAlignment fs k j) (turn fs k j - 0) 0
       → join done (F (orEmpty (firstTurn fs k j))) ≡ goal → Walk F join (isAlignment fs k j) (turn fs k j) goal done (orZero found)
   unfolding firstTurn

@@ -11,7 +11,7 @@ use Rattle.arith.specs.Lists.{keep, exists, range}
 use Rattle.arith.specs.Least.{least, orZero}
 use Rattle.arith.specs.laws.Least.{least-within, least-finds, least-none}
 use Rattle.arith.specs.laws.Walks.{keep-next, keep-end}
-use Rattle.bus_model.specs.Pattern.{ofNode}
+use Rattle.bus_model.specs.Pattern.{ofGroup}
 use Rattle.bus_model.specs.Bounds.{ahead, isReleasedAt, orEmpty}
 use Rattle.arith.specs.declared.Found.{Found}
 use Rattle.arith.specs.declared.Found.the-variants.{At, Nothing}
@@ -36,6 +36,6 @@ first-visited p e some Nothing is =
     let none : keep p (range 0 e) ≡ [] = rw sub-zero at (keep-end p e 0 (sym is)) in
     (some, rw (none, none-left p e (sym is)))
 
--- a is an alignment of node j, if it is below its hyperperiod
+-- a is an alignment of group j, if it is below its hyperperiod
 abbrev pub isAlignment : List Frame → Frame → ℕ → ℕ → Bool
-isAlignment fs k j a = exists (isReleasedAt a) (ofNode (ahead fs k) j)
+isAlignment fs k j a = exists (isReleasedAt a) (ofGroup (ahead fs k) j)

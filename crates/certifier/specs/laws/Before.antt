@@ -11,7 +11,7 @@ use Rattle.table_checks.specs.declared.Checked.{Checked}
 use Rattle.table_checks.specs.declared.Checked.the-variants.{Passed, Failed}
 use Rattle.table_checks.specs.Columns.{field, columns, identifierColumn}
 use Rattle.table_checks.specs.Frames.{standardLengths, framesOf, unmeasured}
-use Rattle.table_checks.specs.Checks.{first, firstOf, rowsSizeCheck, linesCheck, nodeCheck, nodesCheck, tableCheck, rowsCheck, loadedCheck}
+use Rattle.table_checks.specs.Checks.{first, firstOf, rowsSizeCheck, linesCheck, groupCheck, groupsCheck, tableCheck, rowsCheck, loadedCheck}
 use Rattle.table_checks.specs.laws.Lengths.{standard-loadable}
 use Rattle.table_checks.specs.laws.Accepted.{hyper-same, releases-same}
 use Rattle.table_checks.specs.laws.Before.{framesBefore, frames-before}
@@ -27,7 +27,7 @@ use Rattle.certifier.specs.Listing.{listingLine, lineOf, linesFrom, list
 -- ---- before
 
 unfoldable pub rowsCheckBefore : List ℕ → Checked
-rowsCheckBefore rows = first (rowsSizeCheck (length rows)) (first (linesCheck rows) (nodesCheck (framesBefore rows)))
+rowsCheckBefore rows = first (rowsSizeCheck (length rows)) (first (linesCheck rows) (groupsCheck (framesBefore rows)))
 
 unfoldable pub judgeCheckedBefore : Checked → List ℕ → ℕ → Judged
 judgeCheckedBefore (Failed f) rows r = NotJudged (ofTable f)
@@ -62,16 +62,16 @@ unfolding firstOf
 firstOf-same c d same zero n = refl
 firstOf-same c d same (suc m) n = ap₂ first (same n) (firstOf-same c d same m (n + 1))
 
-node-same : (ls : List (List ℕ)) (t : List ℕ) (j : ℕ) → nodeCheck (framesOf ls t) j ≡ nodeCheck (unmeasured t) j
-unfolding nodeCheck
-node-same ls t j = rw (hyper-same ls t j, releases-same ls t j)
+group-same : (ls : List (List ℕ)) (t : List ℕ) (j : ℕ) → groupCheck (framesOf ls t) j ≡ groupCheck (unmeasured t) j
+unfolding groupCheck
+group-same ls t j = rw (hyper-same ls t j, releases-same ls t j)
 
 pub rows-check-before : (rows : List ℕ) → rowsCheck rows ≡ rowsCheckBefore rows
-unfolding rowsCheck rowsCheckBefore tableCheck nodesCheck
+unfolding rowsCheck rowsCheckBefore tableCheck groupsCheck
 rows-check-before rows =
     rw (← frames-before rows)
     (ap (λ (c : Checked). first (rowsSizeCheck (length rows)) (first (linesCheck rows) c))
-    (sym (firstOf-same (nodeCheck (framesOf standardLengths rows)) (nodeCheck (unmeasured rows)) (node-same standardLengths rows) 16 1)))
+    (sym (firstOf-same (groupCheck (framesOf standardLengths rows)) (groupCheck (unmeasured rows)) (group-same standardLengths rows) 16 1)))
 
 loaded-before : (rows : List ℕ) → loadedCheck standardLengths rows ≡ rowsCheckBefore rows
 unfolding loadedCheck

@@ -14,13 +14,13 @@ use Rattle.bus_model.specs.declared.Outcome.{Outcome}
 use Rattle.bus_model.specs.declared.Outcome.the-variants.{CertifiedApproximate, CertifiedPrecise, ClaimTooSmall, NoWindow, Undecided}
 use Rattle.bus_model.specs.declared.Judgement.{Judgement}
 use Rattle.bus_model.specs.Frame.{row}
-use Rattle.bus_model.specs.Pattern.{ofNode, hyperperiod, patternReleases}
+use Rattle.bus_model.specs.Pattern.{ofGroup, hyperperiod, patternReleases}
 use Rattle.bus_model.specs.Judgement.{verdict, lacksWindow, tooManyScenarios}
 use Rattle.table_checks.specs.declared.Checked.{Checked}
 use Rattle.table_checks.specs.declared.Checked.the-variants.{Passed, Failed}
 use Rattle.table_checks.specs.Columns.{field, within, columns, mostLines, mostNumbers, lineLength}
 use Rattle.table_checks.specs.Frames.{framesOf, unmeasured}
-use Rattle.table_checks.specs.Checks.{first, firstOf, breaksLimits, lengthsCheck, fileSizeCheck, rowsSizeCheck, malformed, unterminated, columnCheck, columnsCheck, standsEarlier, lineCheck, linesCheck, nodeCheck, nodesCheck, tableCheck, rowsCheck, loadedCheck}
+use Rattle.table_checks.specs.Checks.{first, firstOf, breaksLimits, lengthsCheck, fileSizeCheck, rowsSizeCheck, malformed, unterminated, columnCheck, columnsCheck, standsEarlier, lineCheck, linesCheck, groupCheck, groupsCheck, tableCheck, rowsCheck, loadedCheck}
 use Rattle.table_checks.specs.laws.Accepted.{loaded-both, accepted-size}
 use Rattle.table_checks.specs.laws.Sizes.{file-size, rows-size}
 use Rattle.frame_table.specs.Text.{fieldsOf}
@@ -115,7 +115,7 @@ refusal-below f m = below (numberOf (f .cause) * 10000 + f .place) (let r = numb
 pub refusal-differs : (f : Refusal) {j : Judgement} {z : ℤ} → JudgementParts j z → encodeRefusal f ≢ z
 refusal-differs f p e = refusal-below f (p .size) (e ∙ p .is)
 
--- ---- the places of refusals: a line, a node or a row, at most 64
+-- ---- the places of refusals: a line, a group or a row, at most 64
 
 -- where the check fails, its place is small
 abbrev CheckPlaced : Checked → Type 0
@@ -144,18 +144,18 @@ line-placed t i l =
     (λ m. cond-cases CheckPlaced (within j (field t i (j - 1)) (field t i j)) (λ w. tt) (λ w. omega arith)))))
     (λ e. cond-cases CheckPlaced (standsEarlier t i) (λ s. omega arith) (λ s. tt))
 
-node-placed : (fs : List Frame) (j : ℕ) → j ≤ 16 → CheckPlaced (nodeCheck fs j)
-unfolding nodeCheck
-node-placed fs j l =
-    cond-cases CheckPlaced (ltb 1000000 (hyperperiod (ofNode fs j))) (λ h. omega arith)
-    (λ h. cond-cases CheckPlaced (ltb 256 (patternReleases (ofNode fs j))) (λ r. omega arith) (λ r. tt))
+group-placed : (fs : List Frame) (j : ℕ) → j ≤ 16 → CheckPlaced (groupCheck fs j)
+unfolding groupCheck
+group-placed fs j l =
+    cond-cases CheckPlaced (ltb 1000000 (hyperperiod (ofGroup fs j))) (λ h. omega arith)
+    (λ h. cond-cases CheckPlaced (ltb 256 (patternReleases (ofGroup fs j))) (λ r. omega arith) (λ r. tt))
 
 table-placed : (t : List ℕ) → length t / columns ≤ mostLines → CheckPlaced (tableCheck t)
-unfolding tableCheck linesCheck nodesCheck
+unfolding tableCheck linesCheck groupsCheck
 table-placed t few =
-    first-placed (linesCheck t) (nodesCheck (unmeasured t))
+    first-placed (linesCheck t) (groupsCheck (unmeasured t))
     (firstOf-placed (lineCheck t) (length t / columns) 0 (λ i low high. line-placed t i (omega arith)))
-    (λ e. firstOf-placed (nodeCheck (unmeasured t)) 16 1 (λ j low high. node-placed (unmeasured t) j (omega arith)))
+    (λ e. firstOf-placed (groupCheck (unmeasured t)) 16 1 (λ j low high. group-placed (unmeasured t) j (omega arith)))
 
 lengths-placed : (ls : List (List ℕ)) → CheckPlaced (lengthsCheck ls)
 unfolding lengthsCheck

@@ -28,7 +28,7 @@ use Rattle.bus_model.specs.theory.Frames.{better-ahead}
 use Rattle.bus_model.specs.theory.Work.{RefinedBy, work-mono, work-refine, work-own}
 use Rattle.bus_model.specs.theory.Response.{window-at, own-distance, delay-at, delay-within}
 use Rattle.bus_model.specs.theory.Iteration.{delay-next}
-use Rattle.workload.specs.Grouped.{FineTable, InTable}
+use Rattle.workload.specs.ByGroup.{FineTable, InTable}
 use Rattle.workload.specs.Laid.{laidOut, laidWork, AllFixed, FineFrames}
 use Rattle.workload.specs.laws.Fine.{in-table-fine}
 use Rattle.workload.specs.laws.Laid.{laid-mono, better-exact, ahead-exact}
@@ -95,7 +95,7 @@ module _ {gs : List Frame} (fine : FineFrames gs) (shift base e x : ℕ) {needed
   unfolding laidHolds
   laid-beyond = stop-beyond (λ y. base + laidWork gs (y + shift)) laid-load-mono e x is
 
--- Where every node's alignment is fixed, the frames laid out hold what the scenario holds.
+-- Where every group's alignment is fixed, the frames laid out hold what the scenario holds.
 module _ {fs : List Frame} (table : FineTable fs) (k : Frame) (cs : List Choice) (fixed : AllFixed cs) (base : ℕ) where
   holds-laid : (delay : Bool) → laidHolds (laidOut fs k delay cs) (shiftOf delay) base ≡ holds fs k cs delay base
   unfolding laidHolds holds loadOf shiftOf
@@ -163,13 +163,13 @@ module _ (fs : List Frame) (k : Frame) (cs : List Choice) where
   unfolding queueingDelay
   delay-least q v w e fits = least-le _ windowLimit 0 v w e (omega arith) (le→leb _ w fits)
 
--- ---- a frame k of the table, in a scenario that fixes the alignment of its own node
+-- ---- a frame k of the table, in a scenario that fixes the alignment of its own group
 
-module _ {fs : List Frame} (valid : Valid fs) {k : Frame} {at : ℕ} (inside : at < length fs) (is : k ≡ row fs at) (cs : List Choice) (own : ℕ) (fixed : choiceOf cs (k .node) ≡ Fixed own) where
+module _ {fs : List Frame} (valid : Valid fs) {k : Frame} {at : ℕ} (inside : at < length fs) (is : k ≡ row fs at) (cs : List Choice) (own : ℕ) (fixed : choiceOf cs (k .group) ≡ Fixed own) where
   -- The work of the frames ahead is that of the better ones and k's own.
   own-part : (n : ℕ) → work fs k (better fs k) cs n + demand k own n ≡ work fs k (ahead fs k) cs n
   own-part n =
-      subst (λ (f : Frame). choiceOf cs (f .node) ≡ Fixed own → work fs f (better fs f) cs n + demand f own n ≡ work fs f (ahead fs f) cs n)
+      subst (λ (f : Frame). choiceOf cs (f .group) ≡ Fixed own → work fs f (better fs f) cs n + demand f own n ≡ work fs f (ahead fs f) cs n)
       (sym is) (work-own valid inside own n cs) fixed
 
   -- So the load of a start comes from all work and k's own.
@@ -181,17 +181,17 @@ module _ {fs : List Frame} (valid : Valid fs) {k : Frame} {at : ℕ} (inside : a
   -- An instance released in the window ends in it.
   ends-within : {l : ℕ} → busyWindow fs k cs ≡ At l → (q : ℕ) → distance k own + q * k .period < l → (w : ℕ) × (queueingDelay fs k cs q ≡ At w) × (w + k .length ≤ l)
   ends-within {l} window =
-      subst (λ (f : Frame). choiceOf cs (f .node) ≡ Fixed own → busyWindow fs f cs ≡ At l
+      subst (λ (f : Frame). choiceOf cs (f .group) ≡ Fixed own → busyWindow fs f cs ≡ At l
       → (q : ℕ) → distance f own + q * f .period < l → (w : ℕ) × (queueingDelay fs f cs q ≡ At w) × (w + f .length ≤ l))
       (sym is) (λ f. delay-within valid inside cs own f l) fixed window
 
 -- ---- the instances released in a busy window
 
--- The window of a scenario in which k's node has alignment `own`: its length is l, k is released d ticks after its start, and so often in it.
+-- The window of a scenario in which k's group has alignment `own`: its length is l, k is released d ticks after its start, and so often in it.
 pub record Windowed (fs : List Frame) (k : Frame) (cs : List Choice) (own l d instances : ℕ) : Type 0 where
   pub accepted : FineTable fs
   pub listed : InTable fs k
-  pub fixed : choiceOf cs (k .node) ≡ Fixed own
+  pub fixed : choiceOf cs (k .group) ≡ Fixed own
   pub window : busyWindow fs k cs ≡ At l
   pub away : d ≡ distance k own
   pub number : instances ≡ releasesBefore d (k .period) l

@@ -25,7 +25,7 @@ use Rattle.bus_model.specs.Valid.{Valid}
 use Rattle.bus_model.specs.theory.Work.{RefinedBy}
 use Rattle.bus_model.specs.theory.Response.{response-at, own-distance, delay-found}
 use Rattle.bus_model.specs.theory.Approximate.{both, scenarioFound, found-at}
-use Rattle.workload.specs.Grouped.{FineTable, InTable}
+use Rattle.workload.specs.ByGroup.{FineTable, InTable}
 use Rattle.workload.specs.Laid.{laidOut}
 use Rattle.workload.specs.laws.Laid.{better-above}
 use Rattle.delay_search.specs.Load.{loadOf, holds, latestStart, WindowWithin, Serves, ServesLaid, InTime, InTimeBut, Left, NotedMore}
@@ -69,7 +69,7 @@ instance-fits {fs} {k} accepted listed d {l = l} {q} blocks number small inside 
     let few : q < 1000000 = omega (arith, le-mul-of-pos-right q (f .period-low)) in
     (omega (arith, blocking-small fs accepted k, mul-le-mul-left q (f .length-high)), omega arith, few)
 
-module _ (fs : List Frame) (k : Frame) (cs : List Choice) {own d : ℕ} (fixed : choiceOf cs (k .node) ≡ Fixed own) (away : d ≡ distance k own) where
+module _ (fs : List Frame) (k : Frame) (cs : List Choice) {own d : ℕ} (fixed : choiceOf cs (k .group) ≡ Fixed own) (away : d ≡ distance k own) where
   own-away : ownDistance k cs ≡ d
   own-away = own-distance fs k cs own fixed ∙ sym away
 
@@ -126,7 +126,7 @@ module _ {fs : List Frame} {k : Frame} {cs : List Choice} {own most : ℕ} where
   in-time-more : {q most′ : ℕ} → most ≤ most′ → InTime fs k cs own most q → InTime fs k cs own most′ q
   in-time-more le t = record { start = t .start; inside = t .inside; fits = omega (arith, t .fits); holds = t .holds }
 
-  -- and where more nodes are fixed.
+  -- and where more groups are fixed.
   in-time-finer : Valid fs → {cs′ : List Choice} → RefinedBy fs k cs cs′ → {q : ℕ} → InTime fs k cs own most q → InTime fs k cs′ own most q
   unfolding holds
   in-time-finer valid {cs′} finer {q} t =
@@ -164,7 +164,7 @@ module _ {fs : List Frame} {k : Frame} {cs : List Choice} {own most : ℕ} {list
   pub left-more : {most′ : ℕ} → most ≤ most′ → Left fs k cs own most list count end → Left fs k cs own most′ list count end
   left-more le left = record { size = left .size; few = left .few; served = λ i less out. in-time-more le (left .served i less out) }
 
-  -- and where more nodes are fixed.
+  -- and where more groups are fixed.
   pub left-finer : Valid fs → {cs′ : List Choice} → RefinedBy fs k cs cs′ → Left fs k cs own most list count end → Left fs k cs′ own most list count end
   left-finer valid finer left = record { size = left .size; few = left .few; served = λ i less out. in-time-finer valid finer (left .served i less out) }
 

@@ -1,4 +1,4 @@
--- The scenario with a guess in place of each open choice, node after node.
+-- The scenario with a guess in place of each open choice, group after group.
 use Prim.Native.Nat.{ℕ, _+_, _-_, _≤_, _<_}
 use mathlib.Core.Path.{_≡_, _∙_}
 use mathlib.Core.List.{List}
@@ -10,13 +10,13 @@ use Rattle.arith.specs.laws.Members.{of-range}
 use Rattle.bus_model.specs.declared.Frame.{Frame}
 use Rattle.bus_model.specs.declared.Choice.{Choice}
 use Rattle.bus_model.specs.declared.Choice.the-variants.{Fixed}
-use Rattle.bus_model.specs.Bounds.{nodes, alignments}
+use Rattle.bus_model.specs.Bounds.{groups, alignments}
 use Rattle.bus_model.specs.theory.Work.{Allows, RefinedBy}
-use Rattle.workload.specs.Grouped.{Grouped}
+use Rattle.workload.specs.ByGroup.{ByGroup}
 use Rattle.workload.specs.Laid.{AllFixed}
 use Rattle.workload.specs.laws.Groups.{lent-choice}
 
--- the choices of the first m nodes are allowed by those given, and fixed
+-- the choices of the first m groups are allowed by those given, and fixed
 pub record AllowedTo (fs : List Frame) (k : Frame) (cs cs′ : List Choice) (m : ℕ) : Type 0 where
   pub size : length cs′ ≡ 16
   pub each : (i : ℕ) → i < m → Allows (alignments fs k (i + 1)) (getD cs i (Fixed 0)) (getD cs′ i (Fixed 0))
@@ -36,16 +36,16 @@ module _ {fs : List Frame} {k : Frame} {cs cs′ : List Choice} {m : ℕ} (b : A
   }
 
   -- At the end they refine the scenario,
-  pub allowed-all : {members counts ends : List ℕ} → Grouped fs k members counts ends → 16 ≤ m → length cs ≡ 16 → RefinedBy fs k cs cs′
-  allowed-all grouped over all j l =
-      let (low, high) = of-range 1 nodes l in
-      let node : j - 1 + 1 ≡ j = omega arith in
+  pub allowed-all : {members counts ends : List ℕ} → ByGroup fs k members counts ends → 16 ≤ m → length cs ≡ 16 → RefinedBy fs k cs cs′
+  allowed-all by-group over all j l =
+      let (low, high) = of-range 1 groups l in
+      let group : j - 1 + 1 ≡ j = omega arith in
       let inside : j - 1 < 16 = omega arith in
-      rw (lent-choice grouped (j - 1) inside cs all, lent-choice grouped (j - 1) inside cs′ (b .size), node) at (b .each (j - 1) (omega arith))
+      rw (lent-choice by-group (j - 1) inside cs all, lent-choice by-group (j - 1) inside cs′ (b .size), group) at (b .each (j - 1) (omega arith))
 
-  -- and every node's alignment is fixed.
-  pub fixed-all : {members counts ends : List ℕ} → Grouped fs k members counts ends → 16 ≤ m → AllFixed cs′
-  fixed-all grouped over j l =
-      let (low, high) = of-range 1 nodes l in
-      let node : j - 1 + 1 ≡ j = omega arith in
-      rw (lent-choice grouped (j - 1) (omega arith) cs′ (b .size), node) at (b .fixed (j - 1) (omega arith))
+  -- and every group's alignment is fixed.
+  pub fixed-all : {members counts ends : List ℕ} → ByGroup fs k members counts ends → 16 ≤ m → AllFixed cs′
+  fixed-all by-group over j l =
+      let (low, high) = of-range 1 groups l in
+      let group : j - 1 + 1 ≡ j = omega arith in
+      rw (lent-choice by-group (j - 1) (omega arith) cs′ (b .size), group) at (b .fixed (j - 1) (omega arith))

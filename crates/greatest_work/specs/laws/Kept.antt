@@ -17,13 +17,13 @@ use Rattle.arith.specs.laws.Tests.{and-both}
 use Rattle.arith.specs.laws.Members.{of-keep}
 use Rattle.arith.specs.laws.Sums.{greatest-le}
 use Rattle.bus_model.specs.declared.Frame.{Frame}
-use Rattle.bus_model.specs.Pattern.{ofNode}
+use Rattle.bus_model.specs.Pattern.{ofGroup}
 use Rattle.bus_model.specs.Valid.{Valid}
-use Rattle.bus_model.specs.Bounds.{isAhead, ahead, alignments, orEmpty, distance, demand, workAt, nodeWork}
+use Rattle.bus_model.specs.Bounds.{isAhead, ahead, alignments, orEmpty, distance, demand, workAt, groupWork}
 use Rattle.bus_model.specs.theory.Turns.{turn}
 use Rattle.bus_model.specs.theory.Stairs.{stair, most-turns}
-use Rattle.workload.specs.Grouped.{Fine, FineTable, Grouped}
-use Rattle.greatest_work.specs.Kept.{unit, packed, nodeIn, lowIn, highIn, workIn, isOf, widened, most, Holds, Kept, Told}
+use Rattle.workload.specs.ByGroup.{Fine, FineTable, ByGroup}
+use Rattle.greatest_work.specs.Kept.{unit, packed, groupIn, lowIn, highIn, workIn, isOf, widened, most, Holds, Kept, Told}
 use Rattle.workload.specs.laws.Fine.{member-fine}
 use Rattle.workload.specs.laws.Groups.{lent-end}
 use Rattle.workload.specs.laws.Laid.{keep-few}
@@ -46,12 +46,12 @@ work-small (g ∷ gs) fine a n =
     omega (arith, own, work-small gs (λ f m. fine f (there m)) a n, suc-mul (length gs) (400 * n))
 
 module _ {fs : List Frame} (table : FineTable fs) (k : Frame) (j : ℕ) where
-  -- So a node has at most this.
+  -- So a group has at most this.
   most-le : (n : ℕ) → most fs k j n ≤ 64 * (400 * n)
-  unfolding nodeWork ofNode ahead
+  unfolding groupWork ofGroup ahead
   most-le n =
-      let gs = ofNode (ahead fs k) j in
-      let few : length gs ≤ 64 = omega (arith, keep-few (λ (g : Frame). eqb (g .node) j) (ahead fs k), keep-few (isAhead k) fs, table .few) in
+      let gs = ofGroup (ahead fs k) j in
+      let few : length gs ≤ 64 = omega (arith, keep-few (λ (g : Frame). eqb (g .group) j) (ahead fs k), keep-few (isAhead k) fs, table .few) in
       greatest-le (alignments fs k j) (λ a m. le-trans (work-small gs (λ g l. member-fine fs table (of-keep _ fs (of-keep _ _ l .0) .0)) a n) (mul-le-mul-right (400 * n) few))
 
   most-small : (n : ℕ) → n ≤ 1000001 → most fs k j n ≤ 64 * 400400400
@@ -62,8 +62,8 @@ module _ {fs : List Frame} (table : FineTable fs) (k : Frame) (j : ℕ) where
   most-none = omega (arith, most-le 0)
 
 -- It is that of whole turns, and that of the rest.
-module _ {fs : List Frame} (table : FineTable fs) {k : Frame} {members counts ends : List ℕ} (g : Grouped fs k members counts ends) (j : ℕ) (l : j < 16) where
-  pub most-rest : (n : ℕ) → n ≤ 1000001 → {a b : ℕ} → a ≡ n / getD ends j 0 * workAt (ofNode (ahead fs k) (j + 1)) 0 (turn fs k (j + 1)) → b ≡ most fs k (j + 1) (n % getD ends j 0)
+module _ {fs : List Frame} (table : FineTable fs) {k : Frame} {members counts ends : List ℕ} (g : ByGroup fs k members counts ends) (j : ℕ) (l : j < 16) where
+  pub most-rest : (n : ℕ) → n ≤ 1000001 → {a b : ℕ} → a ≡ n / getD ends j 0 * workAt (ofGroup (ahead fs k) (j + 1)) 0 (turn fs k (j + 1)) → b ≡ most fs k (j + 1) (n % getD ends j 0)
       → (a + b ≡ most fs k (j + 1) n) × (a + b ≤ 64 * 400400400)
   most-rest n few {a} {b} whole rest =
       let t = turn fs k (j + 1) in
@@ -93,12 +93,12 @@ module _ (j : ℕ) {low high w : ℕ} (l : low < unit) (h : high < unit) (s : w 
   low-again : lowIn (packed j low high w) ≡ low
   low-again = rw (rest, left-again (j * unit + low) high h) (right-again j low l)
 
-  node-again : nodeIn (packed j low high w) ≡ j
-  node-again = rw (rest, left-again (j * unit + low) high h) (left-again j low l)
+  group-again : groupIn (packed j low high w) ≡ j
+  group-again = rw (rest, left-again (j * unit + low) high h) (left-again j low l)
 
   -- It holds what is so from its one length to the other.
   pub holds-packed : {fs : List Frame} {k : Frame} → low ≤ high → ((n : ℕ) → low ≤ n → n ≤ high → most fs k (j + 1) n ≡ w) → Holds fs k (packed j low high w)
-  holds-packed some all = record { some = rw (low-again, high-again) some; is = rw (low-again, high-again, node-again, work-again) all }
+  holds-packed some all = record { some = rw (low-again, high-again) some; is = rw (low-again, high-again, group-again, work-again) all }
 
 -- ---- a stair is asked
 
@@ -107,25 +107,25 @@ module _ {fs : List Frame} {k : Frame} where
   pub told-is : {sums : List ℕ} → Kept fs k sums → {j n w : ℕ} → Told sums j n w → w ≡ most fs k (j + 1) n
   told-is {sums} p {j} {n} t =
       let v = getD sums (t .place) 0 in
-      let (node, inside) = and-both (eqb (nodeIn v) j) (leb (lowIn v) n && leb n (highIn v)) (t .on) in
+      let (group, inside) = and-both (eqb (groupIn v) j) (leb (lowIn v) n && leb n (highIn v)) (t .on) in
       let (low, high) = and-both (leb (lowIn v) n) (leb n (highIn v)) inside in
-      t .is ∙ sym (p .stairs (t .place) (t .inside) .is n (leb-true _ _ low) (leb-true _ _ high)) ∙ ap (λ (i : ℕ). most fs k (i + 1) n) (eqb-true _ _ node)
+      t .is ∙ sym (p .stairs (t .place) (t .inside) .is n (leb-true _ _ low) (leb-true _ _ high)) ∙ ap (λ (i : ℕ). most fs k (i + 1) n) (eqb-true _ _ group)
 
   -- A stair with the same work may be widened, since the greatest work does not fall.
   pub holds-widened : Valid fs → (v j n w : ℕ) → Holds fs k v → isOf v j w ≡ true → n < unit → most fs k (j + 1) n ≡ w → Holds fs k (widened v n)
   holds-widened valid v j n w h same less is =
-      let (node, work) = and-both (eqb (nodeIn v) j) (eqb (workIn v) w) same in
-      let own : nodeIn v ≡ j = eqb-true _ _ node in
+      let (group, work) = and-both (eqb (groupIn v) j) (eqb (workIn v) w) same in
+      let own : groupIn v ≡ j = eqb-true _ _ group in
       let so : workIn v ≡ w = eqb-true _ _ work in
-      let now : most fs k (nodeIn v + 1) n ≡ workIn v = rw (own, so) is in
-      let first : most fs k (nodeIn v + 1) (lowIn v) ≡ workIn v = h .is (lowIn v) (le-refl _) (h .some) in
-      let last : most fs k (nodeIn v + 1) (highIn v) ≡ workIn v = h .is (highIn v) (h .some) (le-refl _) in
-      holds-packed (nodeIn v) (omega arith) (omega arith) (omega arith) (omega (arith, h .some)) (λ m low high. elim (decLe (lowIn v) m) [
+      let now : most fs k (groupIn v + 1) n ≡ workIn v = rw (own, so) is in
+      let first : most fs k (groupIn v + 1) (lowIn v) ≡ workIn v = h .is (lowIn v) (le-refl _) (h .some) in
+      let last : most fs k (groupIn v + 1) (highIn v) ≡ workIn v = h .is (highIn v) (h .some) (le-refl _) in
+      holds-packed (groupIn v) (omega arith) (omega arith) (omega arith) (omega (arith, h .some)) (λ m low high. elim (decLe (lowIn v) m) [
         | yes above ↦ elim (decLe m (highIn v)) [
           | yes below ↦ h .is m above below
-          | no over ↦ stair valid k (nodeIn v + 1) (omega arith) (omega arith) (last ∙ sym now) ∙ last
+          | no over ↦ stair valid k (groupIn v + 1) (omega arith) (omega arith) (last ∙ sym now) ∙ last
         ]
-        | no under ↦ stair valid k (nodeIn v + 1) {low = n} {high = lowIn v} (omega arith) (omega arith) (now ∙ sym first) ∙ now
+        | no under ↦ stair valid k (groupIn v + 1) {low = n} {high = lowIn v} (omega arith) (omega arith) (now ∙ sym first) ∙ now
       ])
 
 -- ---- one more is kept
@@ -147,31 +147,31 @@ module _ {fs : List Frame} {k : Frame} {sums : List ℕ} (p : Kept fs k sums) wh
       by-place i l true e = rw (eqb-true i s e, getD-set-same sums s v 0 (omega (arith, p .size))) holds
       by-place i l false e = rw (getD-set-other sums s i v 0 (eqb-false i s e)) (p .stairs i l)
 
-  -- So may one more than an alignment in its node's.
+  -- So may one more than an alignment in its group's.
   pub guess-put : (j a : ℕ) → j < 16 → a < 4294967296 → Mem a (orEmpty (alignments fs k (j + 1))) → Kept fs k (set sums (2048 + j) (a + 1))
   guess-put j a l small listed = record {
     size = length-set sums (2048 + j) (a + 1) ∙ p .size;
     stairs = λ i m. rw (getD-set-other sums (2048 + j) i (a + 1) 0 (λ q. omega arith)) (p .stairs i m);
-    guess = λ i l′ taken. by-node i l′ (eqb i j) refl .0 taken;
-    guess-small = λ i l′. by-node i l′ (eqb i j) refl .1;
+    guess = λ i l′ taken. by-group i l′ (eqb i j) refl .0 taken;
+    guess-small = λ i l′. by-group i l′ (eqb i j) refl .1;
   }
     where
       now : ℕ → ℕ
       now i = getD (set sums (2048 + j) (a + 1)) (2048 + i) 0
 
-      by-node : (i : ℕ) → i < 16 → (b : Bool) → eqb i j ≡ b → (0 < now i → Mem (now i - 1) (orEmpty (alignments fs k (i + 1)))) × (now i ≤ 4294967296)
-      by-node i l′ true e =
+      by-group : (i : ℕ) → i < 16 → (b : Bool) → eqb i j ≡ b → (0 < now i → Mem (now i - 1) (orEmpty (alignments fs k (i + 1)))) × (now i ≤ 4294967296)
+      by-group i l′ true e =
           let read = getD-set-same sums (2048 + j) (a + 1) 0 (omega (arith, p .size)) in
           let back : a + 1 - 1 ≡ a = omega arith in
           rw (eqb-true i j e, read, back) (λ taken. listed, omega arith)
-      by-node i l′ false e =
+      by-group i l′ false e =
           let other = eqb-false i j e in
           rw (getD-set-other sums (2048 + j) (2048 + i) (a + 1) 0 (λ q. other (omega arith))) (p .guess i l′, p .guess-small i l′)
 
 -- ---- at the start
 
 module _ {fs : List Frame} (table : FineTable fs) (k : Frame) where
-  -- The number 0 says that the first node has no work in the first 0 ticks.
+  -- The number 0 says that the first group has no work in the first 0 ticks.
   holds-none : Holds fs k 0
   holds-none = record { some = le-refl 0; is = λ n l h. let none : n ≡ 0 = omega arith in rw none (most-none table k 1) }
 

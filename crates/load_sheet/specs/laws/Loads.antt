@@ -14,8 +14,8 @@ use Rattle.arith.specs.laws.Sums.{sum-keep}
 use Rattle.arith.specs.laws.Walks.{Down, down-start, down-more}
 use Rattle.bus_model.specs.declared.Frame.{Frame}
 use Rattle.bus_model.specs.Frame.{noFrame, row}
-use Rattle.bus_model.specs.Pattern.{ofNode, hyperperiod}
-use Rattle.bus_model.specs.theory.Frames.{node-pos}
+use Rattle.bus_model.specs.Pattern.{ofGroup, hyperperiod}
+use Rattle.bus_model.specs.theory.Frames.{group-pos}
 use Rattle.table_checks.specs.Columns.{field, columns, kindColumn, payloadColumn}
 use Rattle.table_checks.specs.Frames.{frameAt, framesOf}
 use Rattle.table_checks.specs.Checks.{Loadable, Accepted}
@@ -35,8 +35,8 @@ frame-limits ls rows loadable accepted i l =
 
 -- A node's hyperperiod is not 0, and small.
 pub divisor-limits : (ls : List (List ℕ)) (rows : List ℕ) → Loadable ls → Accepted rows → (j : ℕ) → 1 ≤ j → j ≤ 16
-    → (1 ≤ hyperperiod (ofNode (framesOf ls rows) j)) × (hyperperiod (ofNode (framesOf ls rows) j) ≤ 1000000)
-divisor-limits ls rows loadable accepted j low high = (node-pos (accepted-valid rows accepted ls loadable) j, accepted-pattern rows accepted ls j low high .0)
+    → (1 ≤ hyperperiod (ofGroup (framesOf ls rows) j)) × (hyperperiod (ofGroup (framesOf ls rows) j) ≤ 1000000)
+divisor-limits ls rows loadable accepted j low high = (group-pos (accepted-valid rows accepted ls loadable) j, accepted-pattern rows accepted ls j low high .0)
 
 -- The load by its work and its divisor.
 pub load-is : (gs : List Frame) (h w : ℕ) → h ≡ hyperperiod gs → w ≡ workIn h gs
@@ -51,18 +51,18 @@ module _ (fs : List Frame) (j : ℕ) where
   abbrev pub Decides : ℕ → Type 0
   Decides i = hasFrames (drop i fs) j ≡ hasFrames fs j
 
-  next : (i : ℕ) → i < length fs → hasFrames (drop i fs) j ≡ (eqb (row fs i .node) j || hasFrames (drop (i + 1) fs) j)
+  next : (i : ℕ) → i < length fs → hasFrames (drop i fs) j ≡ (eqb (row fs i .group) j || hasFrames (drop (i + 1) fs) j)
   unfolding hasFrames exists
   next i l = rw (drop-cons fs i noFrame l, add-one i)
 
   module _ (i : ℕ) (g : Frame) (l : i < length fs) (is : g ≡ row fs i) (decides : Decides i) where
     -- One of the node's is found.
-    pub found-here : g .node ≡ j → true ≡ hasFrames fs j
-    found-here e = sym (next i l ∙ rw (← is, eq-eqb (g .node) j e)) ∙ decides
+    pub found-here : g .group ≡ j → true ≡ hasFrames fs j
+    found-here e = sym (next i l ∙ rw (← is, eq-eqb (g .group) j e)) ∙ decides
 
     -- Any other is passed over.
-    pub found-later : g .node ≢ j → Decides (i + 1)
-    found-later e = sym (next i l ∙ rw (← is, ne-eqb (g .node) j e)) ∙ decides
+    pub found-later : g .group ≢ j → Decides (i + 1)
+    found-later e = sym (next i l ∙ rw (← is, ne-eqb (g .group) j e)) ∙ decides
 
   -- At the end there is none.
   pub found-none : (i : ℕ) → length fs ≤ i → Decides i → false ≡ hasFrames fs j
@@ -72,20 +72,20 @@ module _ (fs : List Frame) (j : ℕ) where
 -- ---- the work of a node's frames in h ticks
 
 abbrev pub workOf : ℕ → ℕ → List Frame → ℕ
-workOf h j gs = workIn h (ofNode gs j)
+workOf h j gs = workIn h (ofGroup gs j)
 
 -- of a frame
 abbrev frameWork : ℕ → ℕ → Frame → ℕ
-frameWork h j g = cond (eqb (g .node) j) (g .length * (h / g .period)) 0
+frameWork h j g = cond (eqb (g .group) j) (g .length * (h / g .period)) 0
 
 work-cons : (h j : ℕ) (g : Frame) (gs : List Frame) → workOf h j (g ∷ gs) ≡ frameWork h j g + workOf h j gs
-unfolding ofNode sum workIn
+unfolding ofGroup sum workIn
 work-cons h j g gs = sum-keep _ _ (g ∷ gs) ∙ ap (λ (s : ℕ). frameWork h j g + s) (sym (sum-keep _ _ gs))
 
 module _ (ls : List (List ℕ)) (rows : List ℕ) (h j : ℕ) where
   -- A loop down through the rows starts at 0.
   pub work-none : Down (workOf h j) (framesOf ls rows) 0 (length rows / columns)
-  unfolding sum ofNode keep workIn
+  unfolding sum ofGroup keep workIn
   work-none = subst (Down (workOf h j) (framesOf ls rows) 0) (length-frames ls rows) (down-start (workOf h j) (framesOf ls rows) refl)
 
   -- It takes one frame more.

@@ -22,7 +22,7 @@ use Rattle.decimal.specs.Decimal.{readColumn, writeColumn}
 use Rattle.decimal.specs.Laws.{length-write, read-write}
 use Rattle.bus_model.specs.declared.Frame.{Frame}
 use Rattle.bus_model.specs.Frame.{noFrame, row}
-use Rattle.bus_model.specs.Pattern.{ofNode, hyperperiod}
+use Rattle.bus_model.specs.Pattern.{ofGroup, hyperperiod}
 use Rattle.table_checks.specs.Frames.{framesOf}
 use Rattle.table_checks.specs.Checks.{Loadable, Accepted}
 use Rattle.table_checks.specs.laws.Accepted.{length-frames, accepted-size, accepted-valid}
@@ -127,48 +127,48 @@ module _ (ls : List (List ℕ)) (rows : List ℕ) (loadable : Loadable ls) (acce
   -- ---- the nodes that have frames
 
   -- A frame's node is listed,
-  pub listed : {g : Frame} → Mem g fs → Mem (g .node) (nodesOf fs)
+  pub listed : {g : Frame} → Mem g fs → Mem (g .group) (nodesOf fs)
   unfolding nodesOf hasFrames
   listed {g} m =
       let (i, l, e) = place-of noFrame m in
       let valid = accepted-valid rows accepted ls loadable .frame i l in
-      mem-keep (hasFrames fs) (mem-range 1 16 (g .node) (rw e at (valid .node-low)) (omega (arith, rw e at (valid .node-high)))) (exists-mem _ m (eqb-refl (g .node)))
+      mem-keep (hasFrames fs) (mem-range 1 16 (g .group) (rw e at (valid .group-low)) (omega (arith, rw e at (valid .group-high)))) (exists-mem _ m (eqb-refl (g .group)))
 
   -- and a node that is listed has a frame.
-  pub of-listed : {j : ℕ} → Mem j (nodesOf fs) → (1 ≤ j) × (j ≤ 16) × ((g : Frame) × Mem g fs × (g .node ≡ j))
+  pub of-listed : {j : ℕ} → Mem j (nodesOf fs) → (1 ≤ j) × (j ≤ 16) × ((g : Frame) × Mem g fs × (g .group ≡ j))
   unfolding nodesOf hasFrames
   of-listed {j} m =
       let (n, t) = of-keep (hasFrames fs) (range 1 16) m in
       let (low, high) = of-range 1 16 n in
       let (g, k, e) = of-exists _ fs t in
-      (low, omega arith, (g, k, eqb→eq (g .node) j e))
+      (low, omega arith, (g, k, eqb→eq (g .group) j e))
 
   -- ---- a node's load
 
-  work-most : (h j : ℕ) → workIn h (ofNode fs j) ≤ 400 * h * 64
-  unfolding workIn ofNode
+  work-most : (h j : ℕ) → workIn h (ofGroup fs j) ≤ 400 * h * 64
+  unfolding workIn ofGroup
   work-most h j =
-      let few : length (ofNode fs j) ≤ 64 = omega (arith, length-keep (λ g. eqb (g .node) j) fs, length-frames ls rows, accepted-size rows accepted .most) in
-      omega (arith, sum-bound (λ g. g .length * (h / g .period)) (400 * h) (ofNode fs j) term, mul-le-mul-left (400 * h) few)
+      let few : length (ofGroup fs j) ≤ 64 = omega (arith, length-keep (λ g. eqb (g .group) j) fs, length-frames ls rows, accepted-size rows accepted .most) in
+      omega (arith, sum-bound (λ g. g .length * (h / g .period)) (400 * h) (ofGroup fs j) term, mul-le-mul-left (400 * h) few)
     where
-      term : (g : Frame) → Mem g (keep (λ f. eqb (f .node) j) fs) → g .length * (h / g .period) ≤ 400 * h
+      term : (g : Frame) → Mem g (keep (λ f. eqb (f .group) j) fs) → g .length * (h / g .period) ≤ 400 * h
       term g m =
           let (i, l, e) = place-of noFrame (of-keep _ fs m .0) in
           let short : g .length ≤ 400 = rw e at (frame-limits ls rows loadable accepted i (rw (length-frames ls rows) at l) .1) in
           mul-le-mul short (div-le-self h (g .period))
 
   module _ {j : ℕ} (node : Mem j (nodesOf fs)) where
-    divisor-is : (1 ≤ hyperperiod (ofNode fs j)) × (hyperperiod (ofNode fs j) ≤ 1000000)
+    divisor-is : (1 ≤ hyperperiod (ofGroup fs j)) × (hyperperiod (ofGroup fs j) ≤ 1000000)
     divisor-is = let (low, high, g) = of-listed node in divisor-limits ls rows loadable accepted j low high
 
     pub remainder-below : nodeLoad fs j .remainder < nodeLoad fs j .divisor
     unfolding nodeLoad loadOf
-    remainder-below = mod-lt (dividend (ofNode fs j)) (divisor-is .0)
+    remainder-below = mod-lt (dividend (ofGroup fs j)) (divisor-is .0)
 
     quotient-most : nodeLoad fs j .quotient ≤ 256000000
     unfolding nodeLoad loadOf dividend
     quotient-most =
-        let h : ℕ = hyperperiod (ofNode fs j) in
+        let h : ℕ = hyperperiod (ofGroup fs j) in
         div-le-of-le-mul h (omega (arith, work-most h j))
 
     load-reads : LineReads (nodeLine j (nodeLoad fs j)) j (nodeLoad fs j)
@@ -190,7 +190,7 @@ module _ (ls : List (List ℕ)) (rows : List ℕ) (loadable : Loadable ls) (acce
         | yes more ↦
             let (j, m, exceeds) = greatest-exceeds (λ i. nodeLoad fs i .quotient) (greatestQuotient fs (nodesOf fs) - 1) (nodesOf fs) (omega arith) in
             (j, m, omega (arith, exceeds, most-above m))
-        | no none ↦ (row fs 0 .node, first, omega (arith, none, most-above first))
+        | no none ↦ (row fs 0 .group, first, omega (arith, none, most-above first))
       ]
 
   -- ---- the lines, and the last line

@@ -28,7 +28,7 @@ use Rattle.table_checks.specs.Columns.{columns, mostNumbers, claimColumn}
 use Rattle.table_checks.specs.Frames.{framesOf}
 use Rattle.table_checks.specs.Checks.{loadedCheck, Loadable, Accepted}
 use Rattle.table_checks.specs.laws.Accepted.{length-frames, loaded-both, accepted-size, accepted-valid}
-use Rattle.workload.specs.Grouped.{FineTable, InTable}
+use Rattle.workload.specs.ByGroup.{FineTable, InTable}
 use Rattle.row_judgement.specs.declared.Cause.{Cause}
 use Rattle.row_judgement.specs.declared.Refusal.{Refusal}
 use Rattle.row_judgement.specs.declared.Judged.{Judged}

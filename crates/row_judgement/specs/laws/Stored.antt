@@ -13,7 +13,7 @@ use Rattle.table_checks.specs.laws.Lengths.{length-bounds}
 use Rattle.table_checks.specs.laws.Limits.{identified-cases}
 use Rattle.table_checks.specs.laws.Accepted.{length-frames, frame-row, accepted-size, accepted-limits, accepted-pattern, accepted-valid}
 use Rattle.workload.specs.Stored.{stored}
-use Rattle.workload.specs.Grouped.{Fine, FineTable}
+use Rattle.workload.specs.ByGroup.{Fine, FineTable}
 use Rattle.workload.specs.laws.Stored.{StoredTo, stored-all}
 
 module _ (ls : List (List ℕ)) (loadable : Loadable ls) (rows : List ℕ) (accepted : Accepted rows) where
@@ -23,8 +23,8 @@ module _ (ls : List (List ℕ)) (loadable : Loadable ls) (rows : List ℕ) (acce
       let m = accepted-limits rows accepted i l in
       let c = length-bounds ls loadable (field rows i kindColumn) (field rows i payloadColumn) (m .payload-max) in
       record {
-        node-low = m .node-min;
-        node-high = m .node-max;
+        group-low = m .node-min;
+        group-high = m .node-max;
         length-low = omega (arith, c .0);
         length-high = omega (arith, c .1);
         period-low = m .period-min;

@@ -36,9 +36,9 @@ bounded-hyperperiod-requires c κs = rw (copied c) (accepted-periods _ (c .befor
 returns : tie.Need-returns
 returns c =
     let start = c .before .before .before .before .before .before in
-    let node : ℕ = start .args .node in
-    let whole = accepted-pattern _ (start .pre .0) [] node (start .pre .1 .0) (start .pre .1 .1) .0 in
-    omega (arith, c .bounded-hyperperiod .ensures, ap (λ (t : List ℕ). hyperOf node (unmeasured t)) (copied (c .before)))
+    let group : ℕ = start .args .group in
+    let whole = accepted-pattern _ (start .pre .0) [] group (start .pre .1 .0) (start .pre .1 .1) .0 in
+    omega (arith, c .bounded-hyperperiod .ensures, ap (λ (t : List ℕ). hyperOf group (unmeasured t)) (copied (c .before)))
 
 pub hyperperiod-spec : {M : Type 1} → statement M
 hyperperiod-spec =

@@ -1,4 +1,4 @@
--- What is known of an accepted table: its size, the limits of its numbers, its nodes' patterns,
+-- What is known of an accepted table: its size, the limits of its numbers, its groups' patterns,
 -- and that its frames, by lengths that passed, are valid in the sense of the bus model.
 use Prim.Native.Nat.{ℕ, _+_, _-_, _/_, _≤_, _<_}
 use mathlib.Core.Path.{_≡_, refl, sym, ap, subst, _∙_}
@@ -16,14 +16,14 @@ use Rattle.arith.specs.laws.Tests.{by-test}
 use Rattle.arith.specs.laws.Members.{fold-keep, length-range, getD-table, getD-beyond, exists-mem, mem-range}
 use Rattle.bus_model.specs.declared.Frame.{Frame}
 use Rattle.bus_model.specs.Frame.{noFrame, row}
-use Rattle.bus_model.specs.Pattern.{ofNode, hyperperiod, patternReleases}
+use Rattle.bus_model.specs.Pattern.{ofGroup, hyperperiod, patternReleases}
 use Rattle.bus_model.specs.Valid.{ValidFrame, Valid}
 use Rattle.table_checks.specs.declared.Cause.the-variants.{Duplicate, Hyperperiod, Releases}
 use Rattle.table_checks.specs.declared.Checked.the-variants.{Passed}
 use Rattle.table_checks.specs.Columns.{field, columns, nodeColumn, identifierColumn, kindColumn, payloadColumn, periodColumn}
 use Rattle.table_checks.specs.Frames.{frameAt, framesOf, unmeasured}
 use Rattle.table_checks.specs.Refusal.{failed}
-use Rattle.table_checks.specs.Checks.{lengthsCheck, rowsSizeCheck, columnsCheck, isSameFrame, standsEarlier, lineCheck, linesCheck, nodeCheck, nodesCheck, tableCheck, rowsCheck, loadedCheck, Accepted, Loadable}
+use Rattle.table_checks.specs.Checks.{lengthsCheck, rowsSizeCheck, columnsCheck, isSameFrame, standsEarlier, lineCheck, linesCheck, groupCheck, groupsCheck, tableCheck, rowsCheck, loadedCheck, Accepted, Loadable}
 use Rattle.table_checks.specs.Steps.{Periods}
 use Rattle.table_checks.specs.laws.First.{first-passed, first-each}
 use Rattle.table_checks.specs.laws.Limits.{Limits, not-passed, lines-each, lines-periods}
@@ -46,32 +46,32 @@ frame-row ls t i l = getD-table (frameAt ls t) 0 (length t / columns) i noFrame 
 pub no-row : (ls : List (List ℕ)) (t : List ℕ) (i : ℕ) → length t / columns ≤ i → row (framesOf ls t) i ≡ noFrame
 no-row ls t i l = getD-beyond (framesOf ls t) i noFrame (rw (length-frames ls t) l)
 
--- ---- a node's pattern is the same by any lengths
+-- ---- a group's pattern is the same by any lengths
 
 module _ (t : List ℕ) (j : ℕ) {B : Type 0} (F : List Frame → B) (step : ℕ → B → B) (more : (g : Frame) (gs : List Frame) → F (g ∷ gs) ≡ step (g .period) (F gs)) where
-  -- what a row's frame adds to a fold over the node's frames that looks at their periods
+  -- what a row's frame adds to a fold over the group's frames that looks at their periods
   abbrev added : ℕ → B → B
   added i b = cond (eqb (field t i nodeColumn) j) (step (field t i periodColumn) b) b
 
-  fold-more : (ls : List (List ℕ)) (i : ℕ) (is : List ℕ) → F (ofNode (map (frameAt ls t) (i ∷ is)) j) ≡ added i (F (ofNode (map (frameAt ls t) is) j))
-  unfolding ofNode frameAt
-  fold-more ls i is = fold-keep F (λ g. step (g .period)) more (λ g. eqb (g .node) j) (frameAt ls t i) (map (frameAt ls t) is)
+  fold-more : (ls : List (List ℕ)) (i : ℕ) (is : List ℕ) → F (ofGroup (map (frameAt ls t) (i ∷ is)) j) ≡ added i (F (ofGroup (map (frameAt ls t) is) j))
+  unfolding ofGroup frameAt
+  fold-more ls i is = fold-keep F (λ g. step (g .period)) more (λ g. eqb (g .group) j) (frameAt ls t i) (map (frameAt ls t) is)
 
-  fold-same : (ls : List (List ℕ)) (is : List ℕ) → F (ofNode (map (frameAt ls t) is) j) ≡ F (ofNode (map (frameAt [] t) is) j)
-  unfolding ofNode keep
+  fold-same : (ls : List (List ℕ)) (is : List ℕ) → F (ofGroup (map (frameAt ls t) is) j) ≡ F (ofGroup (map (frameAt [] t) is) j)
+  unfolding ofGroup keep
   fold-same ls [] = refl
   fold-same ls (i ∷ is) = fold-more ls i is ∙ ap (added i) (fold-same ls is) ∙ sym (fold-more [] i is)
 
 module _ (ls : List (List ℕ)) (t : List ℕ) (j : ℕ) where
-  pub hyper-same : hyperperiod (ofNode (framesOf ls t) j) ≡ hyperperiod (ofNode (unmeasured t) j)
+  pub hyper-same : hyperperiod (ofGroup (framesOf ls t) j) ≡ hyperperiod (ofGroup (unmeasured t) j)
   unfolding framesOf
   hyper-same = fold-same t j hyperperiod lcm (λ g gs. unfold hyperperiod lcmOf in refl) ls (range 0 (length t / columns))
 
-  pub releases-same : patternReleases (ofNode (framesOf ls t) j) ≡ patternReleases (ofNode (unmeasured t) j)
+  pub releases-same : patternReleases (ofGroup (framesOf ls t) j) ≡ patternReleases (ofGroup (unmeasured t) j)
   unfolding framesOf patternReleases
   releases-same =
-      let h = hyperperiod (ofNode (unmeasured t) j) in
-      ap (λ n. sum (λ g. n / g .period) (ofNode (framesOf ls t) j)) hyper-same
+      let h = hyperperiod (ofGroup (unmeasured t) j) in
+      ap (λ n. sum (λ g. n / g .period) (ofGroup (framesOf ls t) j)) hyper-same
       ∙ fold-same t j (sum (λ g. h / g .period)) (λ p s. h / p + s) (λ g gs. unfold sum in refl) ls (range 0 (length t / columns))
 
 -- ---- no frame stands twice
@@ -102,7 +102,7 @@ module _ (rows : List ℕ) (accepted : Accepted rows) where
 
   lines-passed : linesCheck rows ≡ Passed
   unfolding tableCheck
-  lines-passed = first-passed (linesCheck rows) (nodesCheck (unmeasured rows)) table-passed .0
+  lines-passed = first-passed (linesCheck rows) (groupsCheck (unmeasured rows)) table-passed .0
 
   -- The numbers of each row are within their limits.
   pub accepted-limits : (i : ℕ) → i < length rows / columns → Limits rows i
@@ -113,23 +113,23 @@ module _ (rows : List ℕ) (accepted : Accepted rows) where
 
   -- ---- patterns
 
-  node-passed : (j : ℕ) → 1 ≤ j → j ≤ 16 → nodeCheck (unmeasured rows) j ≡ Passed
-  unfolding tableCheck nodesCheck
-  node-passed j low high =
+  group-passed : (j : ℕ) → 1 ≤ j → j ≤ 16 → groupCheck (unmeasured rows) j ≡ Passed
+  unfolding tableCheck groupsCheck
+  group-passed j low high =
       let z : 1 + (j - 1) ≡ j = omega arith in
-      rw z at (first-each (nodeCheck (unmeasured rows)) 16 1 (first-passed (linesCheck rows) (nodesCheck (unmeasured rows)) table-passed .1) (j - 1) (omega arith))
+      rw z at (first-each (groupCheck (unmeasured rows)) 16 1 (first-passed (linesCheck rows) (groupsCheck (unmeasured rows)) table-passed .1) (j - 1) (omega arith))
 
-  pattern-limits : (j : ℕ) → 1 ≤ j → j ≤ 16 → (hyperperiod (ofNode (unmeasured rows) j) ≤ 1000000) × (patternReleases (ofNode (unmeasured rows) j) ≤ 256)
-  unfolding nodeCheck
+  pattern-limits : (j : ℕ) → 1 ≤ j → j ≤ 16 → (hyperperiod (ofGroup (unmeasured rows) j) ≤ 1000000) × (patternReleases (ofGroup (unmeasured rows) j) ≤ 256)
+  unfolding groupCheck
   pattern-limits j low high =
-      let e = node-passed j low high in
-      let gs : List Frame = ofNode (unmeasured rows) j in
+      let e = group-passed j low high in
+      let gs : List Frame = ofGroup (unmeasured rows) j in
       by-test (ltb 1000000 (hyperperiod gs)) (λ h. not-passed {cause = Hyperperiod} {place = j} (simp h at e))
       (λ h. by-test (ltb 256 (patternReleases gs)) (λ r. not-passed {cause = Releases} {place = j} (simp (h, r) at e))
       (λ r. (ltb-false _ _ h, ltb-false _ _ r)))
 
-  -- Each node's pattern is within its limits, whatever the lengths are.
-  pub accepted-pattern : (ls : List (List ℕ)) (j : ℕ) → 1 ≤ j → j ≤ 16 → (hyperperiod (ofNode (framesOf ls rows) j) ≤ 1000000) × (patternReleases (ofNode (framesOf ls rows) j) ≤ 256)
+  -- Each group's pattern is within its limits, whatever the lengths are.
+  pub accepted-pattern : (ls : List (List ℕ)) (j : ℕ) → 1 ≤ j → j ≤ 16 → (hyperperiod (ofGroup (framesOf ls rows) j) ≤ 1000000) × (patternReleases (ofGroup (framesOf ls rows) j) ≤ 256)
   accepted-pattern ls j low high = rw (hyper-same ls rows j, releases-same ls rows j) (pattern-limits j low high)
 
   -- ---- the frames are valid
@@ -140,7 +140,7 @@ module _ (rows : List ℕ) (accepted : Accepted rows) where
     valid-frame i l =
         let m = accepted-limits i l in
         let c = length-bounds ls loadable (field rows i kindColumn) (field rows i payloadColumn) (m .payload-max) in
-        record { period = m .period-min; length = omega (arith, c .0); node-low = m .node-min; node-high = m .node-max; offset = m .offset-max }
+        record { period = m .period-min; length = omega (arith, c .0); group-low = m .node-min; group-high = m .node-max; offset = m .offset-max }
 
     no-duplicate : (i j : ℕ) → i < j → j < length rows / columns → frameAt ls rows i .priority ≡ frameAt ls rows j .priority → ⊥
     unfolding frameAt linesCheck

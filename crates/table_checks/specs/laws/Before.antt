@@ -23,7 +23,7 @@ lengthBefore kind payload = getD (getD standardLengths (kindPlace kind) []) payl
 unfoldable pub frameBefore : List ℕ → ℕ → Frame
 frameBefore t i =
     record {
-      node = field t i nodeColumn;
+      group = field t i nodeColumn;
       priority = priorityOf (field t i kindColumn) (field t i identifierColumn);
       length = lengthBefore (field t i kindColumn) (field t i payloadColumn);
       period = field t i periodColumn;

@@ -16,7 +16,7 @@ use Rattle.bus_model.specs.theory.Answers.{SameAnswers, ranked-answers, answers
 use Rattle.table_checks.specs.declared.Checked.{Checked}
 use Rattle.table_checks.specs.Columns.{field, columns, identifierColumn, kindColumn}
 use Rattle.table_checks.specs.Frames.{priorityOf, frameAt, framesOf}
-use Rattle.table_checks.specs.Checks.{firstOf, nodeCheck, nodesCheck}
+use Rattle.table_checks.specs.Checks.{firstOf, groupCheck, groupsCheck}
 use Rattle.table_checks.specs.laws.Rank.{shorts, longs}
 
 -- the frames of a table under a rank, given by kind and identifier
@@ -72,7 +72,7 @@ pub answers-kept : (ls : List (List ℕ)) (t : List ℕ) (kind : ℕ) → (kind 
     → SameAnswers (framesOf ls t) (framesBy formerRank ls t)
 answers-kept ls t kind is all = rw (frames-ranked ls t) (one-kind ls t kind all priorityOf formerRank (today-rises kind is) (former-rises kind is))
 
--- and their nodes pass the same checks.
-pub checks-kept : {fs gs : List Frame} → SameAnswers fs gs → nodesCheck fs ≡ nodesCheck gs
-unfolding nodesCheck nodeCheck
+-- and their groups pass the same checks.
+pub checks-kept : {fs gs : List Frame} → SameAnswers fs gs → groupsCheck fs ≡ groupsCheck gs
+unfolding groupsCheck groupCheck
 checks-kept same = ap (λ (check : ℕ → Checked). firstOf check 16 1) (fun-ext (λ j. rw (same .hyper j, same .releases j)))

@@ -14,7 +14,7 @@ use Rattle.table_checks.specs.declared.Checked.{Checked}
 use Rattle.table_checks.specs.declared.Checked.the-variants.{Passed, Failed}
 use Rattle.table_checks.specs.Frames.{unmeasured}
 use Rattle.table_checks.specs.Refusal.{numberOf, failed, Returned, returned, checkReturns}
-use Rattle.table_checks.specs.Checks.{first, lengthsCheck, fileSizeCheck, rowsSizeCheck, linesCheck, nodesCheck, tableCheck, rowsCheck, loadedCheck}
+use Rattle.table_checks.specs.Checks.{first, lengthsCheck, fileSizeCheck, rowsSizeCheck, linesCheck, groupsCheck, tableCheck, rowsCheck, loadedCheck}
 use Rattle.table_checks.specs.Returns.{firstReturned, lengthsReturns, fileSizeReturns, rowsSizeReturns, rowsReturns, loadedReturns}
 
 -- ---- the causes
@@ -106,7 +106,7 @@ rows-returned : (rows : List ℕ) → checkReturns (rowsCheck rows) ≡ rowsRetu
 unfolding rowsCheck tableCheck rowsReturns
 rows-returned rows =
     first-returned (rowsSizeCheck (length rows)) (tableCheck rows)
-    ∙ ap₂ firstReturned (rows-size-returned (length rows)) (first-returned (linesCheck rows) (nodesCheck (unmeasured rows)))
+    ∙ ap₂ firstReturned (rows-size-returned (length rows)) (first-returned (linesCheck rows) (groupsCheck (unmeasured rows)))
 
 pub loaded-returned : (ls : List (List ℕ)) (rows : List ℕ) → checkReturns (loadedCheck ls rows) ≡ loadedReturns ls rows
 unfolding loadedCheck loadedReturns

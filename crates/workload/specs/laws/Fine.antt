@@ -8,13 +8,13 @@ use Rattle.arith.specs.laws.Members.{place-of, of-keep, mem-getD}
 use Rattle.bus_model.specs.declared.Frame.{Frame}
 use Rattle.bus_model.specs.Frame.{noFrame, row}
 use Rattle.bus_model.specs.Valid.{ValidFrame}
-use Rattle.bus_model.specs.Pattern.{ofNode}
+use Rattle.bus_model.specs.Pattern.{ofGroup}
 use Rattle.bus_model.specs.Bounds.{ahead}
-use Rattle.workload.specs.Grouped.{Fine, FineTable, FinePart, partOf, Grouped, InTable}
+use Rattle.workload.specs.ByGroup.{Fine, FineTable, FinePart, partOf, ByGroup, InTable}
 
 -- They are those that the definitions ask for.
 pub of-fine : {g : Frame} → Fine g → ValidFrame g
-of-fine fine = record { period = fine .period-low; length = fine .length-low; node-low = fine .node-low; node-high = fine .node-high; offset = fine .offset }
+of-fine fine = record { period = fine .period-low; length = fine .length-low; group-low = fine .group-low; group-high = fine .group-high; offset = fine .offset }
 
 module _ (fs : List Frame) (table : FineTable fs) where
   -- Each frame of the table is.
@@ -25,8 +25,8 @@ module _ (fs : List Frame) (table : FineTable fs) where
   in-table-fine t = subst Fine (sym (t .is)) (table .fine (t .at) (t .inside))
 
   -- So are those of a group.
-  pub group-fine : {k : Frame} {members counts ends : List ℕ} → Grouped fs k members counts ends → (j : ℕ) → 1 ≤ j → j ≤ 16 → FinePart fs (partOf members counts j)
-  unfolding ofNode ahead
+  pub group-fine : {k : Frame} {members counts ends : List ℕ} → ByGroup fs k members counts ends → (j : ℕ) → 1 ≤ j → j ≤ 16 → FinePart fs (partOf members counts j)
+  unfolding ofGroup ahead
   group-fine {k} {members} {counts} g j low high =
       record {
         few = simp length-take (omega (arith, g .few j low high));

@@ -1,4 +1,4 @@
--- Frames laid out: their work is that of the scenario, or a bound of it where a node is open; and the loop that lays them out.
+-- Frames laid out: their work is that of the scenario, or a bound of it where a group is open; and the loop that lays them out.
 use Prim.Native.Nat.{ℕ, suc, _+_, _-_, _*_, _≤_, _<_}
 use mathlib.Core.Path.{_≡_, refl, sym, ap, _∙_}
 use mathlib.Core.List.{List, [], _∷_, map, List·Memᴰ as Mem, List·Memᴰ·head as here, List·Memᴰ·tail as there}
@@ -21,49 +21,49 @@ use Rattle.bus_model.specs.declared.Frame.{Frame}
 use Rattle.bus_model.specs.declared.Choice.{Choice}
 use Rattle.bus_model.specs.declared.Choice.the-variants.{Fixed, Any}
 use Rattle.bus_model.specs.Frame.{noFrame, row}
-use Rattle.bus_model.specs.Pattern.{ofNode}
-use Rattle.bus_model.specs.Bounds.{nodes, ahead, better, alignments, choiceOf, demand, workAt, nodeWork, work}
-use Rattle.bus_model.specs.theory.Frames.{of-node}
+use Rattle.bus_model.specs.Pattern.{ofGroup}
+use Rattle.bus_model.specs.Bounds.{groups, ahead, better, alignments, choiceOf, demand, workAt, groupWork, work}
+use Rattle.bus_model.specs.theory.Frames.{of-group}
 use Rattle.bus_model.specs.theory.Alignment.{distance-lt}
 use Rattle.workload.specs.Stored.{stored, putAt}
-use Rattle.workload.specs.Grouped.{Fine, FineTable}
+use Rattle.workload.specs.ByGroup.{Fine, FineTable}
 use Rattle.workload.specs.Laid.{isLoad, firstRelease, laidBy, laidFrame, laidOut, laidDemand, laidWork, AllFixed, FineFrames}
 use Rattle.workload.specs.laws.Fine.{member-fine, of-fine}
 use Rattle.workload.specs.laws.Stored.{StoredTo, put-more, stored-all}
 
--- ---- a sum over frames, node by node
+-- ---- a sum over frames, group by group
 
--- what the frames of node j give, each by a term that may depend on the node
-abbrev nodeSum : (ℕ → Frame → ℕ) → List Frame → ℕ → ℕ
-nodeSum h gs j = sum (h j) (ofNode gs j)
+-- what the frames of group j give, each by a term that may depend on the group
+abbrev groupSum : (ℕ → Frame → ℕ) → List Frame → ℕ → ℕ
+groupSum h gs j = sum (h j) (ofGroup gs j)
 
 module _ (h : ℕ → Frame → ℕ) where
-  -- One frame more counts at its own node alone.
-  node-more : (g : Frame) (gs : List Frame) (j : ℕ) → nodeSum h (g ∷ gs) j ≡ cond (eqb (g .node) j) (h j g) 0 + nodeSum h gs j
-  unfolding ofNode sum
-  node-more g gs j = rw (sum-keep (λ (f : Frame). eqb (f .node) j) (h j) (g ∷ gs), sum-keep (λ (f : Frame). eqb (f .node) j) (h j) gs)
+  -- One frame more counts at its own group alone.
+  group-more : (g : Frame) (gs : List Frame) (j : ℕ) → groupSum h (g ∷ gs) j ≡ cond (eqb (g .group) j) (h j g) 0 + groupSum h gs j
+  unfolding ofGroup sum
+  group-more g gs j = rw (sum-keep (λ (f : Frame). eqb (f .group) j) (h j) (g ∷ gs), sum-keep (λ (f : Frame). eqb (f .group) j) (h j) gs)
 
-  nodes-none : sum (nodeSum h []) (range 1 nodes) ≡ 0
-  unfolding sum range ofNode keep
-  nodes-none = refl
+  groups-none : sum (groupSum h []) (range 1 groups) ≡ 0
+  unfolding sum range ofGroup keep
+  groups-none = refl
 
-  -- So a sum over the nodes is one over the frames.
-  nodes-frames : (gs : List Frame) → ((g : Frame) → Mem g gs → Fine g) → sum (nodeSum h gs) (range 1 nodes) ≡ sum (λ g. h (g .node) g) gs
+  -- So a sum over the groups is one over the frames.
+  groups-frames : (gs : List Frame) → ((g : Frame) → Mem g gs → Fine g) → sum (groupSum h gs) (range 1 groups) ≡ sum (λ g. h (g .group) g) gs
   unfolding sum
-  nodes-frames [] fine = nodes-none
-  nodes-frames (g ∷ gs) fine =
+  groups-frames [] fine = groups-none
+  groups-frames (g ∷ gs) fine =
       let f = fine g (here refl) in
-      let rest = nodes-frames gs (λ x m. fine x (there m)) in
-      let mine : nodeSum h (g ∷ gs) (g .node) ≡ h (g .node) g + nodeSum h gs (g .node) = node-more g gs (g .node) ∙ ap (λ (x : ℕ). x + nodeSum h gs (g .node)) (cond-yes (eqb (g .node) (g .node)) (h (g .node) g) 0 (eqb-refl (g .node))) in
-      let other : (j : ℕ) → j ≢ g .node → nodeSum h (g ∷ gs) j ≡ nodeSum h gs j =
-      λ j ne. node-more g gs j ∙ ap (λ (x : ℕ). x + nodeSum h gs j) (cond-no (eqb (g .node) j) (h j g) 0 (λ t. ne (sym (eqb→eq (g .node) j t)))) ∙ zero-add _ in
-      let least = sum-at (nodeSum h gs) (nodeSum h (g ∷ gs)) (h (g .node) g) 0 1 nodes (g .node) (f .node-low) (omega (arith, f .node-high)) (λ j low high ne. le-of-eq (sym (other j ne))) (omega arith) in
-      let most = sum-at (nodeSum h (g ∷ gs)) (nodeSum h gs) 0 (h (g .node) g) 1 nodes (g .node) (f .node-low) (omega (arith, f .node-high)) (λ j low high ne. le-of-eq (other j ne)) (omega arith) in
+      let rest = groups-frames gs (λ x m. fine x (there m)) in
+      let mine : groupSum h (g ∷ gs) (g .group) ≡ h (g .group) g + groupSum h gs (g .group) = group-more g gs (g .group) ∙ ap (λ (x : ℕ). x + groupSum h gs (g .group)) (cond-yes (eqb (g .group) (g .group)) (h (g .group) g) 0 (eqb-refl (g .group))) in
+      let other : (j : ℕ) → j ≢ g .group → groupSum h (g ∷ gs) j ≡ groupSum h gs j =
+      λ j ne. group-more g gs j ∙ ap (λ (x : ℕ). x + groupSum h gs j) (cond-no (eqb (g .group) j) (h j g) 0 (λ t. ne (sym (eqb→eq (g .group) j t)))) ∙ zero-add _ in
+      let least = sum-at (groupSum h gs) (groupSum h (g ∷ gs)) (h (g .group) g) 0 1 groups (g .group) (f .group-low) (omega (arith, f .group-high)) (λ j low high ne. le-of-eq (sym (other j ne))) (omega arith) in
+      let most = sum-at (groupSum h (g ∷ gs)) (groupSum h gs) 0 (h (g .group) g) 1 groups (g .group) (f .group-low) (omega (arith, f .group-high)) (λ j low high ne. le-of-eq (other j ne)) (omega arith) in
       omega arith
 
 -- ---- the work of frames laid out
 
--- what a frame asks for by a choice for its node
+-- what a frame asks for by a choice for its group
 abbrev byChoice : Choice → ℕ → Frame → ℕ
 byChoice c n g = g .length * releasesBefore (firstRelease c g) (g .period) n
 
@@ -72,31 +72,31 @@ unfolding sum
 sum-map f t [] = refl
 sum-map f t (x ∷ xs) = ap (λ (s : ℕ). f (t x) + s) (sum-map f t xs)
 
--- It is a sum over the nodes.
-laid-nodes : (gs : List Frame) → ((g : Frame) → Mem g gs → Fine g) → (cs : List Choice) (n : ℕ)
-    → laidWork (map (laidFrame cs) gs) n ≡ sum (λ j. sum (byChoice (choiceOf cs j) n) (ofNode gs j)) (range 1 nodes)
+-- It is a sum over the groups.
+laid-groups : (gs : List Frame) → ((g : Frame) → Mem g gs → Fine g) → (cs : List Choice) (n : ℕ)
+    → laidWork (map (laidFrame cs) gs) n ≡ sum (λ j. sum (byChoice (choiceOf cs j) n) (ofGroup gs j)) (range 1 groups)
 unfolding laidWork laidFrame
-laid-nodes gs fine cs n = sum-map (laidDemand n) (laidFrame cs) gs ∙ sym (nodes-frames (λ j. byChoice (choiceOf cs j) n) gs fine)
+laid-groups gs fine cs n = sum-map (laidDemand n) (laidFrame cs) gs ∙ sym (groups-frames (λ j. byChoice (choiceOf cs j) n) gs fine)
 
 module _ (fs : List Frame) (k : Frame) (gs : List Frame) (fine : (g : Frame) → Mem g gs → Fine g) (cs : List Choice) (n : ℕ) where
-  -- Where a node's alignment is open, no alignment gives it more work;
-  node-above : (j : ℕ) (c : Choice) → nodeWork (ofNode gs j) (alignments fs k j) c n ≤ sum (byChoice c n) (ofNode gs j)
-  unfolding nodeWork workAt demand firstRelease
-  node-above j (Fixed a) = le-refl _
-  node-above j Any = greatest-le (alignments fs k j) (λ a m. sum-le (ofNode gs j) (λ g l. mul-le-mul-left (g .length) (count-later (omega arith) (fine g (of-node gs j l .0) .period-low) n)))
+  -- Where a group's alignment is open, no alignment gives it more work;
+  group-above : (j : ℕ) (c : Choice) → groupWork (ofGroup gs j) (alignments fs k j) c n ≤ sum (byChoice c n) (ofGroup gs j)
+  unfolding groupWork workAt demand firstRelease
+  group-above j (Fixed a) = le-refl _
+  group-above j Any = greatest-le (alignments fs k j) (λ a m. sum-le (ofGroup gs j) (λ g l. mul-le-mul-left (g .length) (count-later (omega arith) (fine g (of-group gs j l .0) .period-low) n)))
 
   -- where it is fixed, it has that work.
-  node-exact : (j : ℕ) {c : Choice} {a : ℕ} → c ≡ Fixed a → nodeWork (ofNode gs j) (alignments fs k j) c n ≡ sum (byChoice c n) (ofNode gs j)
-  unfolding nodeWork workAt demand firstRelease
-  node-exact j e = rw e
+  group-exact : (j : ℕ) {c : Choice} {a : ℕ} → c ≡ Fixed a → groupWork (ofGroup gs j) (alignments fs k j) c n ≡ sum (byChoice c n) (ofGroup gs j)
+  unfolding groupWork workAt demand firstRelease
+  group-exact j e = rw e
 
   above : work fs k gs cs n ≤ laidWork (map (laidFrame cs) gs) n
   unfolding work
-  above = rw (laid-nodes gs fine cs n) (sum-le (range 1 nodes) (λ j m. node-above j (choiceOf cs j)))
+  above = rw (laid-groups gs fine cs n) (sum-le (range 1 groups) (λ j m. group-above j (choiceOf cs j)))
 
   exact : AllFixed cs → work fs k gs cs n ≡ laidWork (map (laidFrame cs) gs) n
   unfolding work
-  exact fixed = sum-same (range 1 nodes) (λ j m. node-exact j (fixed j m .1)) ∙ sym (laid-nodes gs fine cs n)
+  exact fixed = sum-same (range 1 groups) (λ j m. group-exact j (fixed j m .1)) ∙ sym (laid-groups gs fine cs n)
 
 pub keep-few : {A : Type 0} (p : A → Bool) (xs : List A) → length (keep p xs) ≤ length xs
 unfolding keep
@@ -117,13 +117,13 @@ module _ {fs : List Frame} (table : FineTable fs) (k : Frame) (cs : List Choice)
   frame-fine : {g : Frame} → Fine g → Fine (laidFrame cs g)
   unfolding laidFrame
   frame-fine {g} fine = record {
-    node-low = fine .node-low;
-    node-high = fine .node-high;
+    group-low = fine .group-low;
+    group-high = fine .group-high;
     length-low = fine .length-low;
     length-high = fine .length-high;
     period-low = fine .period-low;
     period-high = fine .period-high;
-    offset = first-short fine (choiceOf cs (g .node));
+    offset = first-short fine (choiceOf cs (g .group));
   }
 
   -- They are within their limits.
@@ -138,7 +138,7 @@ module _ {fs : List Frame} (table : FineTable fs) (k : Frame) (cs : List Choice)
   unfolding better isLoad
   better-above n = above fs k (keep (isLoad true k) fs) (load-fine true) cs n
 
-  -- and it is the work where every node's alignment is fixed, for a start and for a window.
+  -- and it is the work where every group's alignment is fixed, for a start and for a window.
   module _ (fixed : AllFixed cs) (n : ℕ) where
     pub better-exact : work fs k (better fs k) cs n ≡ laidWork (laidOut fs k true cs) n
     unfolding better isLoad
@@ -179,10 +179,10 @@ module _ {A : Type 0} (d : A) (xs : List A) (m : ℕ) {y : A} {ys : List A} (lef
   others-left : drop (suc m) xs ≡ ys
   others-left = ap (drop 1) parts
 
--- A frame is laid out by the choice that stands at its node's place.
-pub laid-choice : {g : Frame} → Fine g → (cs : List Choice) (beyond : Choice) → length cs ≡ nodes → laidBy (getD cs (g .node - 1) beyond) g ≡ laidFrame cs g
+-- A frame is laid out by the choice that stands at its group's place.
+pub laid-choice : {g : Frame} → Fine g → (cs : List Choice) (beyond : Choice) → length cs ≡ groups → laidBy (getD cs (g .group - 1) beyond) g ≡ laidFrame cs g
 unfolding laidFrame
-laid-choice {g} fine cs beyond long = ap (λ (choice : Choice). laidBy choice g) (getD-within cs (g .node - 1) beyond Any (omega (arith, fine .node-low, fine .node-high)))
+laid-choice {g} fine cs beyond long = ap (λ (choice : Choice). laidBy choice g) (getD-within cs (g .group - 1) beyond Any (omega (arith, fine .group-low, fine .group-high)))
 
 module _ {fs : List Frame} {k : Frame} {delay : Bool} {cs : List Choice} {area : List ℕ} where
   -- At first none is.

@@ -29,7 +29,7 @@ stored-none t i l = getD-beyond (stored t) i noFrame (rw (length-stored t) l)
 
 module _ (t : List ℕ) (i : ℕ) (g : Frame) (v : ℕ) where
   abbrev t1 : List ℕ
-  t1 = set t (6 * i) (g .node)
+  t1 = set t (6 * i) (g .group)
 
   abbrev t2 : List ℕ
   t2 = set t1 (6 * i + 1) (g .priority)
@@ -75,7 +75,7 @@ module _ (t : List ℕ) (i : ℕ) (g : Frame) (v : ℕ) where
         getD-set-same t2 (6 * i + 2) (g .length) 0 (omega arith),
         getD-set-other t1 (6 * i + 1) (6 * i) (g .priority) 0 (omega arith),
         getD-set-same t1 (6 * i + 1) (g .priority) 0 (omega arith),
-        getD-set-same t (6 * i) (g .node) 0 (omega arith),
+        getD-set-same t (6 * i) (g .group) 0 (omega arith),
       )
 
   -- and what stood before it still does.
@@ -87,7 +87,7 @@ module _ (t : List ℕ) (i : ℕ) (g : Frame) (v : ℕ) where
       ∙ getD-set-other t3 (6 * i + 3) j (g .period) 0 (omega arith)
       ∙ getD-set-other t2 (6 * i + 2) j (g .length) 0 (omega arith)
       ∙ getD-set-other t1 (6 * i + 1) j (g .priority) 0 (omega arith)
-      ∙ getD-set-other t (6 * i) j (g .node) 0 (omega arith)
+      ∙ getD-set-other t (6 * i) j (g .group) 0 (omega arith)
 
   put-there : (m : ℕ) → m < i → storedAt (putAt t i g v) m ≡ storedAt t m
   unfolding storedAt

@@ -1,4 +1,4 @@
--- The loop has the greatest response over the alignments of k's node that are visited; what is left and it make the bound.
+-- The loop has the greatest response over the alignments of k's group that are visited; what is left and it make the bound.
 use Prim.Native.Nat.{_-_, _≤_}
 use mathlib.Core.Path.{refl, sym, _∙_}
 use mathlib.Core.List.{List·Memᴰ as Mem}
@@ -7,7 +7,7 @@ use borrow.Author.Needs.{needs}
 use Rattle.arith.specs.declared.Found.the-variants.{At}
 use Rattle.arith.specs.laws.Members.{mem-range}
 use Rattle.arith.specs.laws.Walks.{Walk, walk-more, walk-less, walk-end}
-use Rattle.bus_model.specs.Bounds.{nodes, alignments, orEmpty}
+use Rattle.bus_model.specs.Bounds.{groups, alignments, orEmpty}
 use Rattle.bus_model.specs.theory.Refine.{free, set-same}
 use Rattle.bus_model.specs.theory.Visits.{isAlignment}
 use Rattle.bus_model.specs.theory.Approximate.{both, greatestFound, approximateFound, found-more, both-missing, both-zero}
@@ -15,23 +15,23 @@ use Rattle.bus_model.specs.theory.Turns.{turn, turn-le, visit-first, first-list
 use Rattle.workload.specs.Stored.{stored}
 use Rattle.delay_search.specs.laws.Searches.{window-small}
 use Rattle.delay_search.specs.laws.Within.{left-all}
-use Rattle.bounds.specs.laws.Levels.{own-node, ownFound, found-end, free-within, own-found}
+use Rattle.bounds.specs.laws.Levels.{own-group, ownFound, found-end, free-within, own-found}
 use Rattle.delay_search.specs.Ready.{Ready}
 use Rattle.bounds.proofs.approximate_bound.approximate.Statement.{statement}
 use Rattle.bounds.proofs.approximate_bound.approximate.Tie as tie
 
 abbrev Inv-loop : tie.InvT-loop
 Inv-loop frames members counts ends k blocked sums₀ j limit most₀ a₀ sums most a =
-    Walk (greatestFound (ownFound (stored frames) k)) (λ done r. both (At done) r) (isAlignment (stored frames) k (k .node)) (turn (stored frames) k (k .node)) (approximateFound (stored frames) k) most a
-    × Mem a (orEmpty (alignments (stored frames) k (k .node)))
+    Walk (greatestFound (ownFound (stored frames) k)) (λ done r. both (At done) r) (isAlignment (stored frames) k (k .group)) (turn (stored frames) k (k .group)) (approximateFound (stored frames) k) most a
+    × Mem a (orEmpty (alignments (stored frames) k (k .group)))
     × Ready (stored frames) k members counts ends sums
 
 abbrev μ-loop : tie.MeasureT-loop
-μ-loop frames members counts ends k blocked sums₀ j limit most₀ a₀ sums most a = turn (stored frames) k (k .node) - a
+μ-loop frames members counts ends k blocked sums₀ j limit most₀ a₀ sums most a = turn (stored frames) k (k .group) - a
 
--- k's node is one of the nodes
-node : (s : tie.Start Inv-loop μ-loop) → (1 ≤ s .args .k .node) × (s .args .k .node ≤ 16)
-node s = own-node (s .pre .0 .table) (s .pre .0 .listed)
+-- k's group is one of the groups
+group : (s : tie.Start Inv-loop μ-loop) → (1 ≤ s .args .k .group) × (s .args .k .group ≤ 16)
+group s = own-group (s .pre .0 .table) (s .pre .0 .listed)
 
 cast-j : tie.Need-cast-j Inv-loop μ-loop
 cast-j c = search needs
@@ -44,8 +44,8 @@ busy-window-requires c κs =
 next-of-requires : tie.Need-next-of-requires Inv-loop μ-loop
 next-of-requires c κs =
     let s = c .before .before .before .before .before .before .before .before .before .before in
-    let n = node s in
-    (s .pre .0 .table, (s .pre .0 .grouped, (n .0, n .1, omega arith)))
+    let n = group s in
+    (s .pre .0 .table, (s .pre .0 .by-group, (n .0, n .1, omega arith)))
 
 or-zero-requires : tie.Need-or-zero-requires Inv-loop μ-loop
 or-zero-requires c κs = search needs
@@ -56,13 +56,13 @@ loop-holds c =
     let valid = s .pre .0 .table .valid in
     let first = c .before .next-of in
     rw (c .or-zero .ensures) (
-      visit-first _ _ _ valid (s .args .k) (s .args .k .node) (first .result) (first .ensures) (both-zero _ ∙ own-found (s .pre .0 .table) (s .pre .0 .listed)),
-      first-listed valid (s .args .k) (s .args .k .node) (first .result) (first .ensures),
+      visit-first _ _ _ valid (s .args .k) (s .args .k .group) (first .result) (first .ensures) (both-zero _ ∙ own-found (s .pre .0 .table) (s .pre .0 .listed)),
+      first-listed valid (s .args .k) (s .args .k .group) (first .result) (first .ensures),
       c .before .before .before .before .busy-window .ensures .1,
     )
 
 with-choice-requires : tie.Need-with-choice-requires Inv-loop μ-loop
-with-choice-requires c κs = node (c .before .before .before .before .before .before .before .before .before .before .before .before .before)
+with-choice-requires c κs = group (c .before .before .before .before .before .before .before .before .before .before .before .before .before)
 
 limit-of-requires : tie.Need-limit-of-requires Inv-loop μ-loop
 limit-of-requires c κs =
@@ -78,11 +78,11 @@ all-left-requires c κs = search needs
 raised-requires : tie.Need-raised-requires Inv-loop μ-loop
 raised-requires c κs =
     let s = c .before .before .before .before .before .before .before .before .before .before .before .before .before .before .before .before .before .before .before .before in
-    let n = node s in
+    let n = group s in
     let l = c .before .before .before .before .before .before .before .loop in
     let w = c .before .before .before .before .before .before .with-choice .ensures in
     let limit = c .before .before .before .before .limit-of .ensures in
-    (limit .1, ((rw w (set-same free (mem-range 1 nodes (s .args .k .node) (n .0) (omega (arith, n .1))) (l .a) refl), s .pre .1), (limit .0, left-all (c .before .all-left .ensures))))
+    (limit .1, ((rw w (set-same free (mem-range 1 groups (s .args .k .group) (n .0) (omega (arith, n .1))) (l .a) refl), s .pre .1), (limit .0, left-all (c .before .all-left .ensures))))
 
 enum-known-more : tie.Need-enum-known-more Inv-loop μ-loop
 enum-known-more c = search needs
@@ -102,14 +102,14 @@ returns c =
 add-next-of : tie.Need-add-next-of Inv-loop μ-loop
 add-next-of c =
     let s = c .before .before .before .before .before .before .before .before .before .before .before .before .before .before .before .before .before .before .before .before .before .before .before .before .before .before in
-    let n = node s in
-    omega (arith, c .before .before .before .before .before .before .before .before .before .before .before .before .before .loop .inv .0 .inside, s .pre .0 .table .hyper _ (n .0) (n .1), turn-le (s .pre .0 .table .valid) (s .args .k) (s .args .k .node))
+    let n = group s in
+    omega (arith, c .before .before .before .before .before .before .before .before .before .before .before .before .before .loop .inv .0 .inside, s .pre .0 .table .hyper _ (n .0) (n .1), turn-le (s .pre .0 .table .valid) (s .args .k) (s .args .k .group))
 
 next-of-requires-2 : tie.Need-next-of-requires-2 Inv-loop μ-loop
 next-of-requires-2 c κs =
     let s = c .before .before .before .before .before .before .before .before .before .before .before .before .before .before .before .before .before .before .before .before .before .before .before .before .before .before in
-    let n = node s in
-    (s .pre .0 .table, (s .pre .0 .grouped, (n .0, n .1, omega (arith, c .before .before .before .before .before .before .before .before .before .before .before .before .before .loop .inv .0 .inside))))
+    let n = group s in
+    (s .pre .0 .table, (s .pre .0 .by-group, (n .0, n .1, omega (arith, c .before .before .before .before .before .before .before .before .before .before .before .before .before .loop .inv .0 .inside))))
 
 enum-known-found : tie.Need-enum-known-found Inv-loop μ-loop
 enum-known-found c = search needs

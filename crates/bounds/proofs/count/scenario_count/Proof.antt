@@ -1,4 +1,4 @@
--- The invariant has the product over the nodes that are passed, cut after each; the others make it no less.
+-- The invariant has the product over the groups that are passed, cut after each; the others make it no less.
 use Prim.Native.Nat.{ℕ, _+_, _-_, _*_, _≤_, min}
 use mathlib.Core.Path.{_≡_, refl, ap, _∙_}
 use native.Mathlib.Omega.{arith}
@@ -6,7 +6,7 @@ use borrow.Author.Needs.{needs}
 use lib.ListN.{length, getD}
 use Rattle.arith.specs.Lists.{range, product}
 use Rattle.arith.specs.laws.Walks.{CountUp, count-start, count-more, count-end, product-more}
-use Rattle.bus_model.specs.Pattern.{ofNode, hyperperiod}
+use Rattle.bus_model.specs.Pattern.{ofGroup, hyperperiod}
 use Rattle.workload.specs.Stored.{stored}
 use Rattle.workload.specs.laws.Groups.{lent-inside, lent-fine, counted-whole}
 use Rattle.bounds.specs.laws.Levels.{countAt, counts-product, counts-some}
@@ -25,7 +25,7 @@ Inv-loop frames members counts ends k product₀ j₀ done j =
 abbrev μ-loop : tie.MeasureT-loop
 μ-loop frames members counts ends k product₀ j₀ done j = 16 - j
 
--- the rows of the node that the loop stands at are inside the group
+-- the rows of the group that the loop stands at are inside the area
 inside : (c : tie.In-loop Inv-loop μ-loop) → let a = c .before .before .before .before .before .before .args in let j = c .before .loop .j in 64 * j + getD (a .counts .now) j 0 ≤ length (a .members .now)
 inside c = lent-inside (c .before .before .before .before .before .before .pre .1) (c .before .loop .j) (c .loop-test .taken)
 
@@ -62,8 +62,8 @@ cast-common-multiple c = search needs
 common-multiple-requires : tie.Need-common-multiple-requires Inv-loop μ-loop
 common-multiple-requires c κs = (c .before .before .before .before .before .before .before .before .pre .0, (omega arith, omega (arith, c .before .before .loop-test .taken)))
 
--- the end is the node's hyperperiod
-whole : (c : tie.After-common-multiple Inv-loop μ-loop) → c .common-multiple .result ≡ hyperperiod (ofNode (stored (c .before .before .before .before .before .before .before .before .before .args .frames .now)) (c .before .before .before .before .loop .j + 1))
+-- the end is the group's hyperperiod
+whole : (c : tie.After-common-multiple Inv-loop μ-loop) → c .common-multiple .result ≡ hyperperiod (ofGroup (stored (c .before .before .before .before .before .before .before .before .before .args .frames .now)) (c .before .before .before .before .loop .j + 1))
 whole c = c .common-multiple .ensures ∙ counted-whole _ _ _
 
 sub-count-alignments : tie.Need-sub-count-alignments Inv-loop μ-loop

@@ -1,4 +1,4 @@
--- The rows handed on are those of node j, whose instants are its alignments and whose turn is the end.
+-- The rows handed on are those of group j, whose instants are its alignments and whose turn is the end.
 use Prim.Native.Nat.{_+_, _-_, _*_, _≤_, _<_}
 use mathlib.Core.Path.{_∙_}
 use native.Mathlib.Omega.{arith}
@@ -8,7 +8,7 @@ use Rattle.workload.specs.laws.Groups.{lent-inside, lent-fine, lent-search}
 use Rattle.bounds.proofs.levels.next_of.Statement.{statement}
 use Rattle.bounds.proofs.levels.next_of.Tie as tie
 
--- the node's place
+-- the group's place
 less : (s : tie.Start) → s .args .j - 1 < 16
 less s = omega (arith, s .pre .1 .1 .1)
 

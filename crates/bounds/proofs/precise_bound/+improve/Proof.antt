@@ -1,4 +1,4 @@
--- The loop has the greatest response over the alignments of the level's node that are visited, each the start of a search from the next level on;
+-- The loop has the greatest response over the alignments of the level's group that are visited, each the start of a search from the next level on;
 -- what is left out has no response above the greatest.
 use Prim.Native.Nat.{ℕ, _+_, _-_, _≤_, _<_, max}
 use mathlib.Core.Path.{_≡_, sym, ap, subst, _∙_}
@@ -15,13 +15,13 @@ use Rattle.arith.specs.laws.Least.{is-none}
 use Rattle.arith.specs.laws.Walks.{walk-less}
 use Rattle.bus_model.specs.declared.Choice.{Choice}
 use Rattle.bus_model.specs.declared.Choice.the-variants.{Fixed}
-use Rattle.bus_model.specs.Bounds.{nodes, alignments, orEmpty}
+use Rattle.bus_model.specs.Bounds.{groups, alignments, orEmpty}
 use Rattle.bus_model.specs.theory.Turns.{turn, firstTurn, turn-le}
 use Rattle.bus_model.specs.theory.Refine.{levels, refined, refined-end}
 use Rattle.workload.specs.Stored.{stored}
 use Rattle.delay_search.specs.Load.{Left}
 use Rattle.delay_search.specs.laws.Within.{left-more}
-use Rattle.bounds.specs.laws.Levels.{Reached, Best, best-first, best-more, best-end, best-over, nextLevel, next-levels, at-within, raised-counts, reached-node, reached-next, left-next}
+use Rattle.bounds.specs.laws.Levels.{Reached, Best, best-first, best-more, best-end, best-over, nextLevel, next-levels, at-within, raised-counts, reached-group, reached-next, left-next}
 use Rattle.delay_search.specs.Ready.{Ready}
 use Rattle.bounds.proofs.precise_bound.improve.Reads as improve
 use Rattle.bounds.proofs.precise_bound.improve.Kinds as improve-kinds
@@ -29,7 +29,7 @@ use Rattle.bounds.proofs.precise_bound.+improve.Lts-improve as improve-
 use Rattle.bounds.proofs.precise_bound.left_over.Reads as left-over-reads
 use Rattle.bounds.proofs.levels.is_last.Reads as is-last-reads
 use Rattle.bounds.proofs.levels.next_of.Reads as next-of-reads
-use Rattle.bounds.proofs.levels.node_at.Reads as node-at-reads
+use Rattle.bounds.proofs.levels.group_at.Reads as group-at-reads
 use Rattle.bounds.proofs.levels.with_choice.Reads as with-choice-reads
 use Rattle.arith.proofs.or_zero.Reads as or-zero-reads
 use Rattle.response_time.proofs.raised.Reads as raised-reads
@@ -51,8 +51,8 @@ claims t = (
   raised-reads.Learnt,
   or-zero-reads.Asked,
   or-zero-reads.Learnt,
-  node-at-reads.Asked,
-  node-at-reads.Learnt,
+  group-at-reads.Asked,
+  group-at-reads.Learnt,
   next-of-reads.Asked,
   next-of-reads.Learnt,
   is-last-reads.Asked,
@@ -79,12 +79,12 @@ reached : (t : ℕ) (s : improve-lts.Start (claims t) (improve-at t) improve.Pos
 reached t s = let p = s .pre .1 in (p .1 .0 .0, p .1 .1 .0 .2, p .1 .1 .1 .0 .1)
 
 -- a level is left
-lower : (t : ℕ) (c : improve-lts.Else1 (claims t) (improve-at t) improve.Post improve-Inv-loop improve-μ-loop) → c .before .before .before .before .before .before .args .level < nodes
+lower : (t : ℕ) (c : improve-lts.Else1 (claims t) (improve-at t) improve.Post improve-Inv-loop improve-μ-loop) → c .before .before .before .before .before .before .args .level < groups
 lower t c = omega (arith, c .before .before .before .before .before .before .pre .1 .1 .1 .0, c .if1 .left)
 
--- its node is one of the nodes
-node : (t : ℕ) (c : improve-lts.After-node-at (claims t) (improve-at t) improve.Post improve-Inv-loop improve-μ-loop) → (1 ≤ c .node-at .result) × (c .node-at .result ≤ 16)
-node t c = let s = c .before .before .before .before .before .before .before in reached-node (s .pre .1 .0 .table) (s .pre .1 .0 .listed) (c .node-at .ensures) (lower t (c .before))
+-- its group is one of the groups
+group : (t : ℕ) (c : improve-lts.After-group-at (claims t) (improve-at t) improve.Post improve-Inv-loop improve-μ-loop) → (1 ≤ c .group-at .result) × (c .group-at .result ≤ 16)
+group t c = let s = c .before .before .before .before .before .before .before in reached-group (s .pre .1 .0 .table) (s .pre .1 .0 .listed) (c .group-at .ensures) (lower t (c .before))
 
 improve-raised-requires : (t : ℕ) → improve-lts.Need-raised-requires (claims t) (improve-at t) improve.Post improve-Inv-loop improve-μ-loop
 improve-raised-requires t c κs =
@@ -104,35 +104,35 @@ improve-returns t c =
       c .or-zero .ensures
           ∙ ap orZero (c .before .before .before .raised .ensures .0)
           ∙ raised-counts (reached t s .2) (s .args .best)
-          ∙ ap (max (s .args .best)) (sym (refined-end (stored (s .args .frames .now)) (s .args .k) (s .args .choices) (s .args .level) nodes (omega (arith, c .before .before .before .before .before .if1 .taken)))),
+          ∙ ap (max (s .args .best)) (sym (refined-end (stored (s .args .frames .now)) (s .args .k) (s .args .choices) (s .args .level) groups (omega (arith, c .before .before .before .before .before .if1 .taken)))),
       c .before .before .before .raised .ensures .1,
     )
 
-improve-node-at-requires : (t : ℕ) → improve-lts.Need-node-at-requires (claims t) (improve-at t) improve.Post improve-Inv-loop improve-μ-loop
-improve-node-at-requires t c κs = lower t (c)
+improve-group-at-requires : (t : ℕ) → improve-lts.Need-group-at-requires (claims t) (improve-at t) improve.Post improve-Inv-loop improve-μ-loop
+improve-group-at-requires t c κs = lower t (c)
 
 improve-next-of-requires : (t : ℕ) → improve-lts.Need-next-of-requires (claims t) (improve-at t) improve.Post improve-Inv-loop improve-μ-loop
 improve-next-of-requires t c κs =
     let p = c .before .before .before .before .before .before .before .pre .1 in
-    let n = node t (c) in
-    (p .0 .table, (p .0 .grouped, (n .0, n .1, omega arith)))
+    let n = group t (c) in
+    (p .0 .table, (p .0 .by-group, (n .0, n .1, omega arith)))
 
 improve-or-zero-requires-2 : (t : ℕ) → improve-lts.Need-or-zero-requires-2 (claims t) (improve-at t) improve.Post improve-Inv-loop improve-μ-loop
 improve-or-zero-requires-2 t c κs = search needs
 
 -- the walk stands at its first alignment
-first : (t : ℕ) (c : improve-lts.After-or-zero2 (claims t) (improve-at t) improve.Post improve-Inv-loop improve-μ-loop) → let s = c .before .before .before .before .before .before .before .before .before in let j = c .before .before .node-at .result in
+first : (t : ℕ) (c : improve-lts.After-or-zero2 (claims t) (improve-at t) improve.Post improve-Inv-loop improve-μ-loop) → let s = c .before .before .before .before .before .before .before .before .before in let j = c .before .before .group-at .result in
     Best (stored (s .args .frames .now)) (s .args .k) j (nextLevel (stored (s .args .frames .now)) (s .args .k) (s .args .choices) (s .args .level) j) (s .args .best) (s .args .best) (c .or-zero2 .result)
 first t c = best-first _ _ _ _ (c .before .before .before .before .before .before .before .before .before .pre .1 .0 .table .valid) (c .before .next-of .result) (c .before .next-of .ensures) (c .or-zero2 .ensures)
 
 improve-is-last-requires : (t : ℕ) → improve-lts.Need-is-last-requires (claims t) (improve-at t) improve.Post improve-Inv-loop improve-μ-loop
 improve-is-last-requires t c κs =
     let p = c .before .before .before .before .before .before .before .before .before .pre .1 in
-    let n = node t (c .before .before) in
-    (p .0 .table, (p .0 .grouped, (n .0, n .1, first t (c) .walk .inside)))
+    let n = group t (c .before .before) in
+    (p .0 .table, (p .0 .by-group, (n .0, n .1, first t (c) .walk .inside)))
 
--- it goes on with one of its node's alignments
-deeper : (t : ℕ) (c : improve-lts.After-node-at (claims t) (improve-at t) improve.Post improve-Inv-loop improve-μ-loop) {a most count end : ℕ} {cs : List Choice} {list : List ℕ} → let x = c .before .before .before .before .before .before .before .args in let j = c .node-at .result in
+-- it goes on with one of its group's alignments
+deeper : (t : ℕ) (c : improve-lts.After-group-at (claims t) (improve-at t) improve.Post improve-Inv-loop improve-μ-loop) {a most count end : ℕ} {cs : List Choice} {list : List ℕ} → let x = c .before .before .before .before .before .before .before .args in let j = c .group-at .result in
     Mem a (orEmpty (alignments (stored (x .frames .now)) (x .k) j)) → cs ≡ set (x .choices) (j - 1) (Fixed a)
     → Left (stored (x .frames .now)) (x .k) (x .choices) (x .own) most list count end
     → Reached (stored (x .frames .now)) (x .k) (x .level + 1) (x .own) (x .limit) cs × Left (stored (x .frames .now)) (x .k) cs (x .own) most list count end
@@ -141,20 +141,20 @@ deeper t c listed finer left =
     let p = s .pre .1 in
     let less = lower t (c .before) in
     let level = reached t s .1 in (
-      reached-next (p .0 .table) (p .0 .listed) (reached t s) less (c .node-at .ensures) listed finer,
-      left-next (p .0 .table) (p .0 .listed) less (level .long) (level .left _ (omega arith) less) (c .node-at .ensures) listed finer left,
+      reached-next (p .0 .table) (p .0 .listed) (reached t s) less (c .group-at .ensures) listed finer,
+      left-next (p .0 .table) (p .0 .listed) less (level .long) (level .left _ (omega arith) less) (c .group-at .ensures) listed finer left,
     )
 
 -- the greatest over its alignments is that from the level on
-whole : (t : ℕ) (c : improve-lts.After-node-at (claims t) (improve-at t) improve.Post improve-Inv-loop improve-μ-loop) → let x = c .before .before .before .before .before .before .before .args in let j = c .node-at .result in
-    greatest (nextLevel (stored (x .frames .now)) (x .k) (x .choices) (x .level) j) (orEmpty (firstTurn (stored (x .frames .now)) (x .k) j)) ≡ refined (stored (x .frames .now)) (x .k) (levels (x .k) (x .level) nodes) (x .choices)
-whole t c = let p = c .before .before .before .before .before .before .before .pre .1 in next-levels (p .0 .table) (p .0 .listed) (c .before .before .before .before .before .before .before .args .choices) (p .1 .1 .0 .2 .long) (c .node-at .ensures) (lower t (c .before))
+whole : (t : ℕ) (c : improve-lts.After-group-at (claims t) (improve-at t) improve.Post improve-Inv-loop improve-μ-loop) → let x = c .before .before .before .before .before .before .before .args in let j = c .group-at .result in
+    greatest (nextLevel (stored (x .frames .now)) (x .k) (x .choices) (x .level) j) (orEmpty (firstTurn (stored (x .frames .now)) (x .k) j)) ≡ refined (stored (x .frames .now)) (x .k) (levels (x .k) (x .level) groups) (x .choices)
+whole t c = let p = c .before .before .before .before .before .before .before .pre .1 in next-levels (p .0 .table) (p .0 .listed) (c .before .before .before .before .before .before .before .args .choices) (p .1 .1 .0 .2 .long) (c .group-at .ensures) (lower t (c .before))
 
 improve-add-below : (t : ℕ) → improve-lts.Need-add-below (claims t) (improve-at t) improve.Post improve-Inv-loop improve-μ-loop
 improve-add-below t c = omega (arith, lower t (c .before .before .before))
 
 improve-with-choice-requires : (t : ℕ) → improve-lts.Need-with-choice-requires (claims t) (improve-at t) improve.Post improve-Inv-loop improve-μ-loop
-improve-with-choice-requires t c κs = node t (c .before .before .before .before)
+improve-with-choice-requires t c κs = group t (c .before .before .before .before)
 
 improve-improve-requires : (t : ℕ) → improve-lts.Need-improve-requires (claims t) (improve-at t) improve.Post improve-Inv-loop improve-μ-loop
 improve-improve-requires t c κs =
@@ -192,7 +192,7 @@ improve-returns-3 t c =
     (best-over _ _ _ _ (l .inv .0) (l .inv .1) (whole t (c .before .before .before .before .before .before .before .before .before .before)) (c .before .before .before .left-over .ensures .1 .0 (subst T (sym (c .if3 .taken)) tt)), c .before .before .before .left-over .ensures .1 .1)
 
 improve-with-choice-requires-2 : (t : ℕ) → improve-lts.Need-with-choice-requires-2 (claims t) (improve-at t) improve.Post improve-Inv-loop improve-μ-loop
-improve-with-choice-requires-2 t c κs = node t (c .before .before .before .before .before .before .before .before .before .before)
+improve-with-choice-requires-2 t c κs = group t (c .before .before .before .before .before .before .before .before .before .before)
 
 improve-improve-requires-2 : (t : ℕ) → improve-lts.Need-improve-requires-2 (claims t) (improve-at t) improve.Post improve-Inv-loop improve-μ-loop
 improve-improve-requires-2 t c κs =
@@ -203,14 +203,14 @@ improve-improve-requires-2 t c κs =
 
 improve-add-next-of : (t : ℕ) → improve-lts.Need-add-next-of (claims t) (improve-at t) improve.Post improve-Inv-loop improve-μ-loop
 improve-add-next-of t c =
-    let n = node t (c .before .before .before .before .before .before .before .before .before .before .before .before .before .before .before) in
-    omega (arith, c .before .before .before .before .before .before .before .before .before .before .loop .inv .0 .walk .inside, c .before .before .before .before .before .before .before .before .before .before .before .before .before .before .before .before .before .before .before .before .before .before .pre .1 .0 .table .hyper _ (n .0) (n .1), turn-le (c .before .before .before .before .before .before .before .before .before .before .before .before .before .before .before .before .before .before .before .before .before .before .pre .1 .0 .table .valid) (c .before .before .before .before .before .before .before .before .before .before .before .before .before .before .before .before .before .before .before .before .before .before .args .k) (c .before .before .before .before .before .before .before .before .before .before .before .before .before .before .before .node-at .result))
+    let n = group t (c .before .before .before .before .before .before .before .before .before .before .before .before .before .before .before) in
+    omega (arith, c .before .before .before .before .before .before .before .before .before .before .loop .inv .0 .walk .inside, c .before .before .before .before .before .before .before .before .before .before .before .before .before .before .before .before .before .before .before .before .before .before .pre .1 .0 .table .hyper _ (n .0) (n .1), turn-le (c .before .before .before .before .before .before .before .before .before .before .before .before .before .before .before .before .before .before .before .before .before .before .pre .1 .0 .table .valid) (c .before .before .before .before .before .before .before .before .before .before .before .before .before .before .before .before .before .before .before .before .before .before .args .k) (c .before .before .before .before .before .before .before .before .before .before .before .before .before .before .before .group-at .result))
 
 improve-next-of-requires-2 : (t : ℕ) → improve-lts.Need-next-of-requires-2 (claims t) (improve-at t) improve.Post improve-Inv-loop improve-μ-loop
 improve-next-of-requires-2 t c κs =
     let p = c .before .before .before .before .before .before .before .before .before .before .before .before .before .before .before .before .before .before .before .before .before .before .pre .1 in
-    let n = node t (c .before .before .before .before .before .before .before .before .before .before .before .before .before .before .before) in
-    (p .0 .table, (p .0 .grouped, (n .0, n .1, omega (arith, c .before .before .before .before .before .before .before .before .before .before .loop .inv .0 .walk .inside))))
+    let n = group t (c .before .before .before .before .before .before .before .before .before .before .before .before .before .before .before) in
+    (p .0 .table, (p .0 .by-group, (n .0, n .1, omega (arith, c .before .before .before .before .before .before .before .before .before .before .loop .inv .0 .walk .inside))))
 
 improve-enum-known-found : (t : ℕ) → improve-lts.Need-enum-known-found (claims t) (improve-at t) improve.Post improve-Inv-loop improve-μ-loop
 improve-enum-known-found t c = search needs
@@ -253,7 +253,7 @@ pub +improve-spec : {M : Type 1} → statement M
     (improve-or-zero-requires t)
     (improve-same-length t)
     (improve-returns t)
-    (improve-node-at-requires t)
+    (improve-group-at-requires t)
     (improve-next-of-requires t)
     (improve-or-zero-requires-2 t)
     (improve-add-below t)

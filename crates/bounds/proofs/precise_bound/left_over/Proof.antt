@@ -1,10 +1,10 @@
--- A scenario from the level on refines the one with the open nodes at `Any`.
+-- A scenario from the level on refines the one with the open groups at `Any`.
 use Prim.Native.Nat.{_≤_}
 use mathlib.Core.Path.{sym, _∙_}
 use native.Mathlib.Nat.{le-trans, le-refl}
 use borrow.Author.Needs.{needs}
 use lib.Dec.{T}
-use Rattle.bus_model.specs.Bounds.{nodes}
+use Rattle.bus_model.specs.Bounds.{groups}
 use Rattle.bus_model.specs.theory.Refine.{levels, refined}
 use Rattle.workload.specs.Stored.{stored}
 use Rattle.bounds.specs.laws.Levels.{Reached, reached-most}
@@ -16,7 +16,7 @@ reached : (s : tie.Start) → let a = s .args in Reached (stored (a .frames .now
 reached s = let p = s .pre in (p .1 .0 .0, p .1 .1 .0 .2, p .1 .1 .1 .0 .1)
 
 -- where none are left, no response further on exceeds `most`
-none : (c : tie.After-sweep) → let a = c .before .before .before .before .before .before .before .before .args in T (c .sweep .result .none) → refined (stored (a .frames .now)) (a .k) (levels (a .k) (a .level) nodes) (a .choices) ≤ a .most
+none : (c : tie.After-sweep) → let a = c .before .before .before .before .before .before .before .before .args in T (c .sweep .result .none) → refined (stored (a .frames .now)) (a .k) (levels (a .k) (a .level) groups) (a .choices) ≤ a .most
 none c t = let s = c .before .before .before .before .before .before .before .before in le-trans (reached-most (s .pre .0 .table) (s .pre .0 .listed) (reached s) (s .pre .1 .1 .0 .0)) (c .sweep .ensures .1 .0 t)
 
 with-none-requires : tie.Need-with-none-requires

@@ -1,4 +1,4 @@
--- The loop has the greatest response over the alignments of k's node that are visited, each the start of a search from the next level on.
+-- The loop has the greatest response over the alignments of k's group that are visited, each the start of a search from the next level on.
 use Prim.Native.Nat.{_-_, _≤_}
 use mathlib.Core.Path.{sym, ap, _∙_}
 use native.Mathlib.Omega.{arith}
@@ -10,21 +10,21 @@ use Rattle.bus_model.specs.theory.Refine.{free}
 use Rattle.workload.specs.Stored.{stored}
 use Rattle.delay_search.specs.laws.Searches.{window-zero}
 use Rattle.delay_search.specs.laws.Within.{left-all}
-use Rattle.bounds.specs.laws.Levels.{Best, best-first, best-more, best-end, nextLevel, own-node, reached-first, precise-levels}
+use Rattle.bounds.specs.laws.Levels.{Best, best-first, best-more, best-end, nextLevel, own-group, reached-first, precise-levels}
 use Rattle.delay_search.specs.Ready.{Ready}
 use Rattle.bounds.proofs.precise_bound.precise.Statement.{statement}
 use Rattle.bounds.proofs.precise_bound.precise.Tie as tie
 
 abbrev Inv-loop : tie.InvT-loop
 Inv-loop frames members counts ends k blocked sums₀ j most₀ a₀ sums most a =
-    Best (stored frames) k (k .node) (nextLevel (stored frames) k free 0 (k .node)) 0 most a × Ready (stored frames) k members counts ends sums
+    Best (stored frames) k (k .group) (nextLevel (stored frames) k free 0 (k .group)) 0 most a × Ready (stored frames) k members counts ends sums
 
 abbrev μ-loop : tie.MeasureT-loop
-μ-loop frames members counts ends k blocked sums₀ j most₀ a₀ sums most a = turn (stored frames) k (k .node) - a
+μ-loop frames members counts ends k blocked sums₀ j most₀ a₀ sums most a = turn (stored frames) k (k .group) - a
 
--- k's node is one of the nodes
-node : (s : tie.Start Inv-loop μ-loop) → (1 ≤ s .args .k .node) × (s .args .k .node ≤ 16)
-node s = own-node (s .pre .0 .table) (s .pre .0 .listed)
+-- k's group is one of the groups
+group : (s : tie.Start Inv-loop μ-loop) → (1 ≤ s .args .k .group) × (s .args .k .group ≤ 16)
+group s = own-group (s .pre .0 .table) (s .pre .0 .listed)
 
 cast-j : tie.Need-cast-j Inv-loop μ-loop
 cast-j c = search needs
@@ -32,8 +32,8 @@ cast-j c = search needs
 next-of-requires : tie.Need-next-of-requires Inv-loop μ-loop
 next-of-requires c κs =
     let s = c .before .before .before .before .before .before in
-    let n = node s in
-    (s .pre .0 .table, (s .pre .0 .grouped, (n .0, n .1, omega arith)))
+    let n = group s in
+    (s .pre .0 .table, (s .pre .0 .by-group, (n .0, n .1, omega arith)))
 
 or-zero-requires : tie.Need-or-zero-requires Inv-loop μ-loop
 or-zero-requires c κs = search needs
@@ -43,7 +43,7 @@ loop-holds c =
     (best-first _ _ _ _ (c .before .before .before .before .before .before .before .before .pre .0 .table .valid) (c .before .next-of .result) (c .before .next-of .ensures) (c .or-zero .ensures), c .before .before .before .before .before .before .before .before .pre .0)
 
 with-choice-requires : tie.Need-with-choice-requires Inv-loop μ-loop
-with-choice-requires c κs = node (c .before .before .before .before .before .before .before .before .before)
+with-choice-requires c κs = group (c .before .before .before .before .before .before .before .before .before)
 
 busy-window-requires : tie.Need-busy-window-requires Inv-loop μ-loop
 busy-window-requires c κs =
@@ -65,14 +65,14 @@ improve-requires c κs =
 add-next-of : tie.Need-add-next-of Inv-loop μ-loop
 add-next-of c =
     let s = c .before .before .before .before .before .before .before .before .before .before .before .before .before .before .before .before .before .before .before .before in
-    let n = node s in
-    omega (arith, c .before .before .before .before .before .before .before .before .before .before .before .loop .inv .0 .walk .inside, s .pre .0 .table .hyper _ (n .0) (n .1), turn-le (s .pre .0 .table .valid) (s .args .k) (s .args .k .node))
+    let n = group s in
+    omega (arith, c .before .before .before .before .before .before .before .before .before .before .before .loop .inv .0 .walk .inside, s .pre .0 .table .hyper _ (n .0) (n .1), turn-le (s .pre .0 .table .valid) (s .args .k) (s .args .k .group))
 
 next-of-requires-2 : tie.Need-next-of-requires-2 Inv-loop μ-loop
 next-of-requires-2 c κs =
     let s = c .before .before .before .before .before .before .before .before .before .before .before .before .before .before .before .before .before .before .before .before in
-    let n = node s in
-    (s .pre .0 .table, (s .pre .0 .grouped, (n .0, n .1, omega (arith, c .before .before .before .before .before .before .before .before .before .before .before .loop .inv .0 .walk .inside))))
+    let n = group s in
+    (s .pre .0 .table, (s .pre .0 .by-group, (n .0, n .1, omega (arith, c .before .before .before .before .before .before .before .before .before .before .before .loop .inv .0 .walk .inside))))
 
 enum-known-found : tie.Need-enum-known-found Inv-loop μ-loop
 enum-known-found c = search needs

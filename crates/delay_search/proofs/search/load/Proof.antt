@@ -17,7 +17,7 @@ add-whole-work c = search needs
 whole-work-requires : tie.Need-whole-work-requires
 whole-work-requires c κs =
     let s = c .before .before .before .before .before .before .before in
-    (s .pre .0 .table, (s .pre .0 .grouped, (omega (arith, s .pre .1), s .pre .0 .kept)))
+    (s .pre .0 .table, (s .pre .0 .by-group, (omega (arith, s .pre .1), s .pre .0 .kept)))
 
 add-frame-demand : tie.Need-add-frame-demand
 add-frame-demand c = search needs
@@ -49,12 +49,12 @@ same-length c = search needs
 returns : tie.Need-returns
 returns c =
     let s = c .before .before .before .before .before .before .before .before .before .before .before in
-    (rw (c .before .before .before .before .before .if1 .taken) (loads c .1), record { table = s .pre .0 .table; grouped = s .pre .0 .grouped; listed = s .pre .0 .listed; kept = c .before .before .before .whole-work .ensures .1 .1 })
+    (rw (c .before .before .before .before .before .if1 .taken) (loads c .1), record { table = s .pre .0 .table; by-group = s .pre .0 .by-group; listed = s .pre .0 .listed; kept = c .before .before .before .whole-work .ensures .1 .1 })
 
 whole-work-requires-2 : tie.Need-whole-work-requires-2
 whole-work-requires-2 c κs =
     let s = c .before .before .before .before .before .before .before in
-    (s .pre .0 .table, (s .pre .0 .grouped, (omega (arith, s .pre .1), s .pre .0 .kept)))
+    (s .pre .0 .table, (s .pre .0 .by-group, (omega (arith, s .pre .1), s .pre .0 .kept)))
 
 add-result-2 : tie.Need-add-result-2
 add-result-2 c = search needs
@@ -66,7 +66,7 @@ returns-2 : tie.Need-returns-2
 unfolding loadOf
 returns-2 c =
     let s = c .before .before .before .before .before .before .before .before .before .before in
-    (rw (c .before .before .before .before .if1 .left, c .before .before .whole-work2 .ensures .0), record { table = s .pre .0 .table; grouped = s .pre .0 .grouped; listed = s .pre .0 .listed; kept = c .before .before .whole-work2 .ensures .1 .1 })
+    (rw (c .before .before .before .before .if1 .left, c .before .before .whole-work2 .ensures .0), record { table = s .pre .0 .table; by-group = s .pre .0 .by-group; listed = s .pre .0 .listed; kept = c .before .before .whole-work2 .ensures .1 .1 })
 
 pub load-spec : {M : Type 1} → statement M
 load-spec =

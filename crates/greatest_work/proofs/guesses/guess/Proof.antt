@@ -1,4 +1,4 @@
--- What is kept is one more than an alignment of the node; else the first that is found, or the empty one.
+-- What is kept is one more than an alignment of the group; else the first that is found, or the empty one.
 use Prim.Native.Nat.{_+_}
 use mathlib.Core.Path.{refl, _∙_}
 use native.Mathlib.Omega.{arith}

@@ -1,4 +1,4 @@
--- The invariant has the choices of the nodes done.
+-- The invariant has the choices of the groups done.
 use Prim.Native.Nat.{_-_}
 use mathlib.Core.Path.{_≡_}
 use native.Mathlib.Omega.{arith}

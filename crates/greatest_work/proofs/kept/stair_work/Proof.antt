@@ -3,9 +3,9 @@ use mathlib.Core.Path.{sym}
 use native.Mathlib.Omega.{arith}
 use borrow.Author.Needs.{needs}
 use Rattle.bus_model.specs.declared.Choice.the-variants.{Any}
-use Rattle.bus_model.specs.Bounds.{nodeWork}
+use Rattle.bus_model.specs.Bounds.{groupWork}
 use Rattle.bus_model.specs.theory.Turns.{first-aligned}
-use Rattle.workload.specs.laws.Groups.{lent-inside, lent-fine, lent-node, lent-alignments}
+use Rattle.workload.specs.laws.Groups.{lent-inside, lent-fine, lent-group, lent-alignments}
 use Rattle.greatest_work.specs.laws.Kept.{told-is, guess-put}
 use Rattle.greatest_work.proofs.kept.stair_work.Statement.{statement}
 use Rattle.greatest_work.proofs.kept.stair_work.Tie as tie
@@ -89,12 +89,12 @@ same-length-2 : tie.Need-same-length-2
 same-length-2 c = search needs
 
 returns-2 : tie.Need-returns-2
-unfolding nodeWork
+unfolding groupWork
 returns-2 c =
     let s = c .before .before .before .before .before .before .before .before .before .before .before .before .before .before .before .before .before .before in
     let b = s .pre .1 .1 .0 in
     let g = c .before .before .before .before .before .best-alignment .ensures in
-    let is = lent-node (s .pre .1 .0) (s .args .j) (b .0) (s .pre .0 .valid) Any (s .args .n) (g .1 .0) in
+    let is = lent-group (s .pre .1 .0) (s .args .j) (b .0) (s .pre .0 .valid) Any (s .args .n) (g .1 .0) in
     let listed = first-aligned (s .pre .0 .valid) _ _ (rw (lent-alignments (s .pre .1 .0) (s .args .j) (b .0)) at (g .0)) in
     let kept = c .before .before .before .keep .ensures _ _ (s .pre .0 .valid) (sym is) (s .pre .1 .1 .1) in
     (is, guess-put kept (s .args .j) _ (b .0) (search needs) listed)

@@ -1,4 +1,4 @@
--- The invariant has the sum over the nodes done, and that what is kept is right.
+-- The invariant has the sum over the groups done, and that what is kept is right.
 use Prim.Native.Nat.{ℕ, _+_, _-_, _*_, _≤_}
 use mathlib.Core.List.{List}
 use mathlib.Core.Path.{_≡_, _∙_, ap, sym}
@@ -10,21 +10,21 @@ use Rattle.arith.specs.Lists.{sum}
 use Rattle.arith.specs.laws.Walks.{CountUp, count-more, count-end, sum-more}
 use Rattle.bus_model.specs.declared.Frame.{Frame}
 use Rattle.bus_model.specs.declared.Choice.{Choice}
-use Rattle.bus_model.specs.Pattern.{ofNode}
-use Rattle.bus_model.specs.Bounds.{work, ahead, alignments, choiceOf, nodeWork}
+use Rattle.bus_model.specs.Pattern.{ofGroup}
+use Rattle.bus_model.specs.Bounds.{work, ahead, alignments, choiceOf, groupWork}
 use Rattle.workload.specs.Stored.{stored}
 use Rattle.greatest_work.specs.Kept.{Kept}
 use Rattle.workload.specs.laws.Groups.{lent-choice, lent-few}
 use Rattle.greatest_work.proofs.kept.whole_work.Statement.{statement}
 use Rattle.greatest_work.proofs.kept.whole_work.Tie as tie
 
--- the work of node j
-abbrev nodeTerm : List Frame → Frame → List Choice → ℕ → ℕ → ℕ
-nodeTerm fs k cs n j = nodeWork (ofNode (ahead fs k) j) (alignments fs k j) (choiceOf cs j) n
+-- the work of group j
+abbrev groupTerm : List Frame → Frame → List Choice → ℕ → ℕ → ℕ
+groupTerm fs k cs n j = groupWork (ofGroup (ahead fs k) j) (alignments fs k j) (choiceOf cs j) n
 
 abbrev Inv-loop : tie.InvT-loop
 Inv-loop frames members counts ends k n sums₀ choices sum₀ before₀ j₀ sums total before j =
-    CountUp (sum (nodeTerm (stored frames) k choices n)) _+_ 17 (work (stored frames) k (ahead (stored frames) k) choices n) total (j + 1)
+    CountUp (sum (groupTerm (stored frames) k choices n)) _+_ 17 (work (stored frames) k (ahead (stored frames) k) choices n) total (j + 1)
     × (total ≤ 25625625600 * j)
     × (before ≤ 64 * j)
     × Kept (stored frames) k sums
@@ -42,8 +42,8 @@ mul-choice c = search needs
 array-copy-out-choice : tie.Need-array-copy-out-choice Inv-loop μ-loop
 array-copy-out-choice c = search needs
 
-node-work-requires : tie.Need-node-work-requires Inv-loop μ-loop
-node-work-requires c κs =
+group-work-requires : tie.Need-group-work-requires Inv-loop μ-loop
+group-work-requires c κs =
     let s = c .before .before .before .before .before .before .before .before .before in
     let l = c .before .before .before .loop in
     let less = c .before .before .loop-test .taken in
@@ -74,11 +74,11 @@ loop-again : tie.Need-loop-again Inv-loop μ-loop
 loop-again c =
     let s = c .before .before .before .before .before .before .before .before .before .before .before .before .before in
     let l = c .before .before .before .before .before .before .before .loop in
-    let r = c .before .before .before .node-work .ensures in
+    let r = c .before .before .before .group-work .ensures in
     let size : length (s .args .t6) ≡ 16 = search needs in
     let less = c .before .before .before .before .before .before .loop-test .taken in
     let is = rw (lent-choice (s .pre .1 .0) (l .j) less (s .args .t6) size) at (r .0) in
-    let term : ℕ = nodeTerm (stored (s .args .frames .now)) (s .args .k) (s .args .t6) (s .args .n) (l .j + 1) in (
+    let term : ℕ = groupTerm (stored (s .args .frames .now)) (s .args .k) (s .args .t6) (s .args .n) (l .j + 1) in (
       count-more _ _ _ _ (l .inv .0) (omega (arith, less)) (sum-more _ (l .sum) (l .j + 1) (ap (λ (w : ℕ). l .sum + w) {y = term} is)),
       omega (arith, l .inv .1, r .1 .0),
       omega (arith, l .inv .2, lent-few (s .pre .1 .0) (l .j) less),
@@ -103,7 +103,7 @@ whole-work-spec =
     loop-holds
     mul-choice
     array-copy-out-choice
-    node-work-requires
+    group-work-requires
     add-sum
     mul-before
     shared-slice-read-before

@@ -3,7 +3,7 @@ use Prim.Native.Nat.{_≤_}
 use mathlib.Core.Path.{_≡_, sym, _∙_}
 use native.Mathlib.Omega.{arith}
 use borrow.Author.Needs.{needs}
-use Rattle.bus_model.specs.Pattern.{ofNode, hyperperiod}
+use Rattle.bus_model.specs.Pattern.{ofGroup, hyperperiod}
 use Rattle.table_checks.specs.Frames.{framesOf}
 use Rattle.table_checks.specs.laws.Accepted.{hyper-same}
 use Rattle.load_sheet.specs.Sheet.{nodeLoad}
@@ -12,7 +12,7 @@ use Rattle.load_sheet.proofs.loads.node_load.Statement.{statement}
 use Rattle.load_sheet.proofs.loads.node_load.Tie as tie
 
 -- the hyperperiod is the same by any lengths
-divisor : (c : tie.After-hyperperiod) → let a = c .before .before .args in c .hyperperiod .result ≡ hyperperiod (ofNode (framesOf (a .lengths) (a .rows .now)) (a .node))
+divisor : (c : tie.After-hyperperiod) → let a = c .before .before .args in c .hyperperiod .result ≡ hyperperiod (ofGroup (framesOf (a .lengths) (a .rows .now)) (a .node))
 divisor c = let a = c .before .before .args in c .hyperperiod .ensures ∙ sym (hyper-same (a .lengths) (a .rows .now) (a .node))
 
 limits : (c : tie.After-hyperperiod) → (1 ≤ c .hyperperiod .result) × (c .hyperperiod .result ≤ 1000000)

@@ -6,7 +6,7 @@ use native.Mathlib.Omega.{arith}
 use lib.ListN.{length}
 use Rattle.bus_model.specs.Frame.{row}
 use Rattle.table_checks.specs.laws.Accepted.{accepted-size}
-use Rattle.workload.specs.Grouped.{FineTable}
+use Rattle.workload.specs.ByGroup.{FineTable}
 use Rattle.row_judgement.specs.Judge.{boundFrame}
 use Rattle.row_judgement.specs.laws.Stored.{accepted-fine}
 use Rattle.row_judgement.proofs.bound.bound_row.Statement.{statement}

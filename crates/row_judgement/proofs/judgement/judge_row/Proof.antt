@@ -8,7 +8,7 @@ use Rattle.bus_model.specs.Judgement.{judge}
 use Rattle.table_checks.specs.Columns.{columns, mostNumbers, claimColumn}
 use Rattle.table_checks.specs.Frames.{framesOf}
 use Rattle.table_checks.specs.laws.Accepted.{accepted-size}
-use Rattle.workload.specs.Grouped.{FineTable, InTable}
+use Rattle.workload.specs.ByGroup.{FineTable, InTable}
 use Rattle.row_judgement.specs.Judge.{claimOf}
 use Rattle.row_judgement.specs.laws.Stored.{accepted-fine}
 use Rattle.row_judgement.specs.laws.Judged.{claim-inside}

@@ -9,10 +9,10 @@ use Rattle.table_checks.proofs.checks.bounded_hyperperiod.Statement.{st
 use Rattle.table_checks.proofs.checks.bounded_hyperperiod.Tie as tie
 
 abbrev Inv-loop : tie.InvT-loop
-Inv-loop t node h₀ i₀ h i = Rows (hyperOf node) t h i × (0 < h) × (h ≤ 1000000)
+Inv-loop t group h₀ i₀ h i = Rows (hyperOf group) t h i × (0 < h) × (h ≤ 1000000)
 
 abbrev μ-loop : tie.MeasureT-loop
-μ-loop t node h₀ i₀ h i = i
+μ-loop t group h₀ i₀ h i = i
 
 loop-holds : tie.Need-loop-holds Inv-loop μ-loop
 loop-holds c = (hyper-start _ _, search needs, search needs)

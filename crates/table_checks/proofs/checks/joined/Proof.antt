@@ -1,4 +1,4 @@
--- `table_checks::checks::joined` meets its contract: only frames of the node count.
+-- `table_checks::checks::joined` meets its contract: only frames of the group count.
 use borrow.Author.Tests.{eq-eqb, ne-eqb}
 use borrow.Author.Needs.{needs}
 use Rattle.table_checks.proofs.checks.joined.Statement.{statement}

@@ -19,13 +19,13 @@ returns : tie.Need-returns
 unfolding tableCheck
 returns c = rw (← c .before .before .lines .ensures, c .enum-told2 .given .1)
 
-nodes-requires : tie.Need-nodes-requires
-nodes-requires c κs = (lines-periods _ (sym (c .before .before .lines .ensures) ∙ c .enum-told .given .1), search needs)
+groups-requires : tie.Need-groups-requires
+groups-requires c κs = (lines-periods _ (sym (c .before .before .lines .ensures) ∙ c .enum-told .given .1), search needs)
 
 returns-2 : tie.Need-returns-2
 unfolding tableCheck
-returns-2 c = simp (sym (c .before .before .before .lines .ensures) ∙ c .before .enum-told .given .1) (c .nodes .ensures)
+returns-2 c = simp (sym (c .before .before .before .lines .ensures) ∙ c .before .enum-told .given .1) (c .groups .ensures)
 
 pub table-spec : {M : Type 1} → statement M
 table-spec =
-    tie.close (tie.spec lines-requires enum-told enum-told-2 returns nodes-requires returns-2)
+    tie.close (tie.spec lines-requires enum-told enum-told-2 returns groups-requires returns-2)

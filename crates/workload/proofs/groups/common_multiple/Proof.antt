@@ -12,16 +12,16 @@ use Rattle.bus_model.specs.declared.Frame.{Frame}
 use Rattle.bus_model.specs.Frame.{row}
 use Rattle.bus_model.specs.theory.Hyperperiod.{commonOf, joinBy, common-none, common-more, common-le}
 use Rattle.workload.specs.Stored.{stored}
-use Rattle.workload.specs.Grouped.{FineTable, isCounted}
+use Rattle.workload.specs.ByGroup.{FineTable, isCounted}
 use Rattle.workload.specs.laws.Groups.{counted-small}
 use Rattle.workload.proofs.groups.common_multiple.Statement.{statement}
 use Rattle.workload.proofs.groups.common_multiple.Tie as tie
 
 abbrev Inv-loop : tie.InvT-loop
-Inv-loop frames k node whole h₀ i₀ h i = Down (commonOf (isCounted whole k node)) (stored frames) h i × (1 ≤ h)
+Inv-loop frames k group whole h₀ i₀ h i = Down (commonOf (isCounted whole k group)) (stored frames) h i × (1 ≤ h)
 
 abbrev μ-loop : tie.MeasureT-loop
-μ-loop frames k node whole h₀ i₀ h i = i
+μ-loop frames k group whole h₀ i₀ h i = i
 
 count-requires : tie.Need-count-requires Inv-loop μ-loop
 count-requires c κs = search needs
@@ -51,8 +51,8 @@ joined-requires c κs =
     let s = c .before .before .before .before .before .before in
     let (table, within) = s .pre in
     let inside : l .i - 1 < length (stored (s .args .frames .now)) = omega (arith, l .inv .0 .inside, c .before .before .loop-test .taken) in
-    let m = common-more _ (isCounted (s .args .whole) (s .args .k) (s .args .node)) (periods table) (l .inv .0) (c .before .before .loop-test .taken) (c .before .frame-at .ensures) refl in
-    let same = joins (isCounted (s .args .whole) (s .args .k) (s .args .node)) (c .before .frame-at .result) (l .h) (c .is-counted .ensures) in
+    let m = common-more _ (isCounted (s .args .whole) (s .args .k) (s .args .group)) (periods table) (l .inv .0) (c .before .before .loop-test .taken) (c .before .frame-at .ensures) refl in
+    let same = joins (isCounted (s .args .whole) (s .args .k) (s .args .group)) (c .before .frame-at .result) (l .h) (c .is-counted .ensures) in
     (l .inv .1, rw (c .before .frame-at .ensures) (table .fine (l .i - 1) inside .period-high), omega (arith, same, common-le _ _ (periods table) _ _ (m .0), counted-small table (s .args .k) (within .0) (within .1) (s .args .whole)))
 
 loop-less : tie.Need-loop-less Inv-loop μ-loop
@@ -62,7 +62,7 @@ loop-again : tie.Need-loop-again Inv-loop μ-loop
 loop-again c =
     let l = c .before .before .before .before .loop in
     let s = c .before .before .before .before .before .before .before in
-    let m = common-more _ (isCounted (s .args .whole) (s .args .k) (s .args .node)) (periods (s .pre .0)) (l .inv .0) (c .before .before .before .loop-test .taken) (c .before .before .frame-at .ensures) (c .joined .ensures ∙ joins (isCounted (s .args .whole) (s .args .k) (s .args .node)) (c .before .before .frame-at .result) (l .h) (c .before .is-counted .ensures)) in
+    let m = common-more _ (isCounted (s .args .whole) (s .args .k) (s .args .group)) (periods (s .pre .0)) (l .inv .0) (c .before .before .before .loop-test .taken) (c .before .before .frame-at .ensures) (c .joined .ensures ∙ joins (isCounted (s .args .whole) (s .args .k) (s .args .group)) (c .before .before .frame-at .result) (l .h) (c .before .is-counted .ensures)) in
     (m .0, omega (arith, m .1, l .inv .1))
 
 returns : tie.Need-returns Inv-loop μ-loop

@@ -12,10 +12,10 @@ use Rattle.workload.proofs.groups.gather.Statement.{statement}
 use Rattle.workload.proofs.groups.gather.Tie as tie
 
 abbrev Inv-loop : tie.InvT-loop
-Inv-loop frames k node area₀ all found₀ i₀ area found i = RowsGathered (stored frames) k node area found i × (all ≡ length (stored frames))
+Inv-loop frames k group area₀ all found₀ i₀ area found i = RowsGathered (stored frames) k group area found i × (all ≡ length (stored frames))
 
 abbrev μ-loop : tie.MeasureT-loop
-μ-loop frames k node area₀ all found₀ i₀ area found i = all - i
+μ-loop frames k group area₀ all found₀ i₀ area found i = all - i
 
 count-requires : tie.Need-count-requires Inv-loop μ-loop
 count-requires c κs = search needs
@@ -52,7 +52,7 @@ loop-again c =
     let e = b .before in
     let (g, all) = e .before .before .loop .inv in
     let a = e .before .before .before .before .before .before .args in
-    let test = b .belongs .ensures ∙ ap (isMember (a .k) (a .node)) (e .frame-at .ensures) in (
+    let test = b .belongs .ensures ∙ ap (isMember (a .k) (a .group)) (e .frame-at .ensures) in (
       ⊎-elim
           (λ w. gathered-put g (omega (arith, all, e .before .loop-test .taken)) _ test (w .0 .taken) (w .1) (w .2))
           (λ w. gathered-skip g (omega (arith, all, e .before .loop-test .taken)) _ test (w .0 .left) (w .1) (w .2))

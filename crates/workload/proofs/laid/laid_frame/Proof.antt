@@ -10,7 +10,7 @@ first-release-requires c κs = search needs
 returns : tie.Need-returns
 returns c =
     let g = c .before .args .g in
-    ap (λ (d : ℕ). record { node = g .node; priority = 0; length = g .length; period = g .period; offset = d }) (c .first-release .ensures)
+    ap (λ (d : ℕ). record { group = g .group; priority = 0; length = g .length; period = g .period; offset = d }) (c .first-release .ensures)
 
 pub laid-frame-spec : {M : Type 1} → statement M
 laid-frame-spec = tie.close (tie.spec first-release-requires returns)

@@ -10,7 +10,7 @@ use Rattle.arith.specs.laws.Members.{mem-getD}
 use Rattle.arith.specs.laws.Walks.{Through, through-start, through-more, through-end, sum-more}
 use Rattle.bus_model.specs.Frame.{noFrame}
 use Rattle.workload.specs.Stored.{stored}
-use Rattle.workload.specs.Grouped.{Fine}
+use Rattle.workload.specs.ByGroup.{Fine}
 use Rattle.workload.specs.Laid.{laidDemand, laidWork}
 use Rattle.workload.proofs.laid.laid_work.Statement.{statement}
 use Rattle.workload.proofs.laid.laid_work.Tie as tie

@@ -6,9 +6,9 @@ use native.Mathlib.Omega.{arith}
 use borrow.Author.Needs.{needs}
 use lib.Dec.{lit<}
 use lib.ListN.{length}
-use Rattle.bus_model.specs.Bounds.{nodes}
+use Rattle.bus_model.specs.Bounds.{groups}
 use Rattle.workload.specs.Stored.{stored}
-use Rattle.workload.specs.Grouped.{Fine}
+use Rattle.workload.specs.ByGroup.{Fine}
 use Rattle.workload.specs.Laid.{laidFrame}
 use Rattle.workload.specs.laws.Laid.{laid-choice, LaidTo, lay-none, lay-put, lay-skip, lay-all}
 use Rattle.workload.proofs.laid.lay_out.Statement.{statement}
@@ -43,12 +43,12 @@ inside c = omega (arith, c .before .before .loop .inv .1, c .before .loop-test .
 fine : (c : tie.After-frame-at Inv-loop μ-loop) → Fine (c .frame-at .result)
 fine c = rw (c .frame-at .ensures) (c .before .before .before .before .before .before .pre .0 .fine (c .before .before .loop .i) (inside c))
 
--- the choices are as many as the nodes
-size : (c : tie.After-frame-at Inv-loop μ-loop) → length (c .before .before .before .before .before .before .args .t4) ≡ nodes
+-- the choices are as many as the groups
+size : (c : tie.After-frame-at Inv-loop μ-loop) → length (c .before .before .before .before .before .before .args .t4) ≡ groups
 size c = search needs
 
 sub-at : tie.Need-sub-at Inv-loop μ-loop
-sub-at c = omega (arith, fine (c .before .before .before .before) .node-low)
+sub-at c = omega (arith, fine (c .before .before .before .before) .group-low)
 
 cast-at : tie.Need-cast-at Inv-loop μ-loop
 cast-at c = search needs
@@ -57,7 +57,7 @@ mul-choice : tie.Need-mul-choice Inv-loop μ-loop
 mul-choice c = search needs
 
 array-copy-out-choice : tie.Need-array-copy-out-choice Inv-loop μ-loop
-array-copy-out-choice c = omega (arith, fine (c .before .before .before .before) .node-low, fine (c .before .before .before .before) .node-high)
+array-copy-out-choice c = omega (arith, fine (c .before .before .before .before) .group-low, fine (c .before .before .before .before) .group-high)
 
 laid-frame-requires : tie.Need-laid-frame-requires Inv-loop μ-loop
 laid-frame-requires c κs = fine (c .before .before .before .before .before .before)

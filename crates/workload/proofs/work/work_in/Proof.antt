@@ -11,7 +11,7 @@ use Rattle.bus_model.specs.declared.Frame.{Frame}
 use Rattle.bus_model.specs.Frame.{row}
 use Rattle.bus_model.specs.Bounds.{demand, workAt}
 use Rattle.workload.specs.Stored.{stored}
-use Rattle.workload.specs.Grouped.{framesIn}
+use Rattle.workload.specs.ByGroup.{framesIn}
 use Rattle.workload.specs.laws.Fine.{part-fine}
 use Rattle.workload.proofs.work.work_in.Statement.{statement}
 use Rattle.workload.proofs.work.work_in.Tie as tie

@@ -1,4 +1,4 @@
--- The frames ahead of k, found through row numbers that are grouped by node once for each k.
+-- The frames ahead of k, found through row numbers that are put by group once for each k.
 use Prim.Native.Nat.{ℕ, _-_, _*_, _≤_, _<_}
 use mathlib.Core.Path.{_≡_}
 use mathlib.Core.List.{List, map, List·Memᴰ as Mem}
@@ -10,15 +10,15 @@ use Rattle.arith.specs.declared.Found.{Found}
 use Rattle.arith.specs.declared.Found.the-variants.{At, Nothing}
 use Rattle.bus_model.specs.declared.Frame.{Frame}
 use Rattle.bus_model.specs.Frame.{row}
-use Rattle.bus_model.specs.Pattern.{ofNode, hyperperiod}
+use Rattle.bus_model.specs.Pattern.{ofGroup, hyperperiod}
 use Rattle.bus_model.specs.Valid.{Valid}
 use Rattle.bus_model.specs.Bounds.{ahead, isReleasedAt}
 use Rattle.bus_model.specs.theory.Turns.{turn}
 
 -- the limits of a frame that keep the sums small
 pub record Fine (g : Frame) : Type 0 where
-  pub node-low : 1 ≤ g .node
-  pub node-high : g .node ≤ 16
+  pub group-low : 1 ≤ g .group
+  pub group-high : g .group ≤ 16
   pub length-low : 1 ≤ g .length
   pub length-high : g .length ≤ 400
   pub period-low : 1 ≤ g .period
@@ -30,7 +30,7 @@ pub record FineTable (fs : List Frame) : Type 0 where
   pub few : length fs ≤ 64
   pub valid : Valid fs
   pub fine : (i : ℕ) → i < length fs → Fine (row fs i)
-  pub hyper : (j : ℕ) → 1 ≤ j → j ≤ 16 → hyperperiod (ofNode fs j) ≤ 1000000
+  pub hyper : (j : ℕ) → 1 ≤ j → j ≤ 16 → hyperperiod (ofGroup fs j) ≤ 1000000
 
 -- the frames in some rows
 abbrev pub framesIn : List Frame → List ℕ → List Frame
@@ -54,22 +54,22 @@ unfoldable pub orEnd : ℕ → Found → ℕ
 orEnd e (At m) = m
 orEnd e Nothing = e
 
--- whether a frame counts at node j: each of the node's, or those ahead of k
+-- whether a frame counts at group j: each of the group's, or those ahead of k
 unfoldable pub isCounted : Bool → Frame → ℕ → Frame → Bool
-isCounted true k j g = eqb (g .node) j
-isCounted false k j g = eqb (g .node) j && leb (g .priority) (k .priority)
+isCounted true k j g = eqb (g .group) j
+isCounted false k j g = eqb (g .group) j && leb (g .priority) (k .priority)
 
--- the rows of node j
+-- the rows of group j
 abbrev pub partOf : List ℕ → List ℕ → ℕ → List ℕ
 partOf members counts j = take (getD counts (j - 1) 0) (drop (64 * (j - 1)) members)
 
--- the rows of each node's frames ahead of k, and after how many ticks these look the same again
-pub record Grouped (fs : List Frame) (k : Frame) (members counts ends : List ℕ) : Type 0 where
+-- the rows of each group's frames ahead of k, and after how many ticks these look the same again
+pub record ByGroup (fs : List Frame) (k : Frame) (members counts ends : List ℕ) : Type 0 where
   pub members-size : length members ≡ 1024
   pub counts-size : length counts ≡ 16
   pub ends-size : length ends ≡ 16
   pub few : (j : ℕ) → 1 ≤ j → j ≤ 16 → getD counts (j - 1) 0 ≤ 64
-  pub part : (j : ℕ) → 1 ≤ j → j ≤ 16 → framesIn fs (partOf members counts j) ≡ ofNode (ahead fs k) j
+  pub part : (j : ℕ) → 1 ≤ j → j ≤ 16 → framesIn fs (partOf members counts j) ≡ ofGroup (ahead fs k) j
   pub end : (j : ℕ) → 1 ≤ j → j ≤ 16 → getD ends (j - 1) 0 ≡ turn fs k j
 
 -- k is the frame of a row

@@ -2,10 +2,10 @@
 use native.Mathlib.Omega.{arith}
 use borrow.Author.Needs.{needs}
 use Rattle.bus_model.specs.declared.Choice.the-variants.{Fixed}
-use Rattle.bus_model.specs.Bounds.{nodeWork}
-use Rattle.workload.specs.laws.Groups.{lent-inside, lent-fine, lent-node}
-use Rattle.greatest_work.proofs.kept.node_work.Statement.{statement}
-use Rattle.greatest_work.proofs.kept.node_work.Tie as tie
+use Rattle.bus_model.specs.Bounds.{groupWork}
+use Rattle.workload.specs.laws.Groups.{lent-inside, lent-fine, lent-group}
+use Rattle.greatest_work.proofs.kept.group_work.Statement.{statement}
+use Rattle.greatest_work.proofs.kept.group_work.Tie as tie
 
 enum-known-choice : tie.Need-enum-known-choice
 enum-known-choice c = search needs
@@ -47,10 +47,10 @@ kept-work-requires : tie.Need-kept-work-requires
 kept-work-requires c κs = search needs
 
 returns : tie.Need-returns
-unfolding nodeWork
+unfolding groupWork
 returns c =
     let s = c .before .before .before .before .before .before .before .before .before .before .before in
-    let is = lent-node (s .pre .1 .0) (s .args .j) (s .pre .1 .1 .0 .0) (s .pre .0 .valid) (Fixed (c .before .before .before .before .choice .given .0 .0)) (s .args .n) (c .work-in .ensures .0) in
+    let is = lent-group (s .pre .1 .0) (s .args .j) (s .pre .1 .1 .0 .0) (s .pre .0 .valid) (Fixed (c .before .before .before .before .choice .given .0 .0)) (s .args .n) (c .work-in .ensures .0) in
     rw (c .before .before .before .before .choice .given .1) (is, (c .work-in .ensures .1, s .pre .1 .1 .1))
 
 same-length : tie.Need-same-length
@@ -59,8 +59,8 @@ same-length c = search needs
 returns-2 : tie.Need-returns-2
 returns-2 c = rw (c .before .before .before .before .enum-told .given .1) (c .before .before .kept-work .ensures)
 
-pub node-work-spec : {M : Type 1} → statement M
-node-work-spec =
+pub group-work-spec : {M : Type 1} → statement M
+group-work-spec =
     tie.close
     (tie.spec
     enum-known-choice

@@ -1,4 +1,4 @@
--- `workload::groups::group` meets its contract: the invariant has the groups of the nodes done.
+-- `workload::groups::by_group` meets its contract: the invariant has the groups done.
 use borrow.Author.Needs.{needs}
 use borrow.Rule.Slice.PartMut.{mid-len}
 use Prim.Native.Nat.{ℕ, _+_, _*_, _-_}
@@ -6,8 +6,8 @@ use mathlib.Core.Path.{_≡_, _∙_, refl}
 use native.Mathlib.Omega.{arith}
 use Rattle.workload.specs.Stored.{stored}
 use Rattle.workload.specs.laws.Groups.{counted-turn, FilledTo, filled-more, filled-all}
-use Rattle.workload.proofs.groups.group.Statement.{statement}
-use Rattle.workload.proofs.groups.group.Tie as tie
+use Rattle.workload.proofs.groups.by_group.Statement.{statement}
+use Rattle.workload.proofs.groups.by_group.Tie as tie
 
 abbrev Inv-loop : tie.InvT-loop
 Inv-loop frames k members₀ counts₀ ends₀ j₀ members counts ends j = FilledTo (stored frames) k members counts ends j
@@ -20,11 +20,11 @@ loop-holds c =
     let s = c .before .before .before .before in
     record { members-size = s .pre .1 .0; counts-size = s .pre .1 .1; ends-size = s .pre .1 .2; each = λ i l. absurd (omega arith) }
 
-add-node : tie.Need-add-node Inv-loop μ-loop
-add-node c = search needs
+add-group : tie.Need-add-group Inv-loop μ-loop
+add-group c = search needs
 
-cast-node : tie.Need-cast-node Inv-loop μ-loop
-cast-node c = search needs
+cast-group : tie.Need-cast-group Inv-loop μ-loop
+cast-group c = search needs
 
 mul-from : tie.Need-mul-from Inv-loop μ-loop
 mul-from c = search needs
@@ -89,15 +89,15 @@ same-length-3 c = search needs
 returns : tie.Need-returns Inv-loop μ-loop
 returns c = filled-all _ (c .before .loop .inv) (c .loop-test .left)
 
-pub group-spec : {M : Type 1} → statement M
-group-spec =
+pub by-group-spec : {M : Type 1} → statement M
+by-group-spec =
     tie.close
     (tie.spec
     Inv-loop
     μ-loop
     loop-holds
-    add-node
-    cast-node
+    add-group
+    cast-group
     mul-from
     add-to
     sub-gather

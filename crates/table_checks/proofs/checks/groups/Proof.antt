@@ -1,26 +1,26 @@
--- `table_checks::checks::nodes` meets its contract: the invariant says that the nodes left decide.
+-- `table_checks::checks::groups` meets its contract: the invariant says that the groups left decide.
 use Prim.Native.Nat.{_-_, _≤_}
 use mathlib.Core.Path.{_≡_, refl, _∙_}
 use native.Mathlib.Omega.{arith}
 use borrow.Author.Needs.{needs}
 use Rattle.table_checks.specs.Frames.{unmeasured}
-use Rattle.table_checks.specs.Checks.{firstOf, nodeCheck, nodesCheck}
+use Rattle.table_checks.specs.Checks.{firstOf, groupCheck, groupsCheck}
 use Rattle.table_checks.specs.laws.First.{first-stop, first-go, first-end}
-use Rattle.table_checks.proofs.checks.nodes.Statement.{statement}
-use Rattle.table_checks.proofs.checks.nodes.Tie as tie
+use Rattle.table_checks.proofs.checks.groups.Statement.{statement}
+use Rattle.table_checks.proofs.checks.groups.Tie as tie
 
 abbrev Inv-loop : tie.InvT-loop
-Inv-loop t j₀ j = (firstOf (nodeCheck (unmeasured t)) (17 - j) j ≡ nodesCheck (unmeasured t)) × (j ≤ 17)
+Inv-loop t j₀ j = (firstOf (groupCheck (unmeasured t)) (17 - j) j ≡ groupsCheck (unmeasured t)) × (j ≤ 17)
 
 abbrev μ-loop : tie.MeasureT-loop
 μ-loop t j₀ j = 17 - j
 
 loop-holds : tie.Need-loop-holds Inv-loop μ-loop
-unfolding nodesCheck
+unfolding groupsCheck
 loop-holds c = (refl, search needs)
 
-node-requires : tie.Need-node-requires Inv-loop μ-loop
-node-requires c κs = search needs
+group-requires : tie.Need-group-requires Inv-loop μ-loop
+group-requires c κs = search needs
 
 enum-told : tie.Need-enum-told Inv-loop μ-loop
 enum-told c = search needs
@@ -29,7 +29,7 @@ enum-told-2 : tie.Need-enum-told-2 Inv-loop μ-loop
 enum-told-2 c = search needs
 
 returns : tie.Need-returns Inv-loop μ-loop
-returns c = first-stop _ 17 (c .before .before .before .before .loop .j) _ _ (omega arith) (c .before .before .node .ensures) (c .enum-told2 .given .1) ∙ c .before .before .before .before .loop .inv .0
+returns c = first-stop _ 17 (c .before .before .before .before .loop .j) _ _ (omega arith) (c .before .before .group .ensures) (c .enum-told2 .given .1) ∙ c .before .before .before .before .loop .inv .0
 
 add-j : tie.Need-add-j Inv-loop μ-loop
 add-j c = search needs
@@ -38,19 +38,19 @@ loop-less : tie.Need-loop-less Inv-loop μ-loop
 loop-less c = search needs
 
 loop-again : tie.Need-loop-again Inv-loop μ-loop
-loop-again c = (first-go _ 17 (c .before .before .before .before .loop .j) _ (omega arith) (c .before .before .node .ensures) (c .enum-told .given .1) ∙ c .before .before .before .before .loop .inv .0, search needs)
+loop-again c = (first-go _ 17 (c .before .before .before .before .loop .j) _ (omega arith) (c .before .before .group .ensures) (c .enum-told .given .1) ∙ c .before .before .before .before .loop .inv .0, search needs)
 
 returns-2 : tie.Need-returns-2 Inv-loop μ-loop
 returns-2 c = first-end _ _ _ (c .loop-test .left) ∙ c .before .loop .inv .0
 
-pub nodes-spec : {M : Type 1} → statement M
-nodes-spec =
+pub groups-spec : {M : Type 1} → statement M
+groups-spec =
     tie.close
     (tie.spec
     Inv-loop
     μ-loop
     loop-holds
-    node-requires
+    group-requires
     enum-told
     enum-told-2
     returns

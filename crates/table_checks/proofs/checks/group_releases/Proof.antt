@@ -1,4 +1,4 @@
--- `table_checks::checks::node_releases` meets its contract: the invariant has the sum over the rows read.
+-- `table_checks::checks::group_releases` meets its contract: the invariant has the sum over the rows read.
 use Prim.Native.Nat.{_-_, _*_, _/_, _≤_}
 use native.Mathlib.Omega.{arith}
 use lib.ListN.{length}
@@ -6,14 +6,14 @@ use borrow.Author.Needs.{needs}
 use Rattle.table_checks.specs.Columns.{columns}
 use Rattle.table_checks.specs.Steps.{Periods}
 use Rattle.table_checks.proofs.ChecksLaws.{Rows, rows-all, releasesOf, releases-none, releases-more}
-use Rattle.table_checks.proofs.checks.node_releases.Statement.{statement}
-use Rattle.table_checks.proofs.checks.node_releases.Tie as tie
+use Rattle.table_checks.proofs.checks.group_releases.Statement.{statement}
+use Rattle.table_checks.proofs.checks.group_releases.Tie as tie
 
 abbrev Inv-loop : tie.InvT-loop
-Inv-loop t node h sum₀ i₀ sum i = Rows (releasesOf h node) t sum i × (sum ≤ 1000000 * (length t / columns - i))
+Inv-loop t group h sum₀ i₀ sum i = Rows (releasesOf h group) t sum i × (sum ≤ 1000000 * (length t / columns - i))
 
 abbrev μ-loop : tie.MeasureT-loop
-μ-loop t node h sum₀ i₀ sum i = i
+μ-loop t group h sum₀ i₀ sum i = i
 
 loop-holds : tie.Need-loop-holds Inv-loop μ-loop
 loop-holds c = (releases-none _ _ _, search needs)
@@ -69,8 +69,8 @@ loop-again c =
 returns : tie.Need-returns Inv-loop μ-loop
 returns c = rows-all _ _ (c .before .loop .inv .0) (c .loop-test .left)
 
-pub node-releases-spec : {M : Type 1} → statement M
-node-releases-spec =
+pub group-releases-spec : {M : Type 1} → statement M
+group-releases-spec =
     tie.close
     (tie.spec
     Inv-loop
