@@ -12,7 +12,7 @@ ghost use Rattle.table_checks.specs.Columns.{startOf, columns, lineLength};
 ghost use Rattle.frame_table.specs.Text.{fieldOf, columnAt, fieldAt, fieldsFrom, lineOf, linesFrom};
 
 // Where each column starts, and after the last the line feed.
-const STARTS: [usize; ROW + 1] = [0, 3, 13, 16, 18, 26, 34, 42];
+const STARTS: [usize; ROW + 1] = [0, 3, 6, 16, 19, 21, 29, 37, 45];
 
 const LINE_FEED: u8 = 10;
 

@@ -38,7 +38,7 @@ fn run(letter: u8, row: u64, size: usize, buffer: &[u8]) {
     if buffer.len() < size {
         return;
     }
-    let mut rows = [0u32; 512];
+    let mut rows = [0u32; 600];
     let count = case_reader::unpack(&buffer[0..size], &mut rows);
     if letter == b'J' {
         run_judge(&rows, count, row);

@@ -1,12 +1,12 @@
 -- Worked examples: the notation, the numbers and places of 13 and 14, and their order.
-use Prim.Native.Nat.{ℕ}
+use Prim.Native.Nat.{ℕ, _+_, _*_}
 use mathlib.Core.Path.{_≡_, refl}
 use mathlib.Core.List.{List, [], _∷_, _++_, flatMap}
 use lib.ListN.{take, set, replicate}
 use Rattle.arith.specs.Lists.{exists, range}
 use Rattle.decimal.specs.Decimal.{readColumn, writeColumn}
 use Rattle.table_checks.specs.declared.Checked.{Checked}
-use Rattle.table_checks.specs.Columns.{between, isLength}
+use Rattle.table_checks.specs.Columns.{between, isLength, lineLength}
 use Rattle.table_checks.specs.Frames.{standardLengths}
 use Rattle.table_checks.specs.Refusal.{numberOf, returned, checkReturns}
 use Rattle.table_checks.specs.Checks.{isOutside, breaksLimits, lengthsCheck, fileSizeCheck, rowsSizeCheck, rowsCheck, loadedCheck}
@@ -83,9 +83,9 @@ record Files : Type 0 where
   nothing : Answers (inputCheck [] []) 13 0
   before-table : Answers (inputCheck small []) 14 1
   then-table : Answers (inputCheck (textOf standardLengths) []) 1 0
-  before-size : Answers (sizeCheck small 2888) 14 1
-  too-long : Answers (sizeCheck (textOf standardLengths) 2887) 2 0
-  no-whole-lines : Answers (sizeCheck (textOf standardLengths) 2888) 1 0
+  before-size : Answers (sizeCheck small (92 + 65 * lineLength + 1)) 14 1
+  too-long : Answers (sizeCheck (textOf standardLengths) (92 + 65 * lineLength)) 2 0
+  no-whole-lines : Answers (sizeCheck (textOf standardLengths) (92 + 65 * lineLength + 1)) 1 0
 
 files : Files
 unfolding checkReturns numberOf lengthsCheck breaksLimits isOutside isLength between exists fileSizeCheck readCheck flatMap range readColumn writeColumn columnAt numberIn lineOf isUnreadable isBroken isLine isText textCheck lengthsFileCheck columnText lineText textOf inputCheck sizeCheck

@@ -22,10 +22,10 @@ load quotient remainder divisor = record { quotient = quotient; remainder = rema
 -- Document 01's table: node 1 sends 135 + 55 + 135 ticks in 1000, node 2 sends 65.
 picker : List ℕ
 picker =
-    1 ∷ 16 ∷ 11 ∷ 8 ∷ 1000 ∷ 0 ∷ 300
-    ∷ 1 ∷ 32 ∷ 11 ∷ 0 ∷ 1000 ∷ 200 ∷ 189
-    ∷ 1 ∷ 48 ∷ 11 ∷ 8 ∷ 1000 ∷ 300 ∷ 198
-    ∷ 2 ∷ 64 ∷ 11 ∷ 1 ∷ 1000 ∷ 0 ∷ 200
+    1 ∷ 1 ∷ 16 ∷ 11 ∷ 8 ∷ 1000 ∷ 0 ∷ 300
+    ∷ 1 ∷ 1 ∷ 32 ∷ 11 ∷ 0 ∷ 1000 ∷ 200 ∷ 189
+    ∷ 1 ∷ 1 ∷ 48 ∷ 11 ∷ 8 ∷ 1000 ∷ 300 ∷ 198
+    ∷ 2 ∷ 2 ∷ 64 ∷ 11 ∷ 1 ∷ 1000 ∷ 0 ∷ 200
     ∷ []
 
 picker-sheet : sheetOf standardLengths picker ≡ nodeLine 1 (load 3250 0 1000) ++ (nodeLine 2 (load 650 0 1000) ++ lastLine 2 3250)
@@ -55,10 +55,10 @@ first-line = refl
 -- Node 16: periods 3 and 7, lengths 55 and 65, so 7 × 55 + 3 × 65 = 580 in 21 ticks, and 5800000 = 276190 × 21 + 10.
 remainders : List ℕ
 remainders =
-    16 ∷ 1 ∷ 11 ∷ 0 ∷ 3 ∷ 0 ∷ 100
-    ∷ 5 ∷ 2 ∷ 29 ∷ 0 ∷ 7 ∷ 0 ∷ 100
-    ∷ 16 ∷ 3 ∷ 11 ∷ 1 ∷ 7 ∷ 0 ∷ 100
-    ∷ 1 ∷ 4 ∷ 29 ∷ 8 ∷ 1000000 ∷ 0 ∷ 100
+    16 ∷ 16 ∷ 1 ∷ 11 ∷ 0 ∷ 3 ∷ 0 ∷ 100
+    ∷ 5 ∷ 5 ∷ 2 ∷ 29 ∷ 0 ∷ 7 ∷ 0 ∷ 100
+    ∷ 16 ∷ 16 ∷ 3 ∷ 11 ∷ 1 ∷ 7 ∷ 0 ∷ 100
+    ∷ 1 ∷ 1 ∷ 4 ∷ 29 ∷ 8 ∷ 1000000 ∷ 0 ∷ 100
     ∷ []
 
 remainders-sheet : sheetOf standardLengths remainders

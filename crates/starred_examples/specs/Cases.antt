@@ -24,27 +24,27 @@ use Rattle.starred_examples.specs.Compute.{everything}
 -- the whole case of document 01's listing: identifiers 16, 32, 48 and 64
 abbrev pub listing : List ℕ
 listing =
-    1 ∷ 16 ∷ 11 ∷ 8 ∷ 1000 ∷ 0 ∷ 300
-    ∷ 1 ∷ 32 ∷ 11 ∷ 0 ∷ 1000 ∷ 200 ∷ 189
-    ∷ 1 ∷ 48 ∷ 11 ∷ 8 ∷ 1000 ∷ 300 ∷ 198
-    ∷ 2 ∷ 64 ∷ 11 ∷ 1 ∷ 1000 ∷ 0 ∷ 200
+    1 ∷ 1 ∷ 16 ∷ 11 ∷ 8 ∷ 1000 ∷ 0 ∷ 300
+    ∷ 1 ∷ 1 ∷ 32 ∷ 11 ∷ 0 ∷ 1000 ∷ 200 ∷ 189
+    ∷ 1 ∷ 1 ∷ 48 ∷ 11 ∷ 8 ∷ 1000 ∷ 300 ∷ 198
+    ∷ 2 ∷ 2 ∷ 64 ∷ 11 ∷ 1 ∷ 1000 ∷ 0 ∷ 200
     ∷ []
 
 -- one frame of kind 11 with 8 payload bytes
 abbrev pub alone : ℕ → List ℕ
-alone p = 1 ∷ 0 ∷ 11 ∷ 8 ∷ p ∷ 0 ∷ 135 ∷ []
+alone p = 1 ∷ 1 ∷ 0 ∷ 11 ∷ 8 ∷ p ∷ 0 ∷ 135 ∷ []
 
 -- two frames of a group, of periods 1 and p
 abbrev pub dense : ℕ → List ℕ
-dense p = 1 ∷ 0 ∷ 11 ∷ 0 ∷ 1 ∷ 0 ∷ 1000 ∷ 1 ∷ 1 ∷ 11 ∷ 0 ∷ p ∷ 0 ∷ 1000 ∷ []
+dense p = 1 ∷ 1 ∷ 0 ∷ 11 ∷ 0 ∷ 1 ∷ 0 ∷ 1000 ∷ 1 ∷ 1 ∷ 1 ∷ 11 ∷ 0 ∷ p ∷ 0 ∷ 1000 ∷ []
 
 -- frames of group j that are released at 256 instants of a hyperperiod of 510: every second one, and instant 1
 abbrev pub crowd : ℕ → List ℕ → List ℕ
-crowd j rest = j ∷ (2 * j) ∷ 11 ∷ 0 ∷ 2 ∷ 0 ∷ 1000 ∷ j ∷ (2 * j + 1) ∷ 11 ∷ 0 ∷ 510 ∷ 1 ∷ 1000 ∷ rest
+crowd j rest = j ∷ j ∷ (2 * j) ∷ 11 ∷ 0 ∷ 2 ∷ 0 ∷ 1000 ∷ j ∷ j ∷ (2 * j + 1) ∷ 11 ∷ 0 ∷ 510 ∷ 1 ∷ 1000 ∷ rest
 
 -- frames of group j that are released at 2 instants
 abbrev pub pair : ℕ → List ℕ → List ℕ
-pair j rest = j ∷ (2 * j) ∷ 11 ∷ 0 ∷ 10 ∷ 0 ∷ 1000 ∷ j ∷ (2 * j + 1) ∷ 11 ∷ 0 ∷ 10 ∷ 5 ∷ 1000 ∷ rest
+pair j rest = j ∷ j ∷ (2 * j) ∷ 11 ∷ 0 ∷ 10 ∷ 0 ∷ 1000 ∷ j ∷ j ∷ (2 * j + 1) ∷ 11 ∷ 0 ∷ 10 ∷ 5 ∷ 1000 ∷ rest
 
 -- ---- the cases
 

@@ -45,11 +45,11 @@ fn run(letter: u8, area: usize, size: usize, buffer: &[u8]) {
     }
     let payload = &buffer[0..size];
     if letter == b'R' {
-        let mut words = [FILL_WORD; 512];
+        let mut words = [FILL_WORD; 600];
         run_read(payload, area, &mut words);
         return;
     }
-    let mut rows = [0u32; 512];
+    let mut rows = [0u32; 600];
     let count = case_reader::unpack(payload, &mut rows);
     if letter == b'C' {
         run_check(&rows, count);

@@ -18,7 +18,7 @@ use Rattle.bus_model.specs.Pattern.{ofGroup, hyperperiod, patternReleases}
 use Rattle.bus_model.specs.theory.Hyperperiod.{hyperOf, joinOf, hyper-more, hyper-le}
 use Rattle.table_checks.specs.declared.Cause.the-variants.{Hyperperiod, Releases}
 use Rattle.table_checks.specs.declared.Checked.the-variants.{Passed}
-use Rattle.table_checks.specs.Columns.{field, columns, periodColumn, nodeColumn}
+use Rattle.table_checks.specs.Columns.{field, columns, groupColumn, periodColumn}
 use Rattle.table_checks.specs.Frames.{frameAt, unmeasured}
 use Rattle.table_checks.specs.Refusal.{failed}
 use Rattle.table_checks.specs.Checks.{groupCheck}
@@ -58,7 +58,7 @@ module _ (t : List ℕ) (j : ℕ) where
 
     -- It takes one row more, whose numbers it reads.
     pub hyper-row : {i h r : ℕ} → Rows (hyperOf j) t h i → 0 < i
-        → r ≡ cond (eqb (field t (i - 1) nodeColumn) j) (lcm (field t (i - 1) periodColumn) h) h → Rows (hyperOf j) t r (i - 1) × (h ≤ r)
+        → r ≡ cond (eqb (field t (i - 1) groupColumn) j) (lcm (field t (i - 1) periodColumn) h) h → Rows (hyperOf j) t r (i - 1) × (h ≤ r)
     unfolding frameAt
     hyper-row {i} {h} {r} s pos e =
         let is : r ≡ joinOf j (frameAt [] t (i - 1)) h = e in
@@ -97,7 +97,7 @@ module _ (t : List ℕ) (h j : ℕ) where
 
   -- It takes one row more, whose releases are at most h.
   pub releases-more : {i s r : ℕ} → Rows (releasesOf h j) t s i → 0 < i
-      → r ≡ cond (eqb (field t (i - 1) nodeColumn) j) (h / field t (i - 1) periodColumn) 0 → Rows (releasesOf h j) t (r + s) (i - 1) × (r ≤ h)
+      → r ≡ cond (eqb (field t (i - 1) groupColumn) j) (h / field t (i - 1) periodColumn) 0 → Rows (releasesOf h j) t (r + s) (i - 1) × (r ≤ h)
   unfolding frameAt
   releases-more {i} {s} {r} f pos e =
       let is : r ≡ shareOf h j (frameAt [] t (i - 1)) = e in (

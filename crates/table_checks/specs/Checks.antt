@@ -1,4 +1,4 @@
--- The checks on lengths and tables and their order (document 01, "Where a call is turned back"; document 02, request 2).
+-- The checks on lengths and tables and their order (document 01, "Where a call is turned back"; document 02, requests 2 and 6).
 -- A table is given by its fields: those of a file as frame_table's Text.antt has them, or the numbers in memory.
 use Prim.Native.Nat.{ℕ, zero, suc, _+_, _-_, _/_, _%_}
 use mathlib.Core.Bool.{Bool, cond, not, _&&_, _||_}
@@ -9,10 +9,10 @@ use lib.Dec.{ltb, eqb}
 use Rattle.arith.specs.Lists.{exists, range}
 use Rattle.bus_model.specs.declared.Frame.{Frame}
 use Rattle.bus_model.specs.Pattern.{ofGroup, hyperperiod, patternReleases}
-use Rattle.table_checks.specs.declared.Cause.the-variants.{FileForm, TooManyLines, Notation, Limit, Duplicate, Hyperperiod, Releases, RowsLength, Length}
+use Rattle.table_checks.specs.declared.Cause.the-variants.{FileForm, TooManyLines, Notation, Limit, Duplicate, Hyperperiod, Releases, RowsLength, Length, SecondGroup}
 use Rattle.table_checks.specs.declared.Checked.{Checked}
 use Rattle.table_checks.specs.declared.Checked.the-variants.{Passed, Failed}
-use Rattle.table_checks.specs.Columns.{field, isLength, within, columns, identifierColumn, kindColumn, mostLines, mostNumbers, lineLength}
+use Rattle.table_checks.specs.Columns.{field, isLength, within, columns, nodeColumn, groupColumn, identifierColumn, kindColumn, mostLines, mostNumbers, lineLength}
 use Rattle.table_checks.specs.Frames.{lengthAt, unmeasured}
 use Rattle.table_checks.specs.Refusal.{failed}
 
@@ -86,9 +86,20 @@ isSameFrame t i m = eqb (field t m identifierColumn) (field t i identifierColumn
 unfoldable pub standsEarlier : List ℕ → ℕ → Bool
 standsEarlier t i = exists (isSameFrame t i) (range 0 i)
 
--- line i: its columns, then 5
+-- whether the node of line i stands in another group on line m
+unfoldable pub isOtherGroup : List ℕ → ℕ → ℕ → Bool
+isOtherGroup t i m = eqb (field t m nodeColumn) (field t i nodeColumn) && not (eqb (field t m groupColumn) (field t i groupColumn))
+
+-- whether it does on an earlier line
+unfoldable pub hasSecondGroup : List ℕ → ℕ → Bool
+hasSecondGroup t i = exists (isOtherGroup t i) (range 0 i)
+
+-- line i: its columns, then 5, then 15
 unfoldable pub lineCheck : List ℕ → ℕ → Checked
-lineCheck t i = first (columnsCheck t i) (cond (standsEarlier t i) (failed Duplicate (i + 1)) Passed)
+lineCheck t i =
+    first (columnsCheck t i)
+    (cond (standsEarlier t i) (failed Duplicate (i + 1))
+    (cond (hasSecondGroup t i) (failed SecondGroup (i + 1)) Passed))
 
 unfoldable pub linesCheck : List ℕ → Checked
 linesCheck t = firstOf (lineCheck t) (length t / columns) 0

@@ -1,6 +1,6 @@
--- The columns of a table (document 01, "The table"). Their number, places, widths and limits stand here alone; the code's are the
--- constants in src/lib.rt.
--- A table is a list of numbers, so many a row: node, identifier, kind, payload bytes, period, offset, claim.
+-- The columns of a table (document 01, "The table"; document 02, request 6). Their number, places, widths and limits stand here alone;
+-- the code's are the constants in src/lib.rt.
+-- A table is a list of numbers, so many a row: node, group, identifier, kind, payload bytes, period, offset, claim.
 use Prim.Native.Nat.{ℕ, _+_, _*_}
 use mathlib.Core.Bool.{Bool, true, false, _&&_, _||_}
 use mathlib.Core.List.{List, [], _∷_}
@@ -12,29 +12,32 @@ use Rattle.arith.specs.Lists.{sum}
 
 -- the numbers of a row
 abbrev pub columns : ℕ
-columns = 7
+columns = 8
 
 -- the columns, from 0
 abbrev pub nodeColumn : ℕ
 nodeColumn = 0
 
+abbrev pub groupColumn : ℕ
+groupColumn = 1
+
 abbrev pub identifierColumn : ℕ
-identifierColumn = 1
+identifierColumn = 2
 
 abbrev pub kindColumn : ℕ
-kindColumn = 2
+kindColumn = 3
 
 abbrev pub payloadColumn : ℕ
-payloadColumn = 3
+payloadColumn = 4
 
 abbrev pub periodColumn : ℕ
-periodColumn = 4
+periodColumn = 5
 
 abbrev pub offsetColumn : ℕ
-offsetColumn = 5
+offsetColumn = 6
 
 abbrev pub claimColumn : ℕ
-claimColumn = 6
+claimColumn = 7
 
 -- the most lines of a table, and its numbers then
 abbrev pub mostLines : ℕ
@@ -51,7 +54,7 @@ field t i j = getD t (columns * i + j) 0
 
 -- the characters of a line before its line feed, and with it
 abbrev pub feedAt : ℕ
-feedAt = 42
+feedAt = 45
 
 abbrev pub lineLength : ℕ
 lineLength = feedAt + 1
@@ -62,7 +65,7 @@ mostBytes = lineLength * mostLines
 
 -- "Width": the characters of each column in a file
 abbrev pub widths : List ℕ
-widths = 3 ∷ 10 ∷ 3 ∷ 2 ∷ 8 ∷ 8 ∷ 8 ∷ []
+widths = 3 ∷ 3 ∷ 10 ∷ 3 ∷ 2 ∷ 8 ∷ 8 ∷ 8 ∷ []
 
 unfoldable pub widthOf : ℕ → ℕ
 widthOf j = getD widths j 0
@@ -91,6 +94,7 @@ isIdentifier kind identifier = (eqb kind 11 && leb identifier 2047) || (eqb kind
 abbrev pub limits : ℕ → ℕ → List Bool
 limits before v =
     between 1 16 v
+    ∷ between 1 16 v
     ∷ true
     ∷ isIdentifier v before
     ∷ leb v 8

@@ -7,7 +7,7 @@ use lib.ListN.{length, getD}
 use lib.Dec.{ltb, eqb}
 use Rattle.arith.specs.Lists.{range}
 use Rattle.bus_model.specs.declared.Frame.{Frame}
-use Rattle.table_checks.specs.Columns.{field, columns, nodeColumn, identifierColumn, kindColumn, payloadColumn, periodColumn, offsetColumn}
+use Rattle.table_checks.specs.Columns.{field, columns, groupColumn, identifierColumn, kindColumn, payloadColumn, periodColumn, offsetColumn}
 
 -- "Rank" (document 02, 5): the top 11 of a long identifier's 29 bits are compared with a short identifier, and the smaller goes first;
 -- on a tie the short frame does; among frames of one kind the smaller identifier. As one number, the smaller first: a short frame
@@ -46,7 +46,7 @@ stuffable = 34 ∷ 54 ∷ []
 unfoldable pub frameAt : List (List ℕ) → List ℕ → ℕ → Frame
 frameAt ls t i =
     record {
-      group = field t i nodeColumn;
+      group = field t i groupColumn;
       priority = priorityOf (field t i kindColumn) (field t i identifierColumn);
       length = largestLength ls (field t i kindColumn) (field t i payloadColumn);
       period = field t i periodColumn;

@@ -1,7 +1,7 @@
--- The numbers of the causes (document 01, "Where a call is turned back"; document 02, request 2).
+-- The numbers of the causes (document 01, "Where a call is turned back"; document 02, requests 2 and 6).
 use Prim.Native.Nat.{ℕ}
 use Rattle.table_checks.specs.declared.Cause.{Cause}
-use Rattle.table_checks.specs.declared.Cause.the-variants.{FileForm, TooManyLines, Notation, Limit, Duplicate, Hyperperiod, Releases, OutputArea, RowsLength, LengthsFile, Length}
+use Rattle.table_checks.specs.declared.Cause.the-variants.{FileForm, TooManyLines, Notation, Limit, Duplicate, Hyperperiod, Releases, OutputArea, RowsLength, LengthsFile, Length, SecondGroup}
 use Rattle.table_checks.specs.declared.Checked.{Checked}
 use Rattle.table_checks.specs.declared.Checked.the-variants.{Passed, Failed}
 
@@ -18,6 +18,7 @@ numberOf OutputArea = 8
 numberOf RowsLength = 10
 numberOf LengthsFile = 13
 numberOf Length = 14
+numberOf SecondGroup = 15
 
 -- a check that failed
 abbrev pub failed : Cause → ℕ → Checked

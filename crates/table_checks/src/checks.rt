@@ -2,6 +2,7 @@
 use crate::CLAIM;
 use crate::Cause;
 use crate::Checked;
+use crate::GROUP;
 use crate::IDENTIFIER;
 use crate::KIND;
 use crate::LINE;
@@ -26,7 +27,7 @@ ghost use Rattle.bus_model.specs.Pattern.{ofGroup, hyperperiod};
 ghost use Rattle.table_checks.specs.Columns.{between, isIdentifier, within, columns, mostLines, mostNumbers};
 ghost use Rattle.table_checks.specs.Frames.{unmeasured};
 ghost use Rattle.table_checks.specs.Refusal.{failed, checkReturns};
-ghost use Rattle.table_checks.specs.Checks.{fileSizeCheck, rowsSizeCheck, columnCheck, columnsCheck, isSameFrame, standsEarlier, lineCheck, linesCheck, groupCheck, groupsCheck, tableCheck, rowsCheck};
+ghost use Rattle.table_checks.specs.Checks.{fileSizeCheck, rowsSizeCheck, columnCheck, columnsCheck, isSameFrame, standsEarlier, isOtherGroup, hasSecondGroup, lineCheck, linesCheck, groupCheck, groupsCheck, tableCheck, rowsCheck};
 ghost use Rattle.table_checks.specs.Returns.{fileSizeReturns, rowsReturns};
 ghost use Rattle.table_checks.specs.Steps.{Periods};
 
@@ -100,6 +101,7 @@ fn is_within(j: usize, before: u64, v: u64) -> bool
 {
     match j {
         NODE => is_between(1, 16, v),
+        GROUP => is_between(1, 16, v),
         IDENTIFIER => true,
         KIND => is_identifier(v, before),
         PAYLOAD => v <= 8,
@@ -177,6 +179,29 @@ fn stands_earlier(t: &[u64], i: usize) -> bool
     false
 }
 
+// Whether the node of line i stands in another group on line m.
+fn is_other_group(t: &[u64], i: usize, m: usize) -> bool
+    requires { ⌜ (columns * i + columns ≤ length (now t)) × (columns * m + columns ≤ length (now t)) ⌝ }
+    ensures { λ r. ⌜ r ≡ isOtherGroup (now (t .entry)) i m ⌝ }
+{
+    t[ROW * m + NODE] == t[ROW * i + NODE] && t[ROW * m + GROUP] != t[ROW * i + GROUP]
+}
+
+// Whether it does on an earlier line.
+fn has_second_group(t: &[u64], i: usize) -> bool
+    requires { ⌜ columns * i + columns ≤ length (now t) ⌝ }
+    ensures { λ r. ⌜ r ≡ hasSecondGroup (now (t .entry)) i ⌝ }
+{
+    let mut earlier = 0;
+    while earlier < i {
+        if is_other_group(t, i, earlier) {
+            return true;
+        }
+        earlier += 1;
+    }
+    false
+}
+
 // The check of line i.
 fn line(t: &[u64], i: usize) -> Checked
     requires { ⌜ (columns * i + columns ≤ length (now t)) × (i < mostLines) ⌝ }
@@ -187,7 +212,10 @@ fn line(t: &[u64], i: usize) -> Checked
         return checked;
     };
     if stands_earlier(t, i) {
-        fail(Cause::Duplicate, (i + 1) as u32)
+        return fail(Cause::Duplicate, (i + 1) as u32);
+    }
+    if has_second_group(t, i) {
+        fail(Cause::SecondGroup, (i + 1) as u32)
     } else {
         Checked::Passed
     }
@@ -230,7 +258,7 @@ pub fn bounded_hyperperiod(t: &[u64], group: u64) -> u64
     let mut i = t.len() / ROW;
     while 0 < i {
         i -= 1;
-        h = joined(h, group, t[ROW * i + NODE], t[ROW * i + PERIOD]);
+        h = joined(h, group, t[ROW * i + GROUP], t[ROW * i + PERIOD]);
         if MOST_TICKS < h {
             return MOST_TICKS + 1;
         }
@@ -256,7 +284,7 @@ fn group_releases(t: &[u64], group: u64, h: u64) -> u64
     let mut i = t.len() / ROW;
     while 0 < i {
         i -= 1;
-        sum = frame_releases(h, group, t[ROW * i + NODE], t[ROW * i + PERIOD]) + sum;
+        sum = frame_releases(h, group, t[ROW * i + GROUP], t[ROW * i + PERIOD]) + sum;
     }
     sum
 }

@@ -1,7 +1,7 @@
 // A row as a frame: its priority and its largest length, by the lengths that were loaded: kind 11, then kind 29; by payload bytes.
+use crate::GROUP;
 use crate::IDENTIFIER;
 use crate::KIND;
-use crate::NODE;
 use crate::OFFSET;
 use crate::PAYLOAD;
 use crate::PERIOD;
@@ -69,7 +69,7 @@ pub fn frame(lengths: [[u32; 9]; 2], rows: &[u32], i: usize) -> Frame
     let kind = rows[at + KIND];
     let payload = rows[at + PAYLOAD];
     Frame {
-        group: rows[at + NODE],
+        group: rows[at + GROUP],
         priority: priority(kind, identifier),
         length: largest_length(lengths, kind, payload),
         period: rows[at + PERIOD],

@@ -26,23 +26,25 @@ ghost use Rattle.table_checks.specs.Returns.{rowsReturns, loadedReturns}
 // The columns of a row, as specs/Columns.antt has them,
 pub const NODE: usize = 0;
 
-pub const IDENTIFIER: usize = 1;
+pub const GROUP: usize = 1;
 
-pub const KIND: usize = 2;
+pub const IDENTIFIER: usize = 2;
 
-pub const PAYLOAD: usize = 3;
+pub const KIND: usize = 3;
 
-pub const PERIOD: usize = 4;
+pub const PAYLOAD: usize = 4;
 
-pub const OFFSET: usize = 5;
+pub const PERIOD: usize = 5;
 
-pub const CLAIM: usize = 6;
+pub const OFFSET: usize = 6;
+
+pub const CLAIM: usize = 7;
 
 // and how many they are.
-pub const ROW: usize = 7;
+pub const ROW: usize = 8;
 
 // The characters of a line with its line feed, the most lines of a table, and its numbers then.
-pub const LINE: usize = 43;
+pub const LINE: usize = 46;
 
 pub const MOST_LINES: usize = 64;
 
@@ -82,6 +84,8 @@ pub enum Cause {
     LengthsFile,
     // A length is outside its limits, or smaller than the one before it.
     Length,
+    // The node stands in another group on an earlier line.
+    SecondGroup,
 }
 
 // A cause, and the line (from 1) or the group where it was found, or 0.
@@ -112,6 +116,7 @@ pub fn number(cause: Cause) -> u32
         Cause::RowsLength => 10,
         Cause::LengthsFile => 13,
         Cause::Length => 14,
+        Cause::SecondGroup => 15,
     }
 }
 

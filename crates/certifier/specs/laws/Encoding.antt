@@ -20,7 +20,7 @@ use Rattle.table_checks.specs.declared.Checked.{Checked}
 use Rattle.table_checks.specs.declared.Checked.the-variants.{Passed, Failed}
 use Rattle.table_checks.specs.Columns.{field, within, columns, mostLines, mostNumbers, lineLength}
 use Rattle.table_checks.specs.Frames.{framesOf, unmeasured}
-use Rattle.table_checks.specs.Checks.{first, firstOf, breaksLimits, lengthsCheck, fileSizeCheck, rowsSizeCheck, malformed, unterminated, columnCheck, columnsCheck, standsEarlier, lineCheck, linesCheck, groupCheck, groupsCheck, tableCheck, rowsCheck, loadedCheck}
+use Rattle.table_checks.specs.Checks.{first, firstOf, breaksLimits, lengthsCheck, fileSizeCheck, rowsSizeCheck, malformed, unterminated, columnCheck, columnsCheck, standsEarlier, hasSecondGroup, lineCheck, linesCheck, groupCheck, groupsCheck, tableCheck, rowsCheck, loadedCheck}
 use Rattle.table_checks.specs.laws.Accepted.{loaded-both, accepted-size}
 use Rattle.table_checks.specs.laws.Sizes.{file-size, rows-size}
 use Rattle.frame_table.specs.Text.{fieldsOf}
@@ -142,7 +142,8 @@ line-placed t i l =
     (λ j low high. cond-cases CheckPlaced (eqb (field t i j) unterminated) (λ u. omega arith)
     (λ u. cond-cases CheckPlaced (eqb (field t i j) malformed) (λ m. omega arith)
     (λ m. cond-cases CheckPlaced (within j (field t i (j - 1)) (field t i j)) (λ w. tt) (λ w. omega arith)))))
-    (λ e. cond-cases CheckPlaced (standsEarlier t i) (λ s. omega arith) (λ s. tt))
+    (λ e. cond-cases CheckPlaced (standsEarlier t i) (λ s. omega arith)
+    (λ s. cond-cases CheckPlaced (hasSecondGroup t i) (λ g. omega arith) (λ g. tt)))
 
 group-placed : (fs : List Frame) (j : ℕ) → j ≤ 16 → CheckPlaced (groupCheck fs j)
 unfolding groupCheck

@@ -33,8 +33,8 @@ use Rattle.row_judgement.specs.laws.Judged.{by-judged, answered}
 
 -- ---- the causes
 
--- The numbers are 1 to 14.
-pub number-range : (cause : Cause) → (1 ≤ numberOf cause) × (numberOf cause ≤ 14)
+-- The numbers are 1 to 15.
+pub number-range : (cause : Cause) → (1 ≤ numberOf cause) × (numberOf cause ≤ 15)
 unfolding numberOf
 number-range (Table cause) = let r = table-number-range cause in omega arith
 number-range NoSuchRow = omega arith

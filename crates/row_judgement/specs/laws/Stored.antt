@@ -23,8 +23,8 @@ module _ (ls : List (List ℕ)) (loadable : Loadable ls) (rows : List ℕ) (acce
       let m = accepted-limits rows accepted i l in
       let c = length-bounds ls loadable (field rows i kindColumn) (field rows i payloadColumn) (m .payload-max) in
       record {
-        group-low = m .node-min;
-        group-high = m .node-max;
+        group-low = m .group-min;
+        group-high = m .group-max;
         length-low = omega (arith, c .0);
         length-high = omega (arith, c .1);
         period-low = m .period-min;

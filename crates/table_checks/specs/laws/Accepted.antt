@@ -7,7 +7,7 @@ use mathlib.Core.List.{List, [], _∷_, map}
 use native.Mathlib.Nat.{zero-add}
 use native.Mathlib.Omega.{arith}
 use native.Mathlib.Decide.{ℕ-discrete, decLt}
-use borrow.Author.Tests.{eq-eqb, ltb-false}
+use borrow.Author.Tests.{eq-eqb, eqb-true, ltb-false}
 use lib.Dec.{T, ltb, eqb}
 use lib.ListN.{length, length-map}
 use Rattle.arith.specs.Lists.{sum, keep, range}
@@ -18,12 +18,11 @@ use Rattle.bus_model.specs.declared.Frame.{Frame}
 use Rattle.bus_model.specs.Frame.{noFrame, row}
 use Rattle.bus_model.specs.Pattern.{ofGroup, hyperperiod, patternReleases}
 use Rattle.bus_model.specs.Valid.{ValidFrame, Valid}
-use Rattle.table_checks.specs.declared.Cause.the-variants.{Duplicate, Hyperperiod, Releases}
+use Rattle.table_checks.specs.declared.Cause.the-variants.{Duplicate, Hyperperiod, Releases, SecondGroup}
 use Rattle.table_checks.specs.declared.Checked.the-variants.{Passed}
-use Rattle.table_checks.specs.Columns.{field, columns, nodeColumn, identifierColumn, kindColumn, payloadColumn, periodColumn}
+use Rattle.table_checks.specs.Columns.{field, columns, nodeColumn, groupColumn, identifierColumn, kindColumn, payloadColumn, periodColumn}
 use Rattle.table_checks.specs.Frames.{frameAt, framesOf, unmeasured}
-use Rattle.table_checks.specs.Refusal.{failed}
-use Rattle.table_checks.specs.Checks.{lengthsCheck, rowsSizeCheck, columnsCheck, isSameFrame, standsEarlier, lineCheck, linesCheck, groupCheck, groupsCheck, tableCheck, rowsCheck, loadedCheck, Accepted, Loadable}
+use Rattle.table_checks.specs.Checks.{lengthsCheck, rowsSizeCheck, columnsCheck, isSameFrame, standsEarlier, isOtherGroup, hasSecondGroup, lineCheck, linesCheck, groupCheck, groupsCheck, tableCheck, rowsCheck, loadedCheck, Accepted, Loadable}
 use Rattle.table_checks.specs.Steps.{Periods}
 use Rattle.table_checks.specs.laws.First.{first-passed, first-each}
 use Rattle.table_checks.specs.laws.Limits.{Limits, not-passed, lines-each, lines-periods}
@@ -51,7 +50,7 @@ no-row ls t i l = getD-beyond (framesOf ls t) i noFrame (rw (length-frames ls t)
 module _ (t : List ℕ) (j : ℕ) {B : Type 0} (F : List Frame → B) (step : ℕ → B → B) (more : (g : Frame) (gs : List Frame) → F (g ∷ gs) ≡ step (g .period) (F gs)) where
   -- what a row's frame adds to a fold over the group's frames that looks at their periods
   abbrev added : ℕ → B → B
-  added i b = cond (eqb (field t i nodeColumn) j) (step (field t i periodColumn) b) b
+  added i b = cond (eqb (field t i groupColumn) j) (step (field t i periodColumn) b) b
 
   fold-more : (ls : List (List ℕ)) (i : ℕ) (is : List ℕ) → F (ofGroup (map (frameAt ls t) (i ∷ is)) j) ≡ added i (F (ofGroup (map (frameAt ls t) is) j))
   unfolding ofGroup frameAt
@@ -82,13 +81,24 @@ unfolding lineCheck standsEarlier isSameFrame
 line-differs t i m e l p q =
     let same : isSameFrame t i m ≡ true = rw (eq-eqb _ _ p, eq-eqb _ _ q) in
     by-test (standsEarlier t i)
-    (λ s. not-passed {cause = Duplicate} {place = i + 1} (simp s at (first-passed (columnsCheck t i) (cond (standsEarlier t i) (failed Duplicate (i + 1)) Passed) e .1)))
+    (λ s. not-passed {cause = Duplicate} {place = i + 1} (simp s at (first-passed (columnsCheck t i) _ e .1)))
     (λ s. subst T s (exists-mem (isSameFrame t i) (mem-range 0 i m (omega arith) (omega arith)) (rw same tt)))
 
 -- Where lengths and rows pass, both do.
 pub loaded-both : (ls : List (List ℕ)) (rows : List ℕ) → loadedCheck ls rows ≡ Passed → Loadable ls × Accepted rows
 unfolding loadedCheck
 loaded-both ls rows e = first-passed (lengthsCheck ls) (rowsCheck rows) e
+
+-- A line that passed has the group of each earlier line of its node.
+line-group : (t : List ℕ) (i m : ℕ) → lineCheck t i ≡ Passed → m < i → field t m nodeColumn ≡ field t i nodeColumn → field t m groupColumn ≡ field t i groupColumn
+unfolding lineCheck hasSecondGroup isOtherGroup
+line-group t i m e l p =
+    let late = first-passed (columnsCheck t i) _ e .1 in
+    by-test (eqb (field t m groupColumn) (field t i groupColumn)) (λ s. eqb-true _ _ s)
+    (λ s. let other : isOtherGroup t i m ≡ true = rw (eq-eqb _ _ p, s) in
+    by-test (standsEarlier t i) (λ a. not-passed {cause = Duplicate} {place = i + 1} (simp a at late))
+    (λ a. by-test (hasSecondGroup t i) (λ b. not-passed {cause = SecondGroup} {place = i + 1} (simp (a, b) at late))
+    (λ b. absurd (subst T b (exists-mem (isOtherGroup t i) (mem-range 0 i m (omega arith) (omega arith)) (rw other tt))))))
 
 module _ (rows : List ℕ) (accepted : Accepted rows) where
   table-passed : tableCheck rows ≡ Passed
@@ -110,6 +120,22 @@ module _ (rows : List ℕ) (accepted : Accepted rows) where
 
   pub accepted-periods : Periods rows
   accepted-periods = lines-periods rows lines-passed
+
+  line-passed : (i : ℕ) → i < length rows / columns → lineCheck rows i ≡ Passed
+  unfolding linesCheck
+  line-passed i l = rw zero-add at (first-each (lineCheck rows) (length rows / columns) 0 lines-passed i l)
+
+  -- A node stands in one group.
+  pub accepted-group : (i m : ℕ) → i < length rows / columns → m < length rows / columns → field rows m nodeColumn ≡ field rows i nodeColumn
+      → field rows m groupColumn ≡ field rows i groupColumn
+  accepted-group i m h l same =
+      elim (ℕ-discrete m i) [
+        | yes is ↦ ap (λ (x : ℕ). field rows x groupColumn) is
+        | no ne ↦ elim (decLt m i) [
+          | yes before ↦ line-group rows i m (line-passed i h) before same
+          | no after ↦ sym (line-group rows m i (line-passed m l) (omega arith) (sym same))
+        ]
+      ]
 
   -- ---- patterns
 
@@ -140,13 +166,13 @@ module _ (rows : List ℕ) (accepted : Accepted rows) where
     valid-frame i l =
         let m = accepted-limits i l in
         let c = length-bounds ls loadable (field rows i kindColumn) (field rows i payloadColumn) (m .payload-max) in
-        record { period = m .period-min; length = omega (arith, c .0); group-low = m .node-min; group-high = m .node-max; offset = m .offset-max }
+        record { period = m .period-min; length = omega (arith, c .0); group-low = m .group-min; group-high = m .group-max; offset = m .offset-max }
 
     no-duplicate : (i j : ℕ) → i < j → j < length rows / columns → frameAt ls rows i .priority ≡ frameAt ls rows j .priority → ⊥
-    unfolding frameAt linesCheck
+    unfolding frameAt
     no-duplicate i j l h e =
         let p = priority-same _ _ _ _ (accepted-limits i (omega arith) .identified) (accepted-limits j h .identified) e in
-        line-differs rows j i (rw zero-add at (first-each (lineCheck rows) (length rows / columns) 0 lines-passed j h)) l (p .1) (p .0)
+        line-differs rows j i (line-passed j h) l (p .1) (p .0)
 
     pub accepted-valid : Valid (framesOf ls rows)
     accepted-valid = record { frame = frame; distinct = distinct }

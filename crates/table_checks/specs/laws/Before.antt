@@ -11,7 +11,7 @@ use lib.ListN.{length, getD}
 use Rattle.arith.specs.Lists.{range}
 use Rattle.arith.specs.laws.Members.{getD-beyond, map-same}
 use Rattle.bus_model.specs.declared.Frame.{Frame}
-use Rattle.table_checks.specs.Columns.{field, columns, nodeColumn, identifierColumn, kindColumn, payloadColumn, periodColumn, offsetColumn}
+use Rattle.table_checks.specs.Columns.{field, columns, groupColumn, identifierColumn, kindColumn, payloadColumn, periodColumn, offsetColumn}
 use Rattle.table_checks.specs.Frames.{priorityOf, standardLengths, lengthAt, kindPlace, largestLength, frameAt, framesOf}
 use Rattle.table_checks.specs.laws.Lengths.{length-is, too-long}
 
@@ -23,7 +23,7 @@ lengthBefore kind payload = getD (getD standardLengths (kindPlace kind) []) payl
 unfoldable pub frameBefore : List ℕ → ℕ → Frame
 frameBefore t i =
     record {
-      group = field t i nodeColumn;
+      group = field t i groupColumn;
       priority = priorityOf (field t i kindColumn) (field t i identifierColumn);
       length = lengthBefore (field t i kindColumn) (field t i payloadColumn);
       period = field t i periodColumn;

@@ -1,6 +1,7 @@
 -- The first check that fails, as a loop finds it: check n is next, and the checks end before e.
 use Prim.Native.Nat.{ℕ, zero, suc, _+_, _-_, _≤_, _<_}
-use mathlib.Core.Path.{_≡_, refl, sym, ap, _∙_}
+use mathlib.Core.Path.{_≡_, refl, sym, ap, ap₂, _∙_}
+use native.Mathlib.Nat.{add-zero}
 use native.Mathlib.Omega.{arith}
 use Rattle.table_checks.specs.declared.Refusal.{Refusal}
 use Rattle.table_checks.specs.declared.Checked.{Checked}
@@ -11,6 +12,21 @@ use Rattle.table_checks.specs.Checks.{first, firstOf}
 pub first-passed : (a b : Checked) → first a b ≡ Passed → (a ≡ Passed) × (b ≡ Passed)
 first-passed Passed b e = (refl, e)
 first-passed (Failed r) b e = let z : _≡_ {A = ℕ} 0 1 = cc in absurd (omega arith)
+
+-- To look twice changes nothing.
+pub first-twice : (a b : Checked) → first a (first a b) ≡ first a b
+first-twice Passed b = refl
+first-twice (Failed r) b = refl
+
+-- Checks that are the same, one by one, from a on and from b on.
+pub first-same : (check check′ : ℕ → Checked) (m a b : ℕ) → ((d : ℕ) → d < m → check (a + d) ≡ check′ (b + d)) → firstOf check m a ≡ firstOf check′ m b
+unfolding firstOf
+first-same check check′ zero a b same = refl
+first-same check check′ (suc m) a b same =
+    ap₂ first (simp add-zero at (same 0 (omega arith)))
+    (first-same check check′ m (a + 1) (b + 1)
+    (λ d l. let p : a + 1 + d ≡ a + suc d = omega arith in
+    let q : b + 1 + d ≡ b + suc d = omega arith in rw (p, q) (same (suc d) (omega arith))))
 
 module _ (check : ℕ → Checked) where
   -- A check more.

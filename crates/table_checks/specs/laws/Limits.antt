@@ -14,7 +14,7 @@ use Rattle.arith.specs.laws.Below.{below, each-below}
 use Rattle.table_checks.specs.declared.Cause.{Cause}
 use Rattle.table_checks.specs.declared.Cause.the-variants.{FileForm, Notation, Limit}
 use Rattle.table_checks.specs.declared.Checked.the-variants.{Passed}
-use Rattle.table_checks.specs.Columns.{field, between, isIdentifier, within, columns, nodeColumn, identifierColumn, kindColumn, payloadColumn, periodColumn, offsetColumn, claimColumn}
+use Rattle.table_checks.specs.Columns.{field, between, isIdentifier, within, columns, nodeColumn, groupColumn, identifierColumn, kindColumn, payloadColumn, periodColumn, offsetColumn, claimColumn}
 use Rattle.table_checks.specs.Refusal.{failed}
 use Rattle.table_checks.specs.Checks.{malformed, unterminated, columnCheck, columnsCheck, lineCheck, linesCheck}
 use Rattle.table_checks.specs.Steps.{Periods}
@@ -24,6 +24,8 @@ use Rattle.table_checks.specs.laws.First.{first-passed, first-each}
 pub record Limits (t : List ℕ) (i : ℕ) : Type 0 where
   pub node-min : 1 ≤ field t i nodeColumn
   pub node-max : field t i nodeColumn ≤ 16
+  pub group-min : 1 ≤ field t i groupColumn
+  pub group-max : field t i groupColumn ≤ 16
   pub identified : isIdentifier (field t i kindColumn) (field t i identifierColumn) ≡ true
   pub payload-max : field t i payloadColumn ≤ 8
   pub period-min : 1 ≤ field t i periodColumn
@@ -58,11 +60,14 @@ line-limits t i e =
     let each : (j : ℕ) → j < columns → within j (field t i (j - 1)) (field t i j) ≡ true
     = λ j l. column-within t i j (rw zero-add at (first-each (columnCheck t i) columns 0 (first-passed _ _ e .0) j l)) in
     let node = between-true 1 16 _ (each nodeColumn (omega arith)) in
+    let group = between-true 1 16 _ (each groupColumn (omega arith)) in
     let period = between-true 1 1000000 _ (each periodColumn (omega arith)) in
     let claim = between-true 1 1000000 _ (each claimColumn (omega arith)) in
     record {
       node-min = node .0;
       node-max = node .1;
+      group-min = group .0;
+      group-max = group .1;
       identified = each kindColumn (omega arith);
       payload-max = leb-true _ _ (each payloadColumn (omega arith));
       period-min = period .0;
@@ -88,7 +93,7 @@ identified-max kind identifier e = elim (identified-cases kind identifier e) [ i
 
 -- the greatest number that stands in each column
 abbrev greatests : List ℕ
-greatests = 16 ∷ 536_870_911 ∷ 29 ∷ 8 ∷ 1_000_000 ∷ 1_000_000 ∷ 1_000_000 ∷ []
+greatests = 16 ∷ 16 ∷ 536_870_911 ∷ 29 ∷ 8 ∷ 1_000_000 ∷ 1_000_000 ∷ 1_000_000 ∷ []
 
 unfoldable pub greatestIn : ℕ → ℕ
 greatestIn j = getD greatests j 0
@@ -99,7 +104,7 @@ unfolding greatestIn
 field-most t i m =
     let d = identified-max _ _ (m .identified) in
     each-below (λ j. field t i j ≤ greatestIn j) columns
-    (((((((tt, m .node-max), d .1), d .0), m .payload-max), m .period-max), omega (arith, m .offset-max, m .period-max)), m .claim-max)
+    ((((((((tt, m .node-max), m .group-max), d .1), d .0), m .payload-max), m .period-max), omega (arith, m .offset-max, m .period-max)), m .claim-max)
 
 -- A number within its limits has 32 bits.
 pub field-small : (t : List ℕ) (i : ℕ) → Limits t i → (j : ℕ) → j < columns → field t i j < 2 ^ 32

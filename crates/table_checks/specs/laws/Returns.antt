@@ -9,7 +9,7 @@ use lib.Dec.{eqb}
 use lib.ListN.{length, getD, take}
 use Rattle.arith.specs.laws.Tests.{cond-map}
 use Rattle.table_checks.specs.declared.Cause.{Cause}
-use Rattle.table_checks.specs.declared.Cause.the-variants.{FileForm, TooManyLines, Notation, Limit, Duplicate, Hyperperiod, Releases, OutputArea, RowsLength, LengthsFile, Length}
+use Rattle.table_checks.specs.declared.Cause.the-variants.{FileForm, TooManyLines, Notation, Limit, Duplicate, Hyperperiod, Releases, OutputArea, RowsLength, LengthsFile, Length, SecondGroup}
 use Rattle.table_checks.specs.declared.Checked.{Checked}
 use Rattle.table_checks.specs.declared.Checked.the-variants.{Passed, Failed}
 use Rattle.table_checks.specs.Frames.{unmeasured}
@@ -21,15 +21,15 @@ use Rattle.table_checks.specs.Returns.{firstReturned, lengthsReturns, fi
 
 -- all of them, by their numbers
 abbrev pub causes : List Cause
-causes = FileForm ∷ TooManyLines ∷ Notation ∷ Limit ∷ Duplicate ∷ Hyperperiod ∷ Releases ∷ OutputArea ∷ RowsLength ∷ LengthsFile ∷ Length ∷ []
+causes = FileForm ∷ TooManyLines ∷ Notation ∷ Limit ∷ Duplicate ∷ Hyperperiod ∷ Releases ∷ OutputArea ∷ RowsLength ∷ LengthsFile ∷ Length ∷ SecondGroup ∷ []
 
 -- Each is returned with its number and its place.
-pub causes-returned : (place : ℕ) → map (λ cause. checkReturns (failed cause place)) causes ≡ map (λ number. returned number place) (1 ∷ 2 ∷ 3 ∷ 4 ∷ 5 ∷ 6 ∷ 7 ∷ 8 ∷ 10 ∷ 13 ∷ 14 ∷ [])
+pub causes-returned : (place : ℕ) → map (λ cause. checkReturns (failed cause place)) causes ≡ map (λ number. returned number place) (1 ∷ 2 ∷ 3 ∷ 4 ∷ 5 ∷ 6 ∷ 7 ∷ 8 ∷ 10 ∷ 13 ∷ 14 ∷ 15 ∷ [])
 unfolding numberOf checkReturns
 causes-returned place = refl
 
--- The numbers are 1 to 14.
-pub number-range : (cause : Cause) → (1 ≤ numberOf cause) × (numberOf cause ≤ 14)
+-- The numbers are 1 to 15.
+pub number-range : (cause : Cause) → (1 ≤ numberOf cause) × (numberOf cause ≤ 15)
 unfolding numberOf
 number-range FileForm = omega arith
 number-range TooManyLines = omega arith
@@ -42,13 +42,14 @@ number-range OutputArea = omega arith
 number-range RowsLength = omega arith
 number-range LengthsFile = omega arith
 number-range Length = omega arith
+number-range SecondGroup = omega arith
 
 pub number-some : (cause : Cause) → numberOf cause ≡ 0 → ⊥
 number-some cause e = let r = number-range cause in omega arith
 
 -- the cause with a number, the last one where none has it
 unfoldable pub causeOf : ℕ → Cause
-causeOf number = getD (take 8 causes ++ (Length ∷ RowsLength ∷ Length ∷ Length ∷ LengthsFile ∷ [])) (number - 1) Length
+causeOf number = getD (take 8 causes ++ (SecondGroup ∷ RowsLength ∷ SecondGroup ∷ SecondGroup ∷ LengthsFile ∷ Length ∷ [])) (number - 1) SecondGroup
 
 pub cause-back : (cause : Cause) → causeOf (numberOf cause) ≡ cause
 unfolding causeOf numberOf
@@ -63,6 +64,7 @@ cause-back OutputArea = refl
 cause-back RowsLength = refl
 cause-back LengthsFile = refl
 cause-back Length = refl
+cause-back SecondGroup = refl
 
 -- No two causes have one number.
 pub number-settles : (a b : Cause) → numberOf a ≡ numberOf b → a ≡ b

@@ -13,7 +13,7 @@ use Rattle.frame_table.proofs.text.start.Tie as tie
 
 -- the constant table
 abbrev starts : List ℕ
-starts = 0 ∷ 3 ∷ 13 ∷ 16 ∷ 18 ∷ 26 ∷ 34 ∷ 42 ∷ []
+starts = 0 ∷ 3 ∷ 6 ∷ 16 ∷ 19 ∷ 21 ∷ 29 ∷ 37 ∷ 45 ∷ []
 
 start-at : (j : ℕ) → j ≤ columns → getD starts j 0 ≡ startOf j
 unfolding startOf

@@ -13,38 +13,44 @@ use Rattle.table_checks.proofs.checks.is_within.Tie as tie
 is-between-requires : tie.Need-is-between-requires
 is-between-requires c κs = search needs
 
-is-identifier-requires : tie.Need-is-identifier-requires
-is-identifier-requires c κs = search needs
-
 is-between-requires-2 : tie.Need-is-between-requires-2
 is-between-requires-2 c κs = search needs
 
+is-identifier-requires : tie.Need-is-identifier-requires
+is-identifier-requires c κs = search needs
+
 is-between-requires-3 : tie.Need-is-between-requires-3
 is-between-requires-3 c κs = search needs
+
+is-between-requires-4 : tie.Need-is-between-requires-4
+is-between-requires-4 c κs = search needs
 
 returns : tie.Need-returns
 returns c = rw (c .before .match .keys1) (c .is-between .ensures)
 
 returns-2 : tie.Need-returns-2
-returns-2 c = search needs
+returns-2 c = rw (c .before .match .keys2) (c .is-between2 .ensures)
 
 returns-3 : tie.Need-returns-3
-returns-3 c = rw (c .before .match .keys3) (c .is-identifier .ensures)
+returns-3 c = search needs
 
 returns-4 : tie.Need-returns-4
-returns-4 c = rw (c .match .keys4)
+returns-4 c = rw (c .before .match .keys4) (c .is-identifier .ensures)
 
 returns-5 : tie.Need-returns-5
-returns-5 c = rw (c .before .match .keys5) (c .is-between2 .ensures)
+returns-5 c = rw (c .match .keys5)
 
 returns-6 : tie.Need-returns-6
-returns-6 c = rw (c .match .keys6)
+returns-6 c = rw (c .before .match .keys6) (c .is-between3 .ensures)
 
 returns-7 : tie.Need-returns-7
-returns-7 c = rw (c .before .match .keys7) (c .is-between3 .ensures)
+returns-7 c = rw (c .match .keys7)
 
 returns-8 : tie.Need-returns-8
-returns-8 c =
+returns-8 c = rw (c .before .match .keys8) (c .is-between4 .ensures)
+
+returns-9 : tie.Need-returns-9
+returns-9 c =
     let j = c .before .args .j in
     let none : ¬ (j < columns) = λ l. each-below (λ k. j ≡ k → ⊥) columns (c .match .rest) j l refl in
     sym (List·getD-eq-default (limits (c .before .args .before) (c .before .args .v)) false {n = j} (omega arith))
@@ -54,9 +60,10 @@ is-within-spec =
     tie.close
     (tie.spec
     is-between-requires
-    is-identifier-requires
     is-between-requires-2
+    is-identifier-requires
     is-between-requires-3
+    is-between-requires-4
     returns
     returns-2
     returns-3
@@ -64,4 +71,5 @@ is-within-spec =
     returns-5
     returns-6
     returns-7
-    returns-8)
+    returns-8
+    returns-9)

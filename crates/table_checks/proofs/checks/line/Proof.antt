@@ -36,11 +36,39 @@ returns-2 c =
     let e = c .before .before .before in
     simp (sym (e .before .before .columns .ensures) ∙ e .enum-told .given .1, sym (c .before .before .stands-earlier .ensures) ∙ c .before .if1 .taken) (c .fail .ensures)
 
+has-second-group-requires : tie.Need-has-second-group-requires
+has-second-group-requires c κs = search needs
+
+add-fail-2 : tie.Need-add-fail-2
+add-fail-2 c = search needs
+
+cast-fail-2 : tie.Need-cast-fail-2
+cast-fail-2 c = search needs
+
+fail-requires-2 : tie.Need-fail-requires-2
+fail-requires-2 c κs = search needs
+
 returns-3 : tie.Need-returns-3
 unfolding lineCheck
 returns-3 c =
-    let e = c .before .before in
-    simp (sym (e .before .before .columns .ensures) ∙ e .enum-told .given .1, sym (c .before .stands-earlier .ensures) ∙ c .if1 .left)
+    let s = c .before .before .before in
+    let e = s .before .before in
+    simp (
+      sym (e .before .before .columns .ensures) ∙ e .enum-told .given .1,
+      sym (s .before .stands-earlier .ensures) ∙ s .if1 .left,
+      sym (c .before .before .has-second-group .ensures) ∙ c .before .if2 .taken,
+    ) (c .fail2 .ensures)
+
+returns-4 : tie.Need-returns-4
+unfolding lineCheck
+returns-4 c =
+    let s = c .before .before in
+    let e = s .before .before in
+    simp (
+      sym (e .before .before .columns .ensures) ∙ e .enum-told .given .1,
+      sym (s .before .stands-earlier .ensures) ∙ s .if1 .left,
+      sym (c .before .has-second-group .ensures) ∙ c .if2 .left,
+    )
 
 pub line-spec : {M : Type 1} → statement M
 line-spec =
@@ -55,4 +83,9 @@ line-spec =
     cast-fail
     fail-requires
     returns-2
-    returns-3)
+    has-second-group-requires
+    add-fail-2
+    cast-fail-2
+    fail-requires-2
+    returns-3
+    returns-4)

@@ -1,6 +1,5 @@
 -- `table_checks::frames::frame` meets its contract: it reads the numbers that the definition reads.
 use mathlib.Core.Path.{sym}
-use native.Mathlib.Nat.{add-zero}
 use Rattle.table_checks.specs.Frames.{frameAt}
 use Rattle.table_checks.specs.laws.Accepted.{no-row, frame-row}
 use borrow.Author.Needs.{needs}
@@ -78,7 +77,7 @@ unfolding frameAt
 returns-2 c =
     let start = c .before .before .before .before .before .before .before .before .before .before in
     rw (frame-row (start .args .lengths) (start .args .rows .now) (start .args .i) (search needs))
-    (simp (add-zero, c .before .before .before .priority .ensures, c .before .before .largest-length .ensures))
+    (simp (c .before .before .before .priority .ensures, c .before .before .largest-length .ensures))
 
 pub frame-spec : {M : Type 1} → statement M
 frame-spec =

@@ -1,0 +1,52 @@
+-- `table_checks::checks::has_second_group` meets its contract: the invariant says that the lines left decide.
+use Prim.Native.Nat.{_-_, _≤_}
+use mathlib.Core.Path.{_≡_, _∙_}
+use native.Mathlib.Nat.{sub-zero}
+use borrow.Author.Needs.{needs}
+use Rattle.arith.specs.Lists.{exists, range}
+use Rattle.arith.specs.laws.Members.{exists-stop, exists-go, exists-end}
+use Rattle.table_checks.specs.Checks.{isOtherGroup, hasSecondGroup}
+use Rattle.table_checks.proofs.checks.has_second_group.Statement.{statement}
+use Rattle.table_checks.proofs.checks.has_second_group.Tie as tie
+
+abbrev Inv-loop : tie.InvT-loop
+Inv-loop t i earlier₀ earlier = (exists (isOtherGroup t i) (range earlier (i - earlier)) ≡ hasSecondGroup t i) × (earlier ≤ i)
+
+abbrev μ-loop : tie.MeasureT-loop
+μ-loop t i earlier₀ earlier = i - earlier
+
+loop-holds : tie.Need-loop-holds Inv-loop μ-loop
+unfolding hasSecondGroup
+loop-holds c = (rw sub-zero, search needs)
+
+is-other-group-requires : tie.Need-is-other-group-requires Inv-loop μ-loop
+is-other-group-requires c κs = search needs
+
+returns : tie.Need-returns Inv-loop μ-loop
+returns c = exists-stop _ _ _ _ (c .before .before .loop-test .taken) (c .before .is-other-group .ensures) (c .if1 .taken) ∙ c .before .before .before .loop .inv .0
+
+add-earlier : tie.Need-add-earlier Inv-loop μ-loop
+add-earlier c = search needs
+
+loop-less : tie.Need-loop-less Inv-loop μ-loop
+loop-less c = search needs
+
+loop-again : tie.Need-loop-again Inv-loop μ-loop
+loop-again c = (exists-go _ _ _ _ (c .before .before .loop-test .taken) (c .before .is-other-group .ensures) (c .if1 .left) ∙ c .before .before .before .loop .inv .0, search needs)
+
+returns-2 : tie.Need-returns-2 Inv-loop μ-loop
+returns-2 c = exists-end _ _ _ (c .loop-test .left) ∙ c .before .loop .inv .0
+
+pub has-second-group-spec : {M : Type 1} → statement M
+has-second-group-spec =
+    tie.close
+    (tie.spec
+    Inv-loop
+    μ-loop
+    loop-holds
+    is-other-group-requires
+    returns
+    add-earlier
+    loop-less
+    loop-again
+    returns-2)
