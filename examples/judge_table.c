@@ -5,7 +5,7 @@
 #include <stdio.h>
 #include <stdlib.h>
 
-enum { LINE = 43 };
+enum { LINE = 46 };
 
 /* Reads the whole of a file; null where it cannot be read. */
 static uint8_t *read_file(const char *path, size_t *len)
@@ -40,7 +40,7 @@ static void print_refusal(int number, int place)
     switch (number) {
     case CERTIFIER_FILE_FORM:
         if (place == 0)
-            printf("refused: the file's length is 0 or no multiple of 43\n");
+            printf("refused: the file's length is 0 or no multiple of 46\n");
         else
             printf("refused at line %d: it does not end in a line feed\n", place);
         break;
@@ -56,11 +56,14 @@ static void print_refusal(int number, int place)
     case CERTIFIER_DUPLICATE:
         printf("refused at line %d: its kind and identifier stand on an earlier line\n", place);
         break;
+    case CERTIFIER_SECOND_GROUP:
+        printf("refused at line %d: its node stands in another group on an earlier line\n", place);
+        break;
     case CERTIFIER_HYPERPERIOD:
-        printf("refused at node %d: its hyperperiod is above 1000000 ticks\n", place);
+        printf("refused at group %d: its hyperperiod is above 1000000 ticks\n", place);
         break;
     case CERTIFIER_RELEASES:
-        printf("refused at node %d: more than 256 releases in its hyperperiod\n", place);
+        printf("refused at group %d: more than 256 releases in its hyperperiod\n", place);
         break;
     case CERTIFIER_LENGTHS_FILE:
         printf("refused: the lengths are not two lines of nine numbers\n");

@@ -3,7 +3,8 @@
  *
  * Lengths are a file of two lines, kind 11 and then kind 29, each of nine numbers in columns 5 wide and a line feed: the
  * largest length in ticks of a frame with 0 to 8 payload bytes. They are CERTIFIER_LENGTHS bytes.
- * A table is a file of 1 to 64 lines, each 42 characters and a line feed. Rows count from 0, lines from 1.
+ * A table is a file of 1 to 64 lines, each 45 characters and a line feed. Rows count from 0, lines from 1. Its second
+ * column is the node's group: the nodes of a group start together, each group whenever it likes. A node is in one group.
  * Each call takes the whole bytes of both files, checks the lengths and then the table, and answers one number.
  *
  * Memory: a call reads `lengths_len` bytes from `lengths` and `table_len` bytes from `table` and keeps nothing; a pointer
@@ -51,8 +52,8 @@ int64_t certifier_list(const uint8_t *lengths, size_t lengths_len, const uint8_t
 /*
  * Writes the load sheet of the table to `out`: a line for each node that has frames, nodes rising, with node (3),
  * quotient (10), remainder (8) and divisor (8), and a last line with the number of nodes (3) and the greatest
- * quotient (10); each line ends in a line feed. The dividend is work * 10000, the divisor the node's hyperperiod, and
- * work is the sum over the node's frames of largest length * (hyperperiod / period).
+ * quotient (10); each line ends in a line feed. The dividend is work * 10000, the divisor the hyperperiod of the
+ * node's group, and work is the sum over the node's frames of largest length * (hyperperiod / period).
  * Answers how many bytes were written, or, where the call is turned back, minus (number * 10000 + place).
  */
 int64_t certifier_load_sheet(const uint8_t *lengths, size_t lengths_len, const uint8_t *table, size_t table_len, uint8_t *out,
@@ -79,19 +80,20 @@ enum certifier_verdict {
 
 /* Why a call is turned back, and what the place is. */
 enum certifier_refusal {
-    CERTIFIER_FILE_FORM = 1,     /* length 0 or no multiple of 43: 0; no line feed: the line */
+    CERTIFIER_FILE_FORM = 1,     /* length 0 or no multiple of 46: 0; no line feed: the line */
     CERTIFIER_TOO_MANY_LINES = 2,/* 0 */
     CERTIFIER_NOTATION = 3,      /* the line */
     CERTIFIER_LIMITS = 4,        /* the line */
     CERTIFIER_DUPLICATE = 5,     /* the later line */
-    CERTIFIER_HYPERPERIOD = 6,   /* the node */
-    CERTIFIER_RELEASES = 7,      /* the node */
+    CERTIFIER_HYPERPERIOD = 6,   /* the group */
+    CERTIFIER_RELEASES = 7,      /* the group */
     CERTIFIER_OUTPUT_AREA = 8,   /* 0; of calls with an output area only */
     CERTIFIER_NO_SUCH_ROW = 9,   /* 0 */
     CERTIFIER_BOUND_NO_WINDOW = 11, /* the row; of certifier_precise_bound only */
     CERTIFIER_BOUND_TOO_MANY_SCENARIOS = 12, /* the row; of certifier_precise_bound only */
     CERTIFIER_LENGTHS_FILE = 13, /* 0: the lengths are not 92 bytes in their notation */
     CERTIFIER_LENGTH_LIMITS = 14,/* the lengths' line: a number outside 47..400, or smaller than the one before it */
+    CERTIFIER_SECOND_GROUP = 15, /* the line: its node stands in another group on an earlier line */
     CERTIFIER_NOT_A_FRAME = 16   /* 0; of certifier_frame_length only: a kind, identifier or payload outside its limits */
 };
 

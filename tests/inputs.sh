@@ -25,7 +25,7 @@ each_input() { # FILE FUNCTION
 
     # By the true length, however long: 64 and 65 lines, a byte more, and sizes around the programs' buffers; behind good lengths and
     # with none.
-    for size in 0 1 2752 2795 2796 4003 4004 4005 4095 4096 4097 4128 4129 65536 69660 69661 70000 4300000 4300001; do
+    for size in 0 1 2944 2990 2991 4003 4004 4005 4095 4096 4097 4140 4141 65536 69690 69691 70000 4600000 4600001; do
         head -c "$size" /dev/zero >"$1"
         "$2" "$size bytes"
         { cat "$standard" && head -c "$size" /dev/zero; } >"$1"

@@ -7,7 +7,7 @@
 
 #include "certifier.h"
 
-enum { GUARD = 64, INPUT = 3000, AREA = 2100, NODES = 16, ROWS = 64, LINE = 43 };
+enum { GUARD = 64, INPUT = 3100, AREA = 2100, NODES = 16, ROWS = 64, LINE = 46 };
 
 typedef int64_t operation(const uint8_t *, size_t, const uint8_t *, size_t, uint8_t *, size_t);
 
@@ -29,10 +29,10 @@ static const char small[] =
     "   80   90  100  110  120  130  140  150  160\n";
 
 static const char table[] =
-    " 16         1 11 0       3       0     100\n"
-    "  5         2 29 0       7       0     100\n"
-    " 16         3 11 1       7       0     100\n"
-    "  1         4 29 8 1000000       0     100\n";
+    " 16 16         1 11 0       3       0     100\n"
+    "  5  5         2 29 0       7       0     100\n"
+    " 16 16         3 11 1       7       0     100\n"
+    "  1  1         4 29 8 1000000       0     100\n";
 
 /*
  * Node 1: 160 in 1000000 ticks, 1600000 = 1 * 1000000 + 600000. Node 5: 80 in 7 ticks, 800000 = 114285 * 7 + 5.
@@ -54,10 +54,37 @@ static const char longer_sheet[] =
     " 16    476190      10      21\n"
     "  3    476190\n";
 
+/* Refused: node 1 stands in a second group. */
+static const char second[] =
+    "  1  1         1 11 0    1000       0     100\n"
+    "  1  2         2 11 0    1001       0     100\n";
+
 /* One frame, alone on the bus: its bound is its length. */
-static const char one[] = "  1         7 29 8  100000       0     300\n";
+static const char one[] = "  1  1         7 29 8  100000       0     300\n";
 static const char one_listed[] = "         7  1     160      140\n";
 static const char one_listed_longer[] = "         7  3     400     -100\n";
+
+/*
+ * Nodes 9 and 2 in group 5, whose hyperperiod is 12. Node 2: 2 * 65 in 12 ticks, 1300000 = 108333 * 12 + 4. Node 9:
+ * 3 * 55, 1650000 = 137500 * 12.
+ */
+static const char grouped[] =
+    "  9  5         1 11 0       4       0     100\n"
+    "  2  5         2 11 1       6       0     100\n";
+static const char grouped_sheet[] =
+    "  2    108333       4      12\n"
+    "  9    137500       0      12\n"
+    "  2    137500\n";
+
+/*
+ * Two frames of one group, 500 ticks apart: the first waits for 134 ticks of one that ranks below, the second for none.
+ */
+static const char turns[] =
+    "  9  5         1 11 8    1000       0     300\n"
+    "  2  5         2 11 8    1000     500     300\n";
+static const char turns_listed[] =
+    "         1  1     269       31\n"
+    "         2  1     135      165\n";
 
 /* A lent area and the guards around it. */
 struct lent {
@@ -139,7 +166,7 @@ static void call_longest_sheet(void)
     char text[NODES * LINE + 1], result[CERTIFIER_LOAD_SHEET_MOST + 1];
     size_t length = 0, need = 0;
     for (int node = 1; node <= NODES; node++) {
-        length += (size_t)sprintf(text + length, "%3d%10d 11 0    1000       0     100\n", node, node);
+        length += (size_t)sprintf(text + length, "%3d%3d%10d 11 0    1000       0     100\n", node, 17 - node, node);
         need += (size_t)sprintf(result + need, "%3d       550       0    1000\n", node);
     }
     need += (size_t)sprintf(result + need, " 16       550\n");
@@ -157,7 +184,7 @@ static void call_longest_listing(void)
     size_t length = 0, need = 0;
     for (int row = 0; row < ROWS; row++) {
         int bound = (row < ROWS - 1 ? 54 : 0) + 55 * (row + 1);
-        length += (size_t)sprintf(text + length, "  1%10d 11 0  100000       0%8d\n", row, 10000);
+        length += (size_t)sprintf(text + length, "  1  1%10d 11 0  100000       0%8d\n", row, 10000);
         need += (size_t)sprintf(result + need, "%10d  1%8d%9d\n", row, bound, 10000 - bound);
     }
     expect(need == CERTIFIER_LISTING_MOST, "length of the longest listing", need);
@@ -178,20 +205,25 @@ static void call_refused(operation *run)
     call(run, both(small, ""), AREA, -140001, "");
     call(run, both(standard, ""), AREA, -10000, "");
     cut = both(standard, table);
-    cut.table_len = 42;
+    cut.table_len = 45;
     call(run, cut, AREA, -10000, "");
-    call(run, both(standard, " 17         1 11 0       3       0     100\n"), AREA, -40001, "");
-    call(run, both(standard, "  1         1 11 0       3       3     100\n"), 0, -40001, "");
+    call(run, both(standard, " 17  1         1 11 0       3       0     100\n"), AREA, -40001, "");
+    call(run, both(standard, "  1 17         1 11 0       3       0     100\n"), AREA, -40001, "");
+    call(run, both(standard, "  1  0         1 11 0       3       3     100\n"), 0, -40001, "");
+    call(run, both(standard, second), AREA, -150002, "");
+    call(run, both(standard, second), 0, -150002, "");
 }
 
 int main(void)
 {
     call_all(certifier_load_sheet, both(standard, table), sheet);
     call_all(certifier_load_sheet, both(longer, table), longer_sheet);
+    call_all(certifier_load_sheet, both(standard, grouped), grouped_sheet);
     call_longest_sheet();
     call_refused(certifier_load_sheet);
     call_all(certifier_list, both(standard, one), one_listed);
     call_all(certifier_list, both(longer, one), one_listed_longer);
+    call_all(certifier_list, both(standard, turns), turns_listed);
     call_longest_listing();
     call_refused(certifier_list);
     return failed;

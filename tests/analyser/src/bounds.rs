@@ -1,7 +1,7 @@
 //! The rough and the exact bound of one frame.
 
 use crate::lengths::{length, LengthTable};
-use crate::table::{self, Row, IDENTIFIER, KIND, NODE, NODES, OFFSET, PERIOD};
+use crate::table::{self, Row, CLAIM, GROUP, GROUPS, IDENTIFIER, KIND, OFFSET, PERIOD};
 
 /// What a data frame sends while the bus settles which of several goes on, as a number whose first
 /// bit is the first sent: the identifier's first 11 bits; RTR, 0, or in a long frame SRR, 1; IDE, 0
@@ -15,7 +15,7 @@ pub fn rank(row: &Row) -> u32 {
     first << 20 | rtr_or_srr << 19 | ide << 18 | rest
 }
 
-/// A frame seen from an alignment of its node.
+/// A frame seen from an alignment of its group.
 struct Release {
     distance: u64,
     period: u64,
@@ -39,7 +39,7 @@ impl Release {
     }
 }
 
-/// An alignment of a node with its better frames.
+/// An alignment of a group with its better frames.
 struct Alignment {
     instant: u64,
     better: Vec<Release>,
@@ -72,7 +72,7 @@ impl Worst {
     }
 }
 
-/// Work of other nodes queued in 0..end-1.
+/// Work of other groups queued in 0..end-1.
 type Others<'a> = &'a dyn Fn(u64) -> u64;
 
 /// The bus as the frame of one row meets it.
@@ -81,25 +81,39 @@ pub struct View<'a> {
     frame: &'a Row,
     blocking: u64,
     own: usize,
-    nodes: Vec<Vec<Alignment>>,
+    groups: Vec<Vec<Alignment>>,
 }
 
 impl<'a> View<'a> {
     /// The view of a row of an accepted table.
     pub fn new(lengths: &'a LengthTable, rows: &'a [Row], row: usize) -> View<'a> {
+        View::by(GROUP, lengths, rows, row)
+    }
+
+    /// The view where that starts together which has the same number in a column.
+    pub fn by(by: usize, lengths: &'a LengthTable, rows: &'a [Row], row: usize) -> View<'a> {
         let frame = &rows[row];
+        let of_group = |group| {
+            let hyperperiod = table::hyperperiod_by(rows, by, group);
+            let frames = rows.iter().filter(|row| row[by] == group);
+            alignments(lengths, frames, frame, hyperperiod)
+        };
         View {
             lengths,
             frame,
             blocking: blocking(lengths, rows, frame),
-            own: frame[NODE] as usize - 1,
-            nodes: (1..=NODES).map(|n| alignments(lengths, rows, frame, n)).collect(),
+            own: frame[by] as usize - 1,
+            groups: (1..=GROUPS).map(of_group).collect(),
         }
     }
 
-    /// The number of alignments of each node, empty ones counting 1.
+    pub fn claim(&self) -> u64 {
+        self.frame[CLAIM].into()
+    }
+
+    /// The number of alignments of each group, empty ones counting 1.
     pub fn alignment_counts(&self) -> impl Iterator<Item = u64> + '_ {
-        self.nodes.iter().map(|node| node.len() as u64)
+        self.groups.iter().map(|group| group.len() as u64)
     }
 
     /// The scenario count; a product beyond 64 bits stays at their greatest number.
@@ -107,11 +121,11 @@ impl<'a> View<'a> {
         self.alignment_counts().fold(1, u64::saturating_mul)
     }
 
-    /// The rough bound, or none if an alignment of the own node has no window.
+    /// The rough bound, or none if an alignment of the own group has no window.
     pub fn rough(&self, limit: u64) -> Option<Worst> {
         let greatest = |end| self.greatest_others(end);
         let mut worst = Worst::NONE;
-        for own in &self.nodes[self.own] {
+        for own in &self.groups[self.own] {
             worst = worst.or(self.worst(own, &greatest, limit)?);
         }
         Some(worst)
@@ -121,14 +135,14 @@ impl<'a> View<'a> {
     pub fn rough_window(&self, limit: u64) -> Option<u64> {
         let greatest = |end| self.greatest_others(end);
         let mut longest = 0;
-        for own in &self.nodes[self.own] {
+        for own in &self.groups[self.own] {
             let frame = Release::new(self.lengths, self.frame, own.instant);
             longest = longest.max(self.window(own, &frame, &greatest, limit)?);
         }
         Some(longest)
     }
 
-    /// The exact bound by all scenarios, nodes rising, the last node fastest.
+    /// The exact bound by all scenarios, groups rising, the last group fastest.
     pub fn exact(&self, limit: u64) -> Option<Worst> {
         self.worst_scenario(limit).map(|(worst, _)| worst)
     }
@@ -138,7 +152,7 @@ impl<'a> View<'a> {
         let mut found = (Worst::NONE, 0);
         for number in 0..self.scenario_count() {
             let scenario = self.scenario(number);
-            let others = |end| self.other_nodes().map(|n| scenario[n].work(end)).sum();
+            let others = |end| self.other_groups().map(|g| scenario[g].work(end)).sum();
             let worst = found.0.or(self.worst(scenario[self.own], &others, limit)?);
             if worst != found.0 {
                 found = (worst, number);
@@ -147,25 +161,25 @@ impl<'a> View<'a> {
         Some(found)
     }
 
-    /// The instants of a scenario, node 1 first.
+    /// The instants of a scenario, group 1 first.
     pub fn instants(&self, number: u64) -> Vec<u64> {
         self.scenario(number).iter().map(|alignment| alignment.instant).collect()
     }
 
     /// The exact bound, passing over scenarios that cannot exceed one already seen.
     pub fn exact_pruned(&self, limit: u64) -> Option<u64> {
-        let nodes: Vec<usize> = self.other_nodes().collect();
-        let branching = |n: &usize| self.nodes[*n].len() > 1;
-        let (rest, fixed): (Vec<usize>, Vec<usize>) = nodes.into_iter().partition(branching);
+        let groups: Vec<usize> = self.other_groups().collect();
+        let branching = |g: &usize| self.groups[*g].len() > 1;
+        let (rest, fixed): (Vec<usize>, Vec<usize>) = groups.into_iter().partition(branching);
         let mut best = 0;
-        for own in &self.nodes[self.own] {
-            let mut picks = fixed.iter().map(|n| &self.nodes[*n][0]).collect();
+        for own in &self.groups[self.own] {
+            let mut picks = fixed.iter().map(|g| &self.groups[*g][0]).collect();
             self.refine(own, &mut picks, &rest, limit, &mut best)?;
         }
         Some(best)
     }
 
-    /// Fixes the first of the remaining nodes, unless all at their greatest is too little.
+    /// Fixes the first of the remaining groups, unless all at their greatest is too little.
     fn refine<'b>(
         &'b self,
         own: &Alignment,
@@ -176,7 +190,7 @@ impl<'a> View<'a> {
     ) -> Option<()> {
         let at_most = |end| {
             let fixed: u64 = picks.iter().map(|pick| pick.work(end)).sum();
-            let open: u64 = rest.iter().map(|n| self.greatest(*n, end)).sum();
+            let open: u64 = rest.iter().map(|g| self.greatest(*g, end)).sum();
             fixed + open
         };
         let worst = self.worst(own, &at_most, limit)?;
@@ -187,7 +201,7 @@ impl<'a> View<'a> {
             *best = worst.response;
             return Some(());
         };
-        for alignment in &self.nodes[*next] {
+        for alignment in &self.groups[*next] {
             picks.push(alignment);
             self.refine(own, picks, rest, limit, best)?;
             picks.pop();
@@ -195,34 +209,34 @@ impl<'a> View<'a> {
         Some(())
     }
 
-    fn other_nodes(&self) -> impl Iterator<Item = usize> + '_ {
-        (0..self.nodes.len()).filter(|node| *node != self.own)
+    fn other_groups(&self) -> impl Iterator<Item = usize> + '_ {
+        (0..self.groups.len()).filter(|group| *group != self.own)
     }
 
-    /// The work of the other nodes in 0..end-1, each at its greatest.
+    /// The work of the other groups in 0..end-1, each at its greatest.
     fn greatest_others(&self, end: u64) -> u64 {
-        self.other_nodes().map(|node| self.greatest(node, end)).sum()
+        self.other_groups().map(|group| self.greatest(group, end)).sum()
     }
 
-    /// The greatest sum that any alignment of a node gives in 0..end-1.
-    fn greatest(&self, node: usize, end: u64) -> u64 {
-        let sums = self.nodes[node].iter().map(|pick| pick.work(end));
+    /// The greatest sum that any alignment of a group gives in 0..end-1.
+    fn greatest(&self, group: usize, end: u64) -> u64 {
+        let sums = self.groups[group].iter().map(|pick| pick.work(end));
         sums.max().unwrap_or(0)
     }
 
-    /// A scenario by its number: one alignment for each node.
+    /// A scenario by its number: one alignment for each group.
     fn scenario(&self, mut number: u64) -> Vec<&Alignment> {
-        let mut picks = Vec::with_capacity(self.nodes.len());
-        for node in self.nodes.iter().rev() {
-            let count = node.len() as u64;
-            picks.push(&node[(number % count) as usize]);
+        let mut picks = Vec::with_capacity(self.groups.len());
+        for group in self.groups.iter().rev() {
+            let count = group.len() as u64;
+            picks.push(&group[(number % count) as usize]);
             number /= count;
         }
         picks.reverse();
         picks
     }
 
-    /// The greatest response of the frame at one alignment of its node.
+    /// The greatest response of the frame at one alignment of its group.
     fn worst(&self, own: &Alignment, others: Others, limit: u64) -> Option<Worst> {
         let frame = Release::new(self.lengths, self.frame, own.instant);
         let window = self.window(own, &frame, others, limit)?;
@@ -273,11 +287,14 @@ fn blocking(lengths: &LengthTable, rows: &[Row], frame: &Row) -> u64 {
     below.map(|row| length(lengths, row) - 1).max().unwrap_or(0)
 }
 
-/// The alignments of a node; one empty alignment where no frame is ahead.
-fn alignments(lengths: &LengthTable, rows: &[Row], frame: &Row, node: u32) -> Vec<Alignment> {
-    let of_node = rows.iter().filter(|row| row[NODE] == node);
-    let ahead: Vec<&Row> = of_node.filter(|row| rank(row) <= rank(frame)).collect();
-    let hyperperiod = table::node_hyperperiod(rows, node);
+/// The alignments of a group's frames; one empty alignment where no frame is ahead.
+fn alignments<'a>(
+    lengths: &LengthTable,
+    frames: impl Iterator<Item = &'a Row>,
+    frame: &Row,
+    hyperperiod: u64,
+) -> Vec<Alignment> {
+    let ahead: Vec<&Row> = frames.filter(|row| rank(row) <= rank(frame)).collect();
     let mut instants: Vec<u64> = Vec::new();
     for row in &ahead {
         let offset = u64::from(row[OFFSET]);

@@ -7,13 +7,13 @@ use crate::lengths_examples::STANDARD_FILE;
 use crate::listing::{bound_number, judge_number, list};
 use crate::load_sheet::{load_sheet, sheet_of, Load};
 use crate::random::Random;
-use crate::table::{Refusal, Row, CLAIM, NODE, PERIOD};
+use crate::table::{Refusal, Row, CLAIM, GROUP, NODE, PERIOD};
 use crate::{judge_cases, table_cases};
 
-const FILE: &str = "  1        16 11 8    1000       0     300
-  1        32 11 0    1000     200     189
-  1        48 11 8    1000     300     198
-  2        64 11 1    1000       0     200
+const FILE: &str = "  1  1        16 11 8    1000       0     300
+  1  1        32 11 0    1000     200     189
+  1  1        48 11 8    1000     300     198
+  2  2        64 11 1    1000       0     200
 ";
 const LISTING: &str = "        16  1     269       31
         32  1     189        0
@@ -47,8 +47,8 @@ fn whole_case() {
 
 #[test]
 fn one_frame() {
-    assert_eq!(judged(&[[1, 5, 11, 8, 135, 0, 135]], 0), (1, 135, 0));
-    let full = [[1, 5, 11, 8, 134, 0, 135]];
+    assert_eq!(judged(&[[1, 1, 5, 11, 8, 135, 0, 135]], 0), (1, 135, 0));
+    let full = [[1, 1, 5, 11, 8, 134, 0, 135]];
     assert_eq!(judged(&full, 0), (11, 0, 0));
     let refusal = Refusal { number: 11, place: 0 };
     assert_eq!(precise_bound(&STANDARD, &full.concat(), 0), Err(refusal));
@@ -86,10 +86,10 @@ fn load_sheet_of_the_whole_case() {
 /// 5800000 = 276190 × 21 + 10.
 #[test]
 fn load_sheet_with_remainders() {
-    let file = " 16         1 11 0       3       0     100
-  5         2 29 0       7       0     100
- 16         3 11 1       7       0     100
-  1         4 29 8 1000000       0     100
+    let file = " 16 16         1 11 0       3       0     100
+  5  5         2 29 0       7       0     100
+ 16 16         3 11 1       7       0     100
+  1  1         4 29 8 1000000       0     100
 ";
     let sheet = "  1         1  600000 1000000
   5    114285       5       7
@@ -102,25 +102,31 @@ fn load_sheet_with_remainders() {
 /// The greatest quotient: 64 frames of 160 ticks at each tick, 64 × 160 × 10000.
 #[test]
 fn greatest_load() {
-    let row = |line| [7, line, 29, 8, 1, 0, 1];
+    let row = |line| [7, 7, line, 29, 8, 1, 0, 1];
     let rows: Vec<Row> = (0..64).map(row).collect();
     let sheet = "  7 102400000       0       1\n  1 102400000\n";
     assert_eq!(sheet_of(&STANDARD, &rows), sheet);
 }
 
-/// A node's work is what it queues in its hyperperiod, counted tick by tick.
+/// A node's work is what it queues in the hyperperiod of its group, counted tick by tick.
 #[test]
 fn load_by_ticks() {
     let mut random = Random::new(1);
     for _ in 0..500 {
-        let mut row = || [1, 0, 11, random.below(9) as u32, random.between(1, 12) as u32, 0, 1];
-        let rows = [row(), row(), row()];
+        let mut row = |node| {
+            let payload = random.below(9) as u32;
+            [node, 2, 0, 11, payload, random.between(1, 12) as u32, 0, 1]
+        };
+        let rows = [row(1), row(1), row(3)];
         let queued = |tick: u64| rows.iter().filter(move |row| tick % u64::from(row[PERIOD]) == 0);
         let end = (1..).find(|tick| queued(*tick).count() == rows.len()).expect("a hyperperiod");
-        let work: u64 = (0..end).flat_map(queued).map(|row| length(&STANDARD, row)).sum();
-        let load = Load::new(&STANDARD, &rows, rows[0][NODE]);
-        assert_eq!(load.divisor, end);
-        assert_eq!(load.quotient * end + load.remainder, work * 10_000);
-        assert!(load.remainder < end);
+        for node in [1, 3] {
+            let sent = (0..end).flat_map(queued).filter(|row| row[NODE] == node);
+            let work: u64 = sent.map(|row| length(&STANDARD, row)).sum();
+            let load = Load::by(GROUP, &STANDARD, &rows, node);
+            assert_eq!(load.divisor, end);
+            assert_eq!(load.quotient * end + load.remainder, work * 10_000);
+            assert!(load.remainder < end);
+        }
     }
 }

@@ -5,14 +5,14 @@ use crate::cases::Case;
 use crate::judgement::LIMITS;
 use crate::lengths::{LengthTable, STANDARD};
 use crate::random::{clustered, dense, set_claim, stretched, Random};
-use crate::table::{self, Row, CLAIM, IDENTIFIER, OFFSET, PERIOD};
-use crate::table_cases::{edited_rows, good_rows, pattern_rows, WHOLE_CASE};
+use crate::table::{self, Row, CLAIM, GROUP, GROUPS, IDENTIFIER, NODE, OFFSET, PERIOD};
+use crate::table_cases::{edited_rows, good_rows, part_rows, pattern_rows, WHOLE_CASE};
 
 /// Scenarios times rows of a random table at most.
 const MOST_WORK: u64 = 40_000;
 
 /// Tables with a window near 1000000: three lone frames as payload and period;
-/// the judged node's period and its frames as payload and offset, the judged one
+/// the judged group's period and its frames as payload and offset, the judged one
 /// last; the payload of a frame below.
 pub type LongWindow<'a> = ([(u32, u32); 3], u32, &'a [(u32, u32)], Option<u32>);
 pub const LONG_WINDOWS: &[LongWindow] = &[
@@ -36,13 +36,13 @@ const FULL: [(u32, u32); 3] = [(5, 153), (0, 425), (4, 516)];
 /// Every scenario of the last row has a window up to 1000000, the rough bound has none. The last
 /// row ties with the one before in the first 11 bits, which gives it the last rank.
 pub const NO_ROUGH_WINDOW: [Row; 7] = [
-    [1, 1, 11, 5, 269, 0, 500],
-    [3, 2, 11, 8, 615, 0, 500],
-    [2, 3, 11, 0, 808, 0, 500],
-    [2, 4, 11, 8, 808, 123, 500],
-    [2, 5, 11, 7, 808, 297, 500],
-    [4, 6, 11, 7, 1_000_000, 0, 500],
-    [4, 6 << 18, 29, 8, 1_000_000, 0, 1_000_000],
+    [1, 1, 1, 11, 5, 269, 0, 500],
+    [3, 3, 2, 11, 8, 615, 0, 500],
+    [2, 2, 3, 11, 0, 808, 0, 500],
+    [2, 2, 4, 11, 8, 808, 123, 500],
+    [2, 2, 5, 11, 7, 808, 297, 500],
+    [4, 4, 6, 11, 7, 1_000_000, 0, 500],
+    [4, 4, 6 << 18, 29, 8, 1_000_000, 0, 1_000_000],
 ];
 
 /// A short identifier, a long one, and the kind that goes first. In most the long one's first 11
@@ -66,6 +66,7 @@ const RANKS: &[(u32, u32, u32)] = &[
 pub fn all() -> Vec<Case> {
     let mut cases = Cases { list: Vec::new() };
     cases.document_examples();
+    cases.groups();
     cases.ranks();
     cases.refusals();
     cases.long_windows();
@@ -78,28 +79,37 @@ pub fn all() -> Vec<Case> {
 pub fn long_window_table((lone, period, judged, below): &LongWindow) -> (Vec<Row>, usize) {
     let mut rows = Vec::new();
     for (payload, period) in lone {
-        rows.push([rows.len() as u32 + 1, 0, 11, *payload, *period, 0, 500]);
+        let group = rows.len() as u32 + 1;
+        rows.push([group, group, 0, 11, *payload, *period, 0, 500]);
     }
     for (payload, offset) in *judged {
-        rows.push([4, 0, 11, *payload, *period, *offset, 500]);
+        rows.push([4, 4, 0, 11, *payload, *period, *offset, 500]);
     }
     let last = rows.len() - 1;
-    rows.extend(below.map(|payload| [5, 0, 11, payload, 1_000_000, 0, 500]));
+    rows.extend(below.map(|payload| [5, 5, 0, 11, payload, 1_000_000, 0, 500]));
     (0..).zip(&mut rows).for_each(|(line, row)| row[IDENTIFIER] = line);
     (rows, last)
 }
 
-/// Nodes with so many alignments each: a short frame, and a long one that comes
+/// Groups with so many alignments each, of one node: a short frame, and a long one that comes
 /// a gap later and, from three alignments on, less often.
 pub fn counted_table(alignments: &[u32], payload: u32, gap: u32) -> Vec<Row> {
     let mut rows = Vec::new();
-    for (node, count) in (1..).zip(alignments) {
-        let period = 3910 - 3 * node;
-        let offset = 7 * node;
-        rows.push([node, 2 * node, 11, 0, period, offset, 500]);
+    for (group, count) in (1..).zip(alignments) {
+        let node = 17 - group;
+        let period = 3910 - 3 * group;
+        let offset = 7 * group;
+        rows.push([node, group, 2 * group, 11, 0, period, offset, 500]);
         let period = period * (count - 1);
-        rows.push([node, 2 * node + 1, 11, payload, period, offset + gap, 500]);
+        rows.push([node, group, 2 * group + 1, 11, payload, period, offset + gap, 500]);
     }
+    rows
+}
+
+/// The same rows, of nodes that all are of other groups.
+fn regrouped(rows: &[Row], group: impl Fn(u32) -> u32) -> Vec<Row> {
+    let mut rows = rows.to_vec();
+    rows.iter_mut().for_each(|row| row[GROUP] = group(row[NODE]));
     rows
 }
 
@@ -143,15 +153,48 @@ impl Cases {
             self.add('J', row, &WHOLE_CASE);
             self.around(row, &WHOLE_CASE);
         }
-        self.around(0, &[[1, 5, 11, 8, 135, 0, 500]]);
-        self.around(0, &[[1, 5, 11, 8, 134, 0, 500]]);
+        self.around(0, &[[1, 1, 5, 11, 8, 135, 0, 500]]);
+        self.around(0, &[[1, 1, 5, 11, 8, 134, 0, 500]]);
+    }
+
+    /// Two nodes in one group, and the same in two; all nodes in one; one group of another number.
+    fn groups(&mut self) {
+        let rows = |group| {
+            let first = [1, 1, 1, 11, 8, 1000, 0, 500];
+            [first, [2, group, 2, 11, 8, 1000, 135, 500], [3, 3, 3, 11, 0, 1000, 0, 500]]
+        };
+        // Frame 1 waits for frame 2 or, in another schedule, for frame 3, which began a tick before.
+        // Together frame 2 waits no more than frame 1 was late, apart for all of it as well.
+        let exact = |rows: &[Row]| {
+            [0, 1, 2].map(|row| View::new(&STANDARD, rows, row).exact(LIMITS.window))
+        };
+        let together = exact(&rows(1)).map(|worst| worst.expect("a window").response);
+        let apart = exact(&rows(2)).map(|worst| worst.expect("a window").response);
+        assert_eq!(together, [134 + 135, 54 + 135, 270 + 55]);
+        assert_eq!(apart, [134 + 135, 54 + 135 + 135, 270 + 55]);
+        for rows in [rows(1), rows(2)] {
+            (0..3).for_each(|row| self.around(row, &rows));
+        }
+        let mut random = Random::new(41);
+        for _ in 0..20 {
+            let rows = close(&mut random, &STANDARD);
+            let row = random.below(rows.len() as u64) as usize;
+            let groups: [fn(u32) -> u32; 3] = [|_| 1, |node| node, |node| GROUPS - node / 2];
+            for group in groups {
+                let rows = regrouped(&rows, group);
+                let accepted = table::check(&rows.concat()).is_ok();
+                if accepted && cheap(&View::new(&STANDARD, &rows, row), rows.len()) {
+                    self.both(row, &rows);
+                }
+            }
+        }
     }
 
     /// Of a short and a long frame the first waits for one that began a tick before, the other for
     /// all of the first.
     fn ranks(&mut self) {
         for (short, long, first) in RANKS {
-            let rows = [[1, *short, 11, 8, 1000, 0, 500], [2, *long, 29, 8, 1000, 0, 500]];
+            let rows = [[1, 1, *short, 11, 8, 1000, 0, 500], [2, 2, *long, 29, 8, 1000, 0, 500]];
             let exact = |row| {
                 View::new(&STANDARD, &rows, row).exact(LIMITS.window).expect("a window").response
             };
@@ -162,16 +205,22 @@ impl Cases {
         }
     }
 
-    /// 10, 4 to 7 and 9, the last behind all others.
+    /// 10, 4, 5, 15, 6, 7 and 9, the last behind all others.
     fn refusals(&mut self) {
-        let words = [good_rows(64), good_rows(10)].concat().concat();
-        for count in [0, 6, 8, 449, 455, 512] {
+        let words = [good_rows(64), good_rows(1)].concat().concat();
+        for count in [0, 7, 9, 448 + 7, 511, 513, 520] {
             for (letter, row) in [('J', 0), ('P', 0), ('J', 90), ('P', 99_999_999)] {
                 self.list.push(Case::of_words(letter, row, &words[..count]));
             }
         }
         let edits = ["2.node=17", "3.offset=1000", "1.claim=0", "3.id=5", "3.id=5;2.kind=12"];
         let mut refused: Vec<Vec<Row>> = edits.map(|text| edited_rows(3, text)).to_vec();
+        let edits =
+            ["2.group=0", "3.group=17", "3.node=1", "3.node=1;3.id=5", "3.node=1;3.claim=0"];
+        refused.extend(edits.map(|text| edited_rows(3, text)));
+        refused.push(part_rows(&[(1, 3, 1000), (2, 3, 1001)]));
+        refused.push(part_rows(&[(9, 2, 999), (9, 2, 1000), (1, 7, 1000), (1, 7, 1001)]));
+        refused.push(part_rows(&[(1, 3, 1000), (1, 3, 1001), (2, 3, 1), (2, 4, 1)]));
         refused.push(pattern_rows(&[(1, &[1000, 1001])]));
         refused.push(pattern_rows(&[(2, &[1000, 1001]), (1, &[999, 1000])]));
         refused.push(pattern_rows(&[(9, &[250; 63]), (9, &[200])]));
@@ -205,7 +254,7 @@ impl Cases {
         }
         // Two frames queued at once give one alignment.
         let mut rows = counted_table(&[217, 151, 2], 8, 90);
-        rows.push([3, 1, 11, 0, rows[4][PERIOD], rows[4][OFFSET], 500]);
+        rows.push([1, 3, 1, 11, 0, rows[4][PERIOD], rows[4][OFFSET], 500]);
         self.around(5, &rows);
         // Frames below count in the hyperperiod; equal distances stay apart.
         for last in [2, 3] {
@@ -294,8 +343,8 @@ fn later_q(view: &View) -> bool {
 }
 
 pub fn close(random: &mut Random, lengths: &LengthTable) -> Vec<Row> {
-    let nodes = random.between(2, 4);
-    clustered(random, lengths, nodes, 5, (110, 600))
+    let groups = random.between(2, 4);
+    clustered(random, lengths, groups, 5, (110, 600))
 }
 
 pub fn full(random: &mut Random, lengths: &LengthTable) -> Vec<Row> {
@@ -307,8 +356,8 @@ pub fn filled(random: &mut Random, lengths: &LengthTable) -> Vec<Row> {
 }
 
 pub fn wide(random: &mut Random, lengths: &LengthTable) -> Vec<Row> {
-    let nodes = random.between(10, 16);
-    clustered(random, lengths, nodes, 6, (105, 400))
+    let groups = random.between(10, 16);
+    clustered(random, lengths, groups, 6, (105, 400))
 }
 
 pub fn long(random: &mut Random, _: &LengthTable) -> Vec<Row> {

@@ -2,7 +2,7 @@
 
 use crate::bounds::View;
 use crate::lengths::{self, LengthTable};
-use crate::table::{self, refuse, Refusal, Row, CLAIM};
+use crate::table::{self, refuse, Refusal, Row};
 
 /// The longest window and the greatest scenario count served.
 #[derive(Clone, Copy)]
@@ -59,8 +59,12 @@ pub fn judge_row_by(
     row: usize,
     limits: Limits,
 ) -> Judgement {
-    let claim = u64::from(rows[row][CLAIM]);
-    let view = View::new(lengths, rows, row);
+    judge_view(search, &View::new(lengths, rows, row), limits)
+}
+
+/// Judges the claim of a row as it is seen.
+pub fn judge_view(search: Search, view: &View, limits: Limits) -> Judgement {
+    let claim = view.claim();
     let Some(rough) = view.rough(limits.window) else {
         return Judgement::new(Verdict::NoWindow, 0, 0);
     };
@@ -70,7 +74,7 @@ pub fn judge_row_by(
     if view.scenario_count() > limits.scenarios {
         return Judgement::new(Verdict::Undecided, rough.response, claim);
     }
-    let exact = exact_bound(search, &view, limits);
+    let exact = exact_bound(search, view, limits);
     let verdict = if exact <= claim { Verdict::CertifiedExact } else { Verdict::TooSmall };
     Judgement::new(verdict, exact, claim)
 }
@@ -110,18 +114,22 @@ pub fn precise_bound(lengths: &LengthTable, words: &[u32], row: i128) -> Result<
     lengths::check(lengths)?;
     let rows = table::check(words)?;
     let row = find_row(&rows, row)?;
-    let view = View::new(lengths, &rows, row);
+    bound_view(&View::new(lengths, &rows, row), row)
+}
+
+/// The exact bound of a row as it is seen, or 11 or 12 with the row.
+pub fn bound_view(view: &View, row: usize) -> Result<u64, Refusal> {
     if view.rough(LIMITS.window).is_none() {
         return refuse(11, row as u32);
     }
     if view.scenario_count() > LIMITS.scenarios {
         return refuse(12, row as u32);
     }
-    Ok(exact_bound(Search::Pruned, &view, LIMITS))
+    Ok(exact_bound(Search::Pruned, view, LIMITS))
 }
 
 /// Rows count from 0; what is no row gives 9.
-fn find_row(rows: &[Row], row: i128) -> Result<usize, Refusal> {
+pub fn find_row(rows: &[Row], row: i128) -> Result<usize, Refusal> {
     match usize::try_from(row) {
         Ok(row) if row < rows.len() => Ok(row),
         _ => refuse(9, 0),

@@ -119,7 +119,7 @@ fn notation_before_limits() {
 /// The lengths come before everything in the table.
 #[test]
 fn lengths_before_the_table() {
-    let mut files = vec![Vec::new(), vec![b'x'; 43], vec![b'\n'; 43], vec![b'x'; 65 * 43]];
+    let mut files = vec![Vec::new(), vec![b'x'; 46], vec![b'\n'; 46], vec![b'x'; 65 * 46]];
     let edits = ["1.node=17", "2.claim=0", "3.id=5"];
     files.extend(edits.map(|text| table::file_of(&edited_rows(3, text))));
     files.push(table::file_of(&pattern_rows(&[(1, &[1000, 1001])])));
@@ -135,7 +135,7 @@ fn lengths_before_the_table() {
         }
     }
     let bad = changed(0, 4, 99);
-    for words in [&[][..], &[0; 7], &WHOLE_CASE.concat()] {
+    for words in [&[][..], &[0; 8], &WHOLE_CASE.concat()] {
         assert_eq!(judge(&bad, words, 99), refused(14, 1));
         assert_eq!(precise_bound(&bad, words, 99), refused(14, 1));
     }

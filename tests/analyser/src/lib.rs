@@ -1,11 +1,14 @@
 //! An analyser of CAN frame tables beside the certifier, by documents 01 and 02.
 
+pub mod before;
 pub mod bounds;
 pub mod cases;
 #[cfg(test)]
 mod examples;
 pub mod frame_length;
 pub mod frame_length_cases;
+#[cfg(test)]
+mod group_examples;
 pub mod judge_cases;
 pub mod judgement;
 pub mod known_frames;
@@ -15,6 +18,7 @@ mod lengths_examples;
 pub mod listing;
 pub mod literal;
 pub mod literal_bus;
+pub mod literal_table;
 pub mod load_sheet;
 pub mod random;
 pub mod self_check;

@@ -20,10 +20,14 @@ pub fn list_files(lengths: &[u8], file: &[u8]) -> Result<String, Refusal> {
 /// A line for each of accepted rows, by one search or the other.
 pub fn list_rows_by(search: Search, lengths: &LengthTable, rows: &[Row]) -> String {
     let line = |(row, words): (usize, &Row)| {
-        let columns = judgement_columns(judge_row_by(search, lengths, rows, row, LIMITS));
-        format!("{:>10}{columns}\n", words[IDENTIFIER])
+        listing_line(words, judge_row_by(search, lengths, rows, row, LIMITS))
     };
     rows.iter().enumerate().map(line).collect()
+}
+
+/// The line of a row.
+pub fn listing_line(row: &Row, judgement: Judgement) -> String {
+    format!("{:>10}{}\n", row[IDENTIFIER], judgement_columns(judgement))
 }
 
 /// Verdict, bound and margin.

@@ -7,8 +7,8 @@ use std::collections::BTreeSet;
 
 fn length(lengths: &LengthTable, row: &Row) -> u64 {
     let [short, long] = lengths;
-    let line = if row[2] == 11 { short } else { long };
-    u64::from(line[row[3] as usize])
+    let line = if row[3] == 11 { short } else { long };
+    u64::from(line[row[4] as usize])
 }
 
 /// Reads a file of lengths: 13 unless it is 92 bytes that writing its numbers gives again, then 14 at
@@ -50,10 +50,10 @@ fn bits(number: u32, count: u32) -> Vec<u32> {
 /// What a data frame sends until no other can have sent the same (ISO 11898-1): a short one its
 /// identifier, RTR 0 and IDE 0; a long one 11 bits of its identifier, SRR 1, IDE 1, the other 18.
 fn on_the_wire(row: &Row) -> Vec<u32> {
-    if row[2] == 11 {
-        return [bits(row[1], 11), vec![0, 0]].concat();
+    if row[3] == 11 {
+        return [bits(row[2], 11), vec![0, 0]].concat();
     }
-    let identifier = bits(row[1], 29);
+    let identifier = bits(row[2], 29);
     [&identifier[..11], &[1, 1], &identifier[11..]].concat()
 }
 
@@ -78,7 +78,7 @@ impl Queued {
     }
 }
 
-/// The alignments in play of one node, each with the work queued so far.
+/// The alignments in play of one group, each with the work queued so far.
 struct Running {
     alignments: Vec<(Vec<Queued>, u64)>,
 }
@@ -107,7 +107,7 @@ pub struct Answer {
     pub judgement: Judgement,
 }
 
-/// One row of a table; `instants` holds the alignments of each node.
+/// One row of a table; `instants` holds the alignments of each group.
 struct Literal<'a> {
     lengths: &'a LengthTable,
     rows: &'a [Row],
@@ -125,12 +125,12 @@ pub fn answer(lengths: &LengthTable, rows: &[Row], row: usize, limits: Limits) -
         rows,
         judged,
         blocking: below.map(|row| length(lengths, row)).max().map_or(0, |longest| longest - 1),
-        instants: (1..=16).map(|node| instants(rows, judged, node)).collect(),
+        instants: (1..=16).map(|group| instants(rows, judged, group)).collect(),
         longest_window: limits.window,
     };
     let rough = literal.rough();
     let (exact, scenarios) = literal.exact();
-    let judgement = judgement(judged[6], rough, exact, scenarios, limits);
+    let judgement = judgement(judged[7], rough, exact, scenarios, limits);
     Answer { rough, exact, scenarios, judgement }
 }
 
@@ -157,17 +157,17 @@ fn judgement(
     }
 }
 
-/// The distinct instants o + m*p of a node's frames ahead, or one empty alignment.
-fn instants(rows: &[Row], judged: &Row, node: u32) -> Vec<u64> {
-    let of_node: Vec<&Row> = rows.iter().filter(|row| row[0] == node).collect();
-    let divides = |multiple: u64| of_node.iter().all(|row| multiple % u64::from(row[4]) == 0);
+/// The distinct instants o + m*p of a group's frames ahead, or one empty alignment.
+fn instants(rows: &[Row], judged: &Row, group: u32) -> Vec<u64> {
+    let of_group: Vec<&Row> = rows.iter().filter(|row| row[1] == group).collect();
+    let divides = |multiple: u64| of_group.iter().all(|row| multiple % u64::from(row[5]) == 0);
     let hyperperiod = (1..).find(|multiple| divides(*multiple)).unwrap();
     let mut found = BTreeSet::new();
-    for row in of_node.iter().filter(|row| !goes_ahead(judged, row)) {
-        let mut instant = u64::from(row[5]);
+    for row in of_group.iter().filter(|row| !goes_ahead(judged, row)) {
+        let mut instant = u64::from(row[6]);
         while instant < hyperperiod {
             found.insert(instant);
-            instant += u64::from(row[4]);
+            instant += u64::from(row[5]);
         }
     }
     if found.is_empty() {
@@ -178,7 +178,7 @@ fn instants(rows: &[Row], judged: &Row, node: u32) -> Vec<u64> {
 
 impl Literal<'_> {
     fn own(&self) -> usize {
-        self.judged[0] as usize - 1
+        self.judged[1] as usize - 1
     }
 
     fn rough(&self) -> Option<u64> {
@@ -197,7 +197,7 @@ impl Literal<'_> {
         let mut greatest = Some(0);
         let mut scenarios = 0;
         loop {
-            let pick = |node: usize| vec![self.instants[node][odometer[node]]];
+            let pick = |group: usize| vec![self.instants[group][odometer[group]]];
             let choices: Vec<Vec<u64>> = (0..odometer.len()).map(pick).collect();
             let response = self.greatest_response(&choices);
             greatest = greatest.and_then(|so_far| Some(response?.max(so_far)));
@@ -209,12 +209,12 @@ impl Literal<'_> {
     }
 
     fn advance(&self, odometer: &mut [usize]) -> bool {
-        for node in (0..odometer.len()).rev() {
-            odometer[node] += 1;
-            if odometer[node] < self.instants[node].len() {
+        for group in (0..odometer.len()).rev() {
+            odometer[group] += 1;
+            if odometer[group] < self.instants[group].len() {
                 return true;
             }
-            odometer[node] = 0;
+            odometer[group] = 0;
         }
         false
     }
@@ -224,8 +224,8 @@ impl Literal<'_> {
         let distance = self.distance(self.judged, choices[self.own()][0]);
         let mut greatest = 0;
         let mut q = 1;
-        while distance + (q - 1) * u64::from(self.judged[4]) < window {
-            let queueing = distance + (q - 1) * u64::from(self.judged[4]);
+        while distance + (q - 1) * u64::from(self.judged[5]) < window {
+            let queueing = distance + (q - 1) * u64::from(self.judged[5]);
             let end = self.start(choices, q) + length(self.lengths, self.judged);
             greatest = greatest.max(end - queueing);
             q += 1;
@@ -237,7 +237,7 @@ impl Literal<'_> {
     fn window(&self, choices: &[Vec<u64>]) -> Option<u64> {
         let mut running = self.running(choices);
         for window in 1..=self.longest_window {
-            running.iter_mut().for_each(|node| node.tick(window - 1, true));
+            running.iter_mut().for_each(|group| group.tick(window - 1, true));
             if self.blocking + sum(&running) <= window {
                 return Some(window);
             }
@@ -251,7 +251,7 @@ impl Literal<'_> {
         let before = self.blocking + (q - 1) * length(self.lengths, self.judged);
         let mut start = 0;
         loop {
-            running.iter_mut().for_each(|node| node.tick(start, false));
+            running.iter_mut().for_each(|group| group.tick(start, false));
             if before + sum(&running) <= start {
                 return start;
             }
@@ -260,19 +260,19 @@ impl Literal<'_> {
     }
 
     fn running(&self, choices: &[Vec<u64>]) -> Vec<Running> {
-        let nodes = choices.iter().enumerate();
-        let of_node = |(node, instants): (usize, &Vec<u64>)| Running {
-            alignments: instants.iter().map(|a| (self.queued(node, *a), 0)).collect(),
+        let groups = choices.iter().enumerate();
+        let of_group = |(group, instants): (usize, &Vec<u64>)| Running {
+            alignments: instants.iter().map(|a| (self.queued(group, *a), 0)).collect(),
         };
-        nodes.map(of_node).collect()
+        groups.map(of_group).collect()
     }
 
-    fn queued(&self, node: usize, instant: u64) -> Vec<Queued> {
-        let of_node = self.rows.iter().filter(|row| row[0] as usize == node + 1);
-        let ahead = of_node.filter(|row| !goes_ahead(self.judged, row));
+    fn queued(&self, group: usize, instant: u64) -> Vec<Queued> {
+        let of_group = self.rows.iter().filter(|row| row[1] as usize == group + 1);
+        let ahead = of_group.filter(|row| !goes_ahead(self.judged, row));
         let queued = |row: &Row| Queued {
             distance: self.distance(row, instant),
-            period: u64::from(row[4]),
+            period: u64::from(row[5]),
             length: length(self.lengths, row),
             judged: row == self.judged,
         };
@@ -280,8 +280,8 @@ impl Literal<'_> {
     }
 
     fn distance(&self, row: &Row, instant: u64) -> u64 {
-        let ahead = i64::from(row[5]) - instant as i64;
-        ahead.rem_euclid(i64::from(row[4])) as u64
+        let ahead = i64::from(row[6]) - instant as i64;
+        ahead.rem_euclid(i64::from(row[5])) as u64
     }
 }
 

@@ -26,9 +26,9 @@ pub fn schedule(rows: &[Row], starts: &Starts, until: u64, lengths: Lengths) -> 
 }
 
 fn queued_at(tick: u64, row: usize, words: &Row, starts: &Starts) -> Option<Instance> {
-    let first = starts[words[0] as usize - 1] + u64::from(words[5]);
+    let first = starts[words[1] as usize - 1] + u64::from(words[6]);
     let since = tick.checked_sub(first)?;
-    let period = u64::from(words[4]);
+    let period = u64::from(words[5]);
     (since % period == 0).then_some((row, since / period))
 }
 

@@ -2,7 +2,7 @@
 
 use crate::lengths::{self, length, LengthTable};
 use crate::listing::refusal_line;
-use crate::table::{self, Refusal, Row, NODE, NODES, PERIOD};
+use crate::table::{self, Refusal, Row, GROUP, NODE, NODES, PERIOD};
 
 /// The sheet of an input, a file of lengths and then that of a table, or the one line of a refusal.
 pub fn load_sheet(input: &[u8]) -> String {
@@ -18,15 +18,20 @@ pub fn sheet_of_files(lengths: &[u8], file: &[u8]) -> Result<String, Refusal> {
 
 /// The sheet of accepted rows: a line for each node that has frames, nodes rising, and a last line.
 pub fn sheet_of(lengths: &LengthTable, rows: &[Row]) -> String {
+    sheet_by(GROUP, lengths, rows)
+}
+
+/// The sheet where that starts together which has the same number in a column.
+pub fn sheet_by(by: usize, lengths: &LengthTable, rows: &[Row]) -> String {
     let has_frames = |node: &u32| rows.iter().any(|row| row[NODE] == *node);
     let nodes = (1..=NODES).filter(has_frames);
-    let loads: Vec<Load> = nodes.map(|node| Load::new(lengths, rows, node)).collect();
+    let loads: Vec<Load> = nodes.map(|node| Load::by(by, lengths, rows, node)).collect();
     let lines: String = loads.iter().map(Load::line).collect();
     let greatest = loads.iter().map(|load| load.quotient).max();
     format!("{lines}{:>3}{:>10}\n", loads.len(), greatest.expect("a node with frames"))
 }
 
-/// A node's work × 10000, divided by its hyperperiod.
+/// A node's work × 10000, divided by the hyperperiod of its group.
 #[derive(Debug, PartialEq, Eq)]
 pub struct Load {
     pub node: u32,
@@ -36,10 +41,12 @@ pub struct Load {
 }
 
 impl Load {
-    pub fn new(lengths: &LengthTable, rows: &[Row], node: u32) -> Load {
-        let divisor = table::node_hyperperiod(rows, node);
-        let of_node = rows.iter().filter(|row| row[NODE] == node);
-        let work = of_node.map(|row| length(lengths, row) * (divisor / u64::from(row[PERIOD])));
+    /// That of a node which has frames.
+    pub fn by(by: usize, lengths: &LengthTable, rows: &[Row], node: u32) -> Load {
+        let of_node: Vec<&Row> = rows.iter().filter(|row| row[NODE] == node).collect();
+        let divisor = table::hyperperiod_by(rows, by, of_node[0][by]);
+        let work =
+            of_node.iter().map(|row| length(lengths, row) * (divisor / u64::from(row[PERIOD])));
         let dividend = work.sum::<u64>() * 10_000;
         Load { node, quotient: dividend / divisor, remainder: dividend % divisor, divisor }
     }

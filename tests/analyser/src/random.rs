@@ -3,7 +3,9 @@
 use crate::bounds::View;
 use crate::judgement::Limits;
 use crate::lengths::{length, LengthTable, STANDARD};
-use crate::table::{self, Row, CLAIM, IDENTIFIER, KIND, NODE, OFFSET, PERIOD};
+use crate::table::{
+    self, Row, CLAIM, GROUP, GROUPS, IDENTIFIER, KIND, NODE, NODES, OFFSET, PERIOD,
+};
 
 /// A splitmix generator.
 #[derive(Clone)]
@@ -46,12 +48,12 @@ impl Random {
         }
     }
 
-    /// So many different nodes.
-    fn nodes(&mut self, count: u64) -> Vec<u32> {
-        let mut nodes: Vec<u32> = (1..=table::NODES).collect();
-        self.shuffle(&mut nodes);
-        nodes.truncate(count as usize);
-        nodes
+    /// So many different groups.
+    fn groups(&mut self, count: u64) -> Vec<u32> {
+        let mut groups: Vec<u32> = (1..=GROUPS).collect();
+        self.shuffle(&mut groups);
+        groups.truncate(count as usize);
+        groups
     }
 
     /// The kinds that a table draws from.
@@ -59,11 +61,11 @@ impl Random {
         self.pick(&[&[11][..], &[29], &[11, 29], &[11, 29]])
     }
 
-    /// A frame that still lacks identifier, period and offset.
-    fn frame(&mut self, node: u32, kinds: &[u32]) -> Row {
+    /// A frame that still lacks node, identifier, period and offset.
+    fn frame(&mut self, group: u32, kinds: &[u32]) -> Row {
         let payload = self.below(9) as u32;
         let claim = self.between(1, 2000) as u32;
-        [node, 0, self.pick(kinds), payload, 1, 0, claim]
+        [0, group, 0, self.pick(kinds), payload, 1, 0, claim]
     }
 }
 
@@ -84,21 +86,21 @@ pub fn own_lengths(random: &mut Random) -> LengthTable {
     lengths
 }
 
-/// Nodes whose frames are queued closely one after the other; the period is
+/// Groups whose frames are queued closely one after the other; the period is
 /// the sum of all lengths times a percentage.
 pub fn clustered(
     random: &mut Random,
     lengths: &LengthTable,
-    nodes: u64,
+    groups: u64,
     most: u64,
     percent: (u64, u64),
 ) -> Vec<Row> {
     let kinds = random.kinds();
     let rising = random.percent(70);
     let mut rows = Vec::new();
-    for node in random.nodes(nodes) {
+    for group in random.groups(groups) {
         let count = random.between(1, most);
-        let mut frames: Vec<Row> = (0..count).map(|_| random.frame(node, kinds)).collect();
+        let mut frames: Vec<Row> = (0..count).map(|_| random.frame(group, kinds)).collect();
         if rising {
             frames.sort_by_key(|row| length(lengths, row));
         }
@@ -109,7 +111,7 @@ pub fn clustered(
     let base = total * random.between(percent.0, percent.1) / 100;
     let mut offset = 0;
     for at in 0..rows.len() {
-        if at == 0 || rows[at][NODE] != rows[at - 1][NODE] {
+        if at == 0 || rows[at][GROUP] != rows[at - 1][GROUP] {
             offset = random.below(base);
         }
         let period = base * random.pick(&[1, 1, 1, 1, 2]);
@@ -140,11 +142,11 @@ pub fn dense(random: &mut Random, lengths: &LengthTable, most: u64) -> Vec<Row> 
     let kinds = random.kinds();
     let count = random.between(2, most);
     let mut rows: Vec<Row> = Vec::new();
-    for node in random.nodes(count) {
-        let mut row = random.frame(node, kinds);
+    for group in random.groups(count) {
+        let mut row = random.frame(group, kinds);
         row[PERIOD] = random.between(75, 125) as u32;
         if let Some(last) = rows.last().filter(|_| random.percent(20)) {
-            row[NODE] = last[NODE];
+            row[GROUP] = last[GROUP];
             row[PERIOD] = last[PERIOD];
         }
         rows.push(row);
@@ -160,14 +162,14 @@ pub fn dense(random: &mut Random, lengths: &LengthTable, most: u64) -> Vec<Row> 
     finish(random, rows)
 }
 
-/// Nodes with a period and a multiple of it, so that alignments are many.
-pub fn stretched(random: &mut Random, nodes: u64, multiple: u64, base: u64) -> Vec<Row> {
+/// Groups with a period and a multiple of it, so that alignments are many.
+pub fn stretched(random: &mut Random, groups: u64, multiple: u64, base: u64) -> Vec<Row> {
     let kinds = random.kinds();
     let mut rows = Vec::new();
-    for node in random.nodes(nodes) {
+    for group in random.groups(groups) {
         let period = random.between(base, 2 * base);
         for times in [1, random.between(1, multiple)] {
-            let mut row = random.frame(node, kinds);
+            let mut row = random.frame(group, kinds);
             row[PERIOD] = (period * times) as u32;
             row[OFFSET] = random.below(period * times) as u32;
             rows.push(row);
@@ -176,8 +178,9 @@ pub fn stretched(random: &mut Random, nodes: u64, multiple: u64, base: u64) -> V
     finish(random, rows)
 }
 
-/// Gives identifiers and mixes the lines.
+/// Gives nodes and identifiers and mixes the lines.
 fn finish(random: &mut Random, mut rows: Vec<Row>) -> Vec<Row> {
+    give_nodes(random, &mut rows);
     let range = if random.percent(60) { 70 } else { 2048 };
     let mut used = Vec::new();
     for row in &mut rows {
@@ -190,6 +193,33 @@ fn finish(random: &mut Random, mut rows: Vec<Row>) -> Vec<Row> {
     }
     random.shuffle(&mut rows);
     rows
+}
+
+/// Gives each group's frames their nodes: the one of the group's number, any other one, or several,
+/// as many as there are.
+pub fn give_nodes(random: &mut Random, rows: &mut [Row]) {
+    if random.percent(40) {
+        rows.iter_mut().for_each(|row| row[NODE] = row[GROUP]);
+        return;
+    }
+    let mut groups: Vec<u32> = rows.iter().map(|row| row[GROUP]).collect();
+    groups.sort_unstable();
+    groups.dedup();
+    let mut nodes: Vec<u32> = (1..=NODES).collect();
+    random.shuffle(&mut nodes);
+    let first = nodes.split_off(nodes.len() - groups.len());
+    let mut of_groups: Vec<Vec<u32>> = first.into_iter().map(|node| vec![node]).collect();
+    if random.percent(70) {
+        for node in nodes {
+            let group = random.below(of_groups.len() as u64) as usize;
+            of_groups[group].push(node);
+        }
+    }
+    for row in rows {
+        let at =
+            groups.iter().position(|group| *group == row[GROUP]).expect("a group of the table");
+        row[NODE] = random.pick(&of_groups[at]);
+    }
 }
 
 /// The first 11 bits of an identifier, which short and long frames compare.

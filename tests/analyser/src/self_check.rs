@@ -1,12 +1,14 @@
-//! Small random tables through the fast, the pruned and the tick-by-tick path, and files of lengths
-//! through two readers.
+//! Small random tables through the fast, the pruned and the tick-by-tick path; files of lengths
+//! through two readers; and damaged tables through the checks and a list of all that is wrong.
 
 use crate::bounds::View;
 use crate::judgement::{judge_row, Limits};
 use crate::lengths::{self, LengthTable, STANDARD};
 use crate::literal;
+use crate::literal_table::{faults_of_file, faults_of_words, refusal};
 use crate::random::{clustered, dense, own_lengths, set_claim, stretched, Random};
-use crate::table::{self, Row};
+use crate::table::{self, Refusal, Row, FIELDS, GROUP, NODE};
+use crate::table_cases::{damage_file, damage_words};
 
 const MOST_SCENARIOS: u64 = 150;
 
@@ -21,6 +23,10 @@ struct Tally {
     rough_only_without_window: u64,
     /// Files of lengths that are accepted, that break the notation, and the limits.
     files: [u64; 3],
+    /// Rows of tables where groups are nodes, and where a group has several.
+    groups: [u64; 2],
+    /// Damaged tables by the number of their refusal; accepted ones at 0.
+    refusals: [u64; 16],
 }
 
 /// Prints the result; true if nothing differs.
@@ -43,19 +49,20 @@ pub fn self_check(seed: u64, count: u64) -> bool {
             compare(&lengths, &rows, row, limits, &mut tally);
         }
         compare_readers(&lengths_file(&mut random, lengths), &mut tally);
+        compare_checks(&mut random, rows, &mut tally);
     }
     tally.print();
     tally.differences == 0
 }
 
 fn small_table(random: &mut Random, lengths: &LengthTable) -> Vec<Row> {
-    let nodes = random.between(1, 3);
+    let groups = random.between(1, 3);
     match random.below(10) {
-        0..=3 => clustered(random, lengths, nodes.max(2), 5, (110, 500)),
-        4 => clustered(random, lengths, nodes.max(2), 4, (88, 100)),
+        0..=3 => clustered(random, lengths, groups.max(2), 5, (110, 500)),
+        4 => clustered(random, lengths, groups.max(2), 4, (88, 100)),
         5..=7 => dense(random, lengths, 4),
-        8 => stretched(random, nodes, 6, 250),
-        _ => stretched(random, nodes, 9, 1),
+        8 => stretched(random, groups, 6, 250),
+        _ => stretched(random, groups, 9, 1),
     }
 }
 
@@ -77,6 +84,8 @@ fn compare(lengths: &LengthTable, rows: &[Row], row: usize, limits: Limits, tall
         && view.scenario_count() == slow.scenarios
         && judgement == slow.judgement;
     tally.rows += 1;
+    tally.groups[0] += u64::from(rows.iter().all(|row| row[NODE] == row[GROUP]));
+    tally.groups[1] += u64::from(has_several_nodes(rows));
     if !same {
         tally.differences += 1;
         eprintln!("row {row} differs in {rows:?} with lengths {lengths:?}");
@@ -85,6 +94,52 @@ fn compare(lengths: &LengthTable, rows: &[Row], row: usize, limits: Limits, tall
     tally.apart += u64::from(fast.0 != fast.1);
     tally.later_queueings += u64::from(exact.is_some_and(|worst| worst.q > 1));
     tally.rough_only_without_window += u64::from(rough.is_none() && exact.is_some());
+}
+
+fn has_several_nodes(rows: &[Row]) -> bool {
+    let beside = |row: &Row| rows.iter().any(|o| o[GROUP] == row[GROUP] && o[NODE] != row[NODE]);
+    rows.iter().any(beside)
+}
+
+/// Damages a table in up to four places, as rows and as a file.
+fn compare_checks(random: &mut Random, mut rows: Vec<Row>, tally: &mut Tally) {
+    for _ in 0..random.below(3) {
+        damage_row(random, &mut rows);
+    }
+    let mut words = rows.concat();
+    let mut file = table::file_of(&rows);
+    let places = random.below(3);
+    damage_words(random, &mut words, places);
+    damage_file(random, &mut file, places);
+    if random.percent(5) {
+        words.truncate(random.below(words.len() as u64 + 1) as usize);
+        file.truncate(random.below(file.len() as u64 + 1) as usize);
+    }
+    for (found, listed) in [
+        (table::check(&words).err(), refusal(&faults_of_words(&words))),
+        (table::parse(&file).err(), refusal(&faults_of_file(&file))),
+    ] {
+        tally.refusals[found.map_or(0, |Refusal { number, .. }| number as usize)] += 1;
+        if found != listed {
+            tally.differences += 1;
+            eprintln!("the checks find {found:?}, the list {listed:?} in {rows:?}");
+        }
+    }
+}
+
+/// Another node, group, frame or period, mostly one that stands in the table, on the middle line or any.
+fn damage_row(random: &mut Random, rows: &mut [Row]) {
+    let other = random.pick(rows);
+    let any = random.below(rows.len() as u64) as usize;
+    let row = &mut rows[if random.percent(50) { any } else { any / 2 }];
+    match random.below(6) {
+        0 => row[NODE] = other[NODE],
+        1 => row[GROUP] = random.between(0, 17) as u32,
+        2 => row[table::IDENTIFIER..table::PAYLOAD].copy_from_slice(&other[2..4]),
+        3 => row[table::PERIOD] = random.pick(&[1, 999, 1000, 1001, 1_000_000]),
+        4 => row[..2].copy_from_slice(&other[..2]),
+        _ => row[random.below(FIELDS as u64) as usize] = random.pick(&[0, 1, 16, 17, 1_000_001]),
+    }
 }
 
 /// A file of these lengths, mostly with a value or some bytes changed, or a byte less or more.
@@ -129,6 +184,9 @@ impl Tally {
         eprintln!("only the rough bound has no window: {}", self.rough_only_without_window);
         let [good, notation, limits] = self.files;
         eprintln!("files of lengths: {good} good, {notation} with 13, {limits} with 14");
+        let [alike, several] = self.groups;
+        eprintln!("rows with groups as nodes: {alike}, with a group of several nodes: {several}");
+        eprintln!("tables refused by number, accepted at 0: {:?}", self.refusals);
         let Tally { tables, rows, .. } = self;
         println!("{tables} tables, {rows} rows, {} differences", self.differences);
     }

@@ -1,10 +1,10 @@
 //! The bus rule of document 01, from one transmission to the next.
 
 use crate::bounds::rank;
-use crate::table::{Row, NODE, NODES, OFFSET, PERIOD};
+use crate::table::{Row, GROUP, GROUPS, OFFSET, PERIOD};
 
-/// The start of each node, node 1 first.
-pub type Starts = [u64; NODES as usize];
+/// The start of each group, group 1 first.
+pub type Starts = [u64; GROUPS as usize];
 
 /// Chooses how long a row's next transmission takes.
 pub type Lengths<'a> = &'a mut dyn FnMut(&Row) -> u64;
@@ -25,7 +25,7 @@ impl Transmission {
 
 /// The tick at which an instance of a row is queued.
 pub fn release(row: &Row, starts: &Starts, instance: u64) -> u64 {
-    let start = starts[row[NODE] as usize - 1];
+    let start = starts[row[GROUP] as usize - 1];
     start + u64::from(row[OFFSET]) + instance * u64::from(row[PERIOD])
 }
 
@@ -74,7 +74,7 @@ mod tests {
         lengths::length(&STANDARD, row)
     }
 
-    /// Both nodes start at once: 16 and 64 meet at 0, 64 goes second.
+    /// Both groups start at once: 16 and 64 meet at 0, 64 goes second.
     #[test]
     fn whole_case_from_tick_0() {
         let list = schedule(&WHOLE_CASE, &[0; 16], 1000, &mut length);

@@ -1,23 +1,25 @@
 //! Frame tables: reading a file, checking rows in memory, writing a file.
 
-pub const FIELDS: usize = 7;
+pub const FIELDS: usize = 8;
 pub const NODE: usize = 0;
-pub const IDENTIFIER: usize = 1;
-pub const KIND: usize = 2;
-pub const PAYLOAD: usize = 3;
-pub const PERIOD: usize = 4;
-pub const OFFSET: usize = 5;
-pub const CLAIM: usize = 6;
+pub const GROUP: usize = 1;
+pub const IDENTIFIER: usize = 2;
+pub const KIND: usize = 3;
+pub const PAYLOAD: usize = 4;
+pub const PERIOD: usize = 5;
+pub const OFFSET: usize = 6;
+pub const CLAIM: usize = 7;
 
-pub const WIDTHS: [usize; FIELDS] = [3, 10, 3, 2, 8, 8, 8];
+pub const WIDTHS: [usize; FIELDS] = [3, 3, 10, 3, 2, 8, 8, 8];
 /// Bytes of a line, its line feed included.
-pub const LINE: usize = 43;
+pub const LINE: usize = 46;
 pub const MOST_LINES: usize = 64;
 pub const NODES: u32 = 16;
+pub const GROUPS: u32 = 16;
 const MOST_HYPERPERIOD: u64 = 1_000_000;
 const MOST_QUEUEINGS: u64 = 256;
 
-/// A line in memory: node, identifier, kind, payload, period, offset, claim.
+/// A line in memory: node, group, identifier, kind, payload, period, offset, claim.
 pub type Row = [u32; FIELDS];
 
 #[derive(Clone, Copy, Debug, PartialEq, Eq)]
@@ -30,7 +32,7 @@ pub fn refuse<T>(number: u32, place: u32) -> Result<T, Refusal> {
     Err(Refusal { number, place })
 }
 
-/// Reads a file: 1 (length), 2, then line by line 1, 3, 4, 5, then 6 and 7.
+/// Reads a file: 1 (length), 2, then line by line 1, 3, 4, 5, 15, then 6 and 7.
 pub fn parse(file: &[u8]) -> Result<Vec<Row>, Refusal> {
     if file.is_empty() || file.len() % LINE != 0 {
         return refuse(1, 0);
@@ -42,11 +44,11 @@ pub fn parse(file: &[u8]) -> Result<Vec<Row>, Refusal> {
     for line in file.chunks(LINE) {
         add_line(&mut rows, parse_line(line))?;
     }
-    check_nodes(&rows)?;
+    check_groups(&rows, GROUP)?;
     Ok(rows)
 }
 
-/// Checks rows in memory: 10, then line by line 4 and 5, then 6 and 7.
+/// Checks rows in memory: 10, then line by line 4, 5 and 15, then 6 and 7.
 pub fn check(words: &[u32]) -> Result<Vec<Row>, Refusal> {
     if words.is_empty() || words.len() % FIELDS != 0 || words.len() > MOST_LINES * FIELDS {
         return refuse(10, 0);
@@ -55,7 +57,7 @@ pub fn check(words: &[u32]) -> Result<Vec<Row>, Refusal> {
     for words in words.chunks(FIELDS) {
         add_line(&mut rows, check_line(words))?;
     }
-    check_nodes(&rows)?;
+    check_groups(&rows, GROUP)?;
     Ok(rows)
 }
 
@@ -100,6 +102,7 @@ fn add_line(rows: &mut Vec<Row>, line: Result<Row, u32>) -> Result<(), Refusal> 
     match line {
         Err(number) => refuse(number, place),
         Ok(row) if rows.iter().any(|earlier| same_frame(earlier, &row)) => refuse(5, place),
+        Ok(row) if rows.iter().any(|earlier| in_two_groups(earlier, &row)) => refuse(15, place),
         Ok(row) => {
             rows.push(row);
             Ok(())
@@ -109,6 +112,11 @@ fn add_line(rows: &mut Vec<Row>, line: Result<Row, u32>) -> Result<(), Refusal> 
 
 fn same_frame(one: &Row, other: &Row) -> bool {
     one[KIND] == other[KIND] && one[IDENTIFIER] == other[IDENTIFIER]
+}
+
+/// The same node, in another group.
+fn in_two_groups(one: &Row, other: &Row) -> bool {
+    one[NODE] == other[NODE] && one[GROUP] != other[GROUP]
 }
 
 /// A line of a file: its line feed, then in each column 3 before 4.
@@ -156,6 +164,7 @@ fn within_limits(column: usize, fields: &[u64; FIELDS]) -> bool {
     let value = fields[column];
     match column {
         NODE => (1..=u64::from(NODES)).contains(&value),
+        GROUP => (1..=u64::from(GROUPS)).contains(&value),
         KIND if value == 11 => fields[IDENTIFIER] <= 2047,
         KIND => value == 29 && fields[IDENTIFIER] <= 536_870_911,
         PAYLOAD => value <= 8,
@@ -165,25 +174,26 @@ fn within_limits(column: usize, fields: &[u64; FIELDS]) -> bool {
     }
 }
 
-/// Nodes rising, 6 before 7 in each.
-fn check_nodes(rows: &[Row]) -> Result<(), Refusal> {
-    for node in 1..=NODES {
-        let periods = periods_of(rows, node);
+/// Groups rising, 6 before 7 in each. What starts together has the same number in the column `by`:
+/// that of the group, or before there were groups that of the node.
+pub fn check_groups(rows: &[Row], by: usize) -> Result<(), Refusal> {
+    for group in 1..=GROUPS {
+        let periods = periods_of(rows, by, group);
         let hyperperiod = hyperperiod(&periods);
         if hyperperiod > MOST_HYPERPERIOD {
-            return refuse(6, node);
+            return refuse(6, group);
         }
         let queueings: u64 = periods.iter().map(|period| hyperperiod / period).sum();
         if queueings > MOST_QUEUEINGS {
-            return refuse(7, node);
+            return refuse(7, group);
         }
     }
     Ok(())
 }
 
-fn periods_of(rows: &[Row], node: u32) -> Vec<u64> {
-    let of_node = rows.iter().filter(|row| row[NODE] == node);
-    of_node.map(|row| u64::from(row[PERIOD])).collect()
+fn periods_of(rows: &[Row], by: usize, group: u32) -> Vec<u64> {
+    let of_group = rows.iter().filter(|row| row[by] == group);
+    of_group.map(|row| u64::from(row[PERIOD])).collect()
 }
 
 /// The least common multiple, or the first partial one that is too great.
@@ -206,7 +216,12 @@ fn common_divisor(a: u64, b: u64) -> u64 {
     }
 }
 
-/// The hyperperiod of a node of accepted rows.
-pub fn node_hyperperiod(rows: &[Row], node: u32) -> u64 {
-    hyperperiod(&periods_of(rows, node))
+/// The hyperperiod of a group of accepted rows.
+pub fn group_hyperperiod(rows: &[Row], group: u32) -> u64 {
+    hyperperiod_by(rows, GROUP, group)
+}
+
+/// That of what starts together by a column.
+pub fn hyperperiod_by(rows: &[Row], by: usize, number: u32) -> u64 {
+    hyperperiod(&periods_of(rows, by, number))
 }

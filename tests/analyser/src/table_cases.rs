@@ -3,9 +3,9 @@
 use crate::cases::Case;
 use crate::lengths::STANDARD;
 use crate::random::{clustered, dense, stretched, Random};
-use crate::table::{self, Row, FIELDS, IDENTIFIER, KIND, LINE, MOST_LINES, WIDTHS};
+use crate::table::{self, Row, FIELDS, IDENTIFIER, KIND, LINE, MOST_LINES, NODES, WIDTHS};
 
-const MOST_WORDS: usize = 512;
+const MOST_WORDS: usize = 600;
 const MOST_BYTES: usize = 4096;
 
 /// Number and place of a refusal; both 0 for an accepted table.
@@ -13,7 +13,8 @@ type Outcome = (u32, u32);
 const GOOD: Outcome = (0, 0);
 
 /// The columns as edits name them; the last is the line feed.
-const NAMES: [&str; 8] = ["node", "id", "kind", "payload", "period", "offset", "claim", "end"];
+const NAMES: [&str; 9] =
+    ["node", "group", "id", "kind", "payload", "period", "offset", "claim", "end"];
 
 /// Good files with some columns changed: lines, outcome, edits one by one.
 const FILE_EDITS: &[(usize, Outcome, &str)] = &[
@@ -21,10 +22,15 @@ const FILE_EDITS: &[(usize, Outcome, &str)] = &[
     (64, (1, 33), "33.end=0"),
     (64, (1, 64), "64.end=\r|64.end=\0|64.end=x;17.period=1001"),
     (6, (1, 5), "5.node=x;5.end=x|5.claim=;5.end=x|5.node=17;5.end=x"),
-    (6, (1, 5), "6.node=x;5.end=x|5.id=5;5.end=x"),
+    (6, (1, 5), "6.node=x;5.end=x|5.id=5;5.end=x|5.node=1;5.end=x"),
     (6, (3, 4), "4.claim=x;5.end=x"),
     (6, (4, 4), "4.node=17;5.end=x"),
     (6, (5, 3), "3.id=5;4.end=x|3.id=5;4.node=x"),
+    (6, (15, 3), "3.node=1;4.end=x|3.node=1;4.node=x|3.node=1;4.group=x|3.node=1;4.claim=x"),
+    (6, (3, 3), "3.node=1;3.claim=x|3.node=1;3.id=x|3.node=1;3.group=x|4.node=1;3.payload=x"),
+    (6, (3, 4), "4.group=00|4.group=|4.group= 1 |4.group=x;4.id=x|4.group=x;5.node=17"),
+    (6, (3, 4), "4.group=x;4.claim=0|4.group=17;4.node=x|4.group=-1|4.group=01"),
+    (6, (4, 4), "4.group=17;4.id=x|4.group=0;4.claim=x|4.group=999|4.node=17;4.group=x"),
     (64, (3, 1), "1.node=x|1.claim=x;2.node=17"),
     (64, (3, 31), "31.period=\n11|31.id=x;33.id=5"),
     (64, (3, 64), "64.node=1 1|64.claim=x;17.period=1001"),
@@ -41,25 +47,45 @@ const FILE_EDITS: &[(usize, Outcome, &str)] = &[
 /// The same for edits that rows in memory can hold as well.
 const ROW_EDITS: &[(usize, Outcome, &str)] = &[
     (3, GOOD, "2.node=1|2.node=16|1.id=0|1.id=2047|2.id=0|2.id=536870911"),
+    (3, GOOD, "2.group=1|2.group=16|1.group=1;2.group=16;3.group=1|1.group=9;2.group=9;3.group=9"),
     (3, GOOD, "3.kind=11|3.kind=29|2.payload=0|2.payload=8|2.claim=1|2.claim=1000000"),
-    (3, GOOD, "2.period=1;2.offset=0|2.period=1000000|2.offset=0|2.offset=999"),
-    (3, GOOD, "2.period=1000000;2.offset=999999|2.id=5"),
+    (3, GOOD, "3.period=1;3.offset=0|3.period=1000000|2.offset=0|2.offset=999"),
+    (3, GOOD, "3.period=1000000;3.offset=999999|2.id=5"),
+    (3, (7, 16), "2.period=1;2.offset=0|2.period=1000000|1.period=1000000;1.offset=999999"),
     (3, (4, 1), "1.id=2048|1.id=536870911"),
     (3, (4, 2), "2.node=0|2.node=17|2.id=536870912|2.payload=9|2.claim=0|2.claim=1000001"),
+    (3, (4, 2), "2.group=0|2.group=17|2.group=0;3.id=5|2.group=17;3.node=1"),
     (3, (4, 2), "2.period=0;2.offset=0|2.period=1;2.offset=1|2.period=1000001|2.offset=1000"),
     (3, (4, 2), "2.claim=0;3.id=5"),
     (3, (4, 3), "3.kind=0|3.kind=10|3.kind=12|3.kind=28|3.kind=30|3.id=5;3.claim=0"),
+    (3, (4, 3), "3.node=1;3.claim=0|3.node=1;3.kind=12|3.node=1;3.payload=9|3.node=1;3.group=17"),
     (64, (4, 1), "1.claim=0;64.node=0"),
-    (64, (4, 64), "64.node=17|64.claim=0;17.period=1001"),
-    (64, (5, 64), "64.id=6|64.kind=11;64.id=5|64.id=6;17.period=1001"),
+    (64, (4, 64), "64.node=17|64.group=17|64.claim=0;17.period=1001|64.node=1;64.claim=0"),
+    (64, (5, 64), "64.id=6|64.kind=11;64.id=5|64.id=6;17.period=1001|64.id=6;64.group=1"),
     (64, (5, 2), "2.kind=11;2.id=5|2.kind=11;2.id=5;3.id=5"),
-    (6, (5, 3), "3.id=5;5.id=5|3.id=5;4.node=0|4.id=6;3.id=5"),
-    (64, (6, 1), "17.period=1001"),
-    (64, (7, 2), "18.period=999"),
-    (64, (6, 16), "64.period=1001"),
+    (6, (5, 3), "3.id=5;5.id=5|3.id=5;4.node=0|4.id=6;3.id=5|3.id=5;3.node=1|3.id=5;4.node=1"),
+    (6, (15, 3), "3.node=1|3.node=2|3.node=1;5.node=1|3.node=1;4.node=0|3.node=1;4.id=6"),
+    (6, (15, 3), "3.node=1;4.claim=0|3.node=1;4.group=17|3.node=1;5.id=5"),
+    (6, (15, 2), "2.node=1;2.group=15|2.node=1;2.group=1;3.id=5|2.node=1;2.group=15;3.node=1"),
+    (6, (4, 2), "3.node=1;2.claim=0|3.node=1;2.group=0"),
+    (6, (5, 4), "5.node=1;4.id=6|4.node=1;4.id=6"),
+    (64, (15, 17), "17.group=1|17.group=15;18.group=1|1.group=1|17.node=3;18.period=1001"),
+    (
+        64,
+        (15, 64),
+        "64.group=1|64.group=16|64.node=1|64.node=1;17.period=1001|64.group=1;18.period=999",
+    ),
+    (64, (6, 16), "17.period=1001|18.period=1001|1.period=1001;2.period=999"),
+    (64, (7, 16), "18.period=999|17.period=999"),
+    (
+        64,
+        (6, 9),
+        "64.period=1001|63.period=1001|64.period=1001;1.period=999|1.period=1001;64.period=1001",
+    ),
+    (64, (7, 9), "64.period=999;17.period=1001"),
 ];
 
-/// Nodes with the periods of their frames, in table order.
+/// Groups with the periods of their frames, in table order.
 type Periods<'a> = &'a [(u32, &'a [u32])];
 const PATTERNS: &[(Periods, Outcome)] = &[
     (&[(1, &[1000, 1001])], (6, 1)),
@@ -85,12 +111,35 @@ const PATTERNS: &[(Periods, Outcome)] = &[
     (&[(9, &[250; 63]), (9, &[200])], (7, 9)),
 ];
 
-/// Document 01's whole case.
+/// Nodes, groups and periods of frames, in table order.
+type Parts<'a> = &'a [(u32, u32, u32)];
+const PARTS: &[(Parts, Outcome)] = &[
+    // Periods that do not go together: in one group, and in two.
+    (&[(1, 3, 1000), (2, 3, 1001)], (6, 3)),
+    (&[(1, 3, 1000), (2, 4, 1001)], GOOD),
+    (&[(1, 3, 999), (2, 3, 1000)], (7, 3)),
+    (&[(1, 3, 999), (2, 4, 1000)], GOOD),
+    (&[(1, 16, 1), (2, 16, 255)], GOOD),
+    (&[(1, 16, 1), (2, 16, 256)], (7, 16)),
+    // The group's number, and not a node's.
+    (&[(9, 2, 1000), (9, 2, 1001), (1, 7, 1000), (1, 7, 1001)], (6, 2)),
+    (&[(1, 7, 1000), (1, 7, 1001), (9, 2, 999), (9, 2, 1000)], (7, 2)),
+    (&[(1, 7, 999), (1, 7, 1000), (9, 2, 1000), (9, 2, 1001)], (6, 2)),
+    (&[(16, 1, 101), (15, 1, 9901), (14, 2, 1), (13, 2, 256)], (6, 1)),
+    // Each node within the limits, the group not.
+    (&[(5, 6, 100), (5, 6, 100), (6, 6, 13_000), (6, 6, 26_000)], (7, 6)),
+    (&[(5, 6, 100), (5, 6, 100), (6, 5, 13_000), (6, 5, 26_000)], GOOD),
+    // A second group comes before patterns.
+    (&[(1, 3, 1000), (1, 3, 1001), (2, 3, 1), (2, 4, 1)], (15, 4)),
+    (&[(1, 1, 1), (1, 2, 256), (1, 3, 1)], (15, 2)),
+];
+
+/// Document 01's whole case, groups as nodes.
 pub const WHOLE_CASE: [Row; 4] = [
-    [1, 16, 11, 8, 1000, 0, 300],
-    [1, 32, 11, 0, 1000, 200, 189],
-    [1, 48, 11, 8, 1000, 300, 198],
-    [2, 64, 11, 1, 1000, 0, 200],
+    [1, 1, 16, 11, 8, 1000, 0, 300],
+    [1, 1, 32, 11, 0, 1000, 200, 189],
+    [1, 1, 48, 11, 8, 1000, 300, 198],
+    [2, 2, 64, 11, 1, 1000, 0, 200],
 ];
 
 pub fn all() -> Vec<Case> {
@@ -107,12 +156,13 @@ pub fn all() -> Vec<Case> {
     cases.list
 }
 
-/// Nodes 1, 2, .., 16, 1, ..; kinds 11 and 29 by turns; identifiers from 5.
+/// Nodes 1, 2, .., 16, 1, ..; two a group, the first two in group 16, the last two in group 9; kinds
+/// 11 and 29 by turns; identifiers from 5.
 pub fn good_rows(lines: usize) -> Vec<Row> {
     let row = |line: u32| {
         let kind = if line % 2 == 0 { 11 } else { 29 };
-        let node = line % 16 + 1;
-        [node, line + 5, kind, line % 9, 1000, line * 10, 400 + line]
+        let node = line % NODES;
+        [node + 1, 16 - node / 2, line + 5, kind, line % 9, 1000, line * 10, 400 + line]
     };
     (0..lines as u32).map(row).collect()
 }
@@ -154,14 +204,20 @@ pub fn edited_rows(lines: usize, text: &str) -> Vec<Row> {
     rows
 }
 
-pub fn pattern_rows(nodes: Periods) -> Vec<Row> {
-    let of_node = |(node, periods): &(u32, &[u32])| {
-        let row = |period: &u32| [*node, 0, 11, 0, *period, 0, 500];
-        periods.iter().map(row).collect::<Vec<Row>>()
+/// Rows of groups, each of the node with its number.
+pub fn pattern_rows(groups: Periods) -> Vec<Row> {
+    let parts = |(group, periods): &(u32, &[u32])| {
+        let part = |period: &u32| (*group, *group, *period);
+        periods.iter().map(part).collect::<Vec<_>>()
     };
-    let mut rows: Vec<Row> = nodes.iter().flat_map(of_node).collect();
-    (0..).zip(&mut rows).for_each(|(line, row)| row[IDENTIFIER] = line);
-    rows
+    part_rows(&groups.iter().flat_map(parts).collect::<Vec<_>>())
+}
+
+pub fn part_rows(parts: Parts) -> Vec<Row> {
+    let row = |(line, (node, group, period)): (u32, &(u32, u32, u32))| {
+        [*node, *group, line, 11, 0, *period, 0, 500]
+    };
+    (0..).zip(parts).map(row).collect()
 }
 
 struct Cases {
@@ -205,20 +261,21 @@ impl Cases {
     /// 1 (length), 2 and 10, before anything in the lines.
     fn lengths(&mut self) {
         let many = good_file(1).repeat(96);
-        let bytes = [0, 1, 42, 44, 85, 87, 2751, 2753, 65 * LINE - 1, 65 * LINE + 1, MOST_BYTES];
+        let (full, most) = (MOST_LINES * LINE, 65 * LINE);
+        let bytes = [0, 1, 43, 45, 47, 91, 93, full - 1, full + 1, most - 1, most + 1, MOST_BYTES];
         for length in bytes {
             self.file(many[..length].to_vec(), (1, 0));
         }
         self.file(vec![b'x'; LINE + 1], (1, 0));
         self.file(vec![b'x'; 65 * LINE + 1], (1, 0));
-        for lines in [65, 66, 95] {
+        for lines in [65, 66, 89] {
             self.file(many[..lines * LINE].to_vec(), (2, 0));
             self.file(vec![b'x'; lines * LINE], (2, 0));
         }
         self.file(vec![b'x'; LINE], (1, 1));
         self.file(vec![b'\n'; LINE], (3, 1));
-        let words = [good_rows(MOST_LINES), good_rows(10)].concat().concat();
-        for count in [0, 1, 6, 8, 13, 15, 447, 449, 455, MOST_WORDS] {
+        let words = [good_rows(MOST_LINES), good_rows(11)].concat().concat();
+        for count in [0, 1, 7, 9, 14, 15, 17, 448 + 7, 511, 513, 519, 520, MOST_WORDS] {
             self.checked(&words[..count], (10, 0));
             self.written(&vec![u32::MAX; count], MOST_BYTES, (10, 0));
         }
@@ -263,7 +320,7 @@ impl Cases {
 
     /// 3 in one column beside 4 in another: the left one, an identifier's 4 at the kind.
     fn two_columns(&mut self) {
-        let too_great = ["17", "536870912", "30", "9", "1000001", "1000", "1000001"];
+        let too_great = ["17", "17", "536870912", "30", "9", "1000001", "1000", "1000001"];
         for (broken, name) in NAMES[..FIELDS].iter().enumerate() {
             for (outside, value) in too_great.iter().enumerate() {
                 if broken == outside {
@@ -277,10 +334,11 @@ impl Cases {
         }
     }
 
-    /// 6 and 7 by nodes, in files and in memory.
+    /// 6 and 7 by groups, in files and in memory.
     fn patterns(&mut self) {
-        for (index, (nodes, outcome)) in PATTERNS.iter().enumerate() {
-            let rows = pattern_rows(nodes);
+        let of_groups = PATTERNS.iter().map(|(groups, outcome)| (pattern_rows(groups), outcome));
+        let of_nodes = PARTS.iter().map(|(parts, outcome)| (part_rows(parts), outcome));
+        for (index, (rows, outcome)) in of_groups.chain(of_nodes).enumerate() {
             self.rows(&rows, index % 3 == 2, *outcome);
             self.file(table::file_of(&rows), *outcome);
         }
@@ -304,20 +362,21 @@ impl Cases {
 
     /// An area too short beside each other refusal.
     fn room_comes_last(&mut self) {
-        let edited = ["1.end=x", "1.claim=x", "1.claim=0", "3.id=5"];
-        for (text, outcome) in edited.into_iter().zip([(1, 1), (3, 1), (4, 1), (5, 3)]) {
-            self.read(edited_file(3, text), 20, outcome);
+        let edited = ["1.end=x", "1.claim=x", "1.claim=0", "3.id=5", "3.node=1"];
+        let outcomes = [(1, 1), (3, 1), (4, 1), (5, 3), (15, 3)];
+        for (text, outcome) in edited.into_iter().zip(outcomes) {
+            self.read(edited_file(3, text), 3 * FIELDS - 1, outcome);
         }
         self.read(vec![0; 1], 0, (1, 0));
         self.read(good_file(1).repeat(65), 0, (2, 0));
-        self.written(&[1; 8], 0, (10, 0));
-        for (text, outcome) in [("1.claim=0", (4, 1)), ("3.id=5", (5, 3))] {
-            self.written(&edited_rows(3, text).concat(), 128, outcome);
+        self.written(&[1; 9], 0, (10, 0));
+        for (text, outcome) in [("1.claim=0", (4, 1)), ("3.id=5", (5, 3)), ("3.node=1", (15, 3))] {
+            self.written(&edited_rows(3, text).concat(), 3 * LINE - 1, outcome);
         }
-        for (nodes, outcome) in &PATTERNS[..2] {
-            let rows = pattern_rows(nodes);
+        for (groups, outcome) in &PATTERNS[..2] {
+            let rows = pattern_rows(groups);
             self.read(table::file_of(&rows), 0, *outcome);
-            self.written(&rows.concat(), 85, *outcome);
+            self.written(&rows.concat(), 2 * LINE - 1, *outcome);
         }
     }
 
@@ -359,11 +418,11 @@ impl Cases {
 
 fn random_table(random: &mut Random) -> Vec<Row> {
     loop {
-        let nodes = random.between(1, 16);
+        let groups = random.between(1, 16);
         let rows = match random.below(4) {
-            0 | 1 => clustered(random, &STANDARD, nodes, 5, (50, 900)),
+            0 | 1 => clustered(random, &STANDARD, groups, 5, (50, 900)),
             2 => dense(random, &STANDARD, 16),
-            _ => stretched(random, nodes, 200, 1000),
+            _ => stretched(random, groups, 200, 1000),
         };
         if table::check(&rows.concat()).is_ok() {
             return rows;
@@ -371,7 +430,7 @@ fn random_table(random: &mut Random) -> Vec<Row> {
     }
 }
 
-fn damage_file(random: &mut Random, file: &mut [u8], places: u64) {
+pub fn damage_file(random: &mut Random, file: &mut [u8], places: u64) {
     for _ in 0..places {
         let at = random.below(file.len() as u64) as usize;
         file[at] = random.pick(b"  00123456789\nx");
@@ -379,7 +438,7 @@ fn damage_file(random: &mut Random, file: &mut [u8], places: u64) {
 }
 
 /// Changes a field, sometimes to that of the line before.
-fn damage_words(random: &mut Random, words: &mut [u32], places: u64) {
+pub fn damage_words(random: &mut Random, words: &mut [u32], places: u64) {
     for _ in 0..places {
         let at = random.below(words.len() as u64) as usize;
         words[at] = match random.below(3) {
