@@ -1,6 +1,6 @@
 //! The time of whole listings: the library beside a yardstick, the analyser and plain enumeration.
 
-use crate::bench_groups::{groups, Table};
+use crate::bench_sets::{sets, Table};
 use crate::lent::Lent;
 use crate::{library, yardstick};
 use analyser::bounds::{rank, View};
@@ -66,7 +66,7 @@ impl Measured {
 pub fn bench() -> io::Result<bool> {
     println!("{LEGEND}");
     let mut same = true;
-    for (title, tables) in groups() {
+    for (title, tables) in sets() {
         println!("\n{title}");
         let [library, yardstick, analyser, plain] = LISTERS.map(|lister| lister.name);
         print_line(&[

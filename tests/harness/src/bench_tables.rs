@@ -2,9 +2,10 @@
 
 use analyser::lengths::{length, STANDARD};
 use analyser::random::Random;
-use analyser::table::{self, Row, MOST_LINES, NODE, PERIOD};
+use analyser::table::{self, Row, GROUP, MOST_LINES, NODE, PERIOD};
 
-/// Rows in order of rank; claims of 1 ask for the exact bound of every row that has one.
+/// Rows in order of rank, each node a group by itself; claims of 1 ask for the exact bound of every
+/// row that has one.
 #[derive(Default)]
 pub struct Builder {
     pub rows: Vec<Row>,
@@ -13,7 +14,7 @@ pub struct Builder {
 impl Builder {
     fn frame(&mut self, node: u32, payload: u32, period: u32, offset: u32) {
         let identifier = self.rows.len() as u32;
-        self.rows.push([node, identifier, 11, payload, period, offset, 1]);
+        self.rows.push([node, node, identifier, 11, payload, period, offset, 1]);
     }
 }
 
@@ -204,7 +205,7 @@ impl Drawing {
         let identifier = first + random.below(200) as u32;
         let offset = random.below((period / self.unit).into()) as u32 * self.unit;
         let claim = if self.deadlines { period } else { 1 };
-        [0, identifier, 11, payload, period, offset, claim]
+        [0, 0, identifier, 11, payload, period, offset, claim]
     }
 }
 
@@ -221,7 +222,7 @@ fn weighted<T: Copy>(random: &mut Random, choices: &[T], weight: impl Fn(&T) -> 
 }
 
 fn with_node(mut row: Row, node: u32) -> Row {
-    row[NODE] = node;
+    (row[NODE], row[GROUP]) = (node, node);
     row
 }
 

@@ -4,54 +4,111 @@ use crate::call::{Call, OnFile, OnRows};
 use crate::lengths::table_of;
 use crate::lent::{filled, Element, Lent};
 use crate::{library, yardstick};
-use analyser::judgement::{judge, precise_bound, Search};
+use analyser::before;
+use analyser::judgement::{judge, precise_bound, Judgement, Search};
 use analyser::lengths::{self, LengthTable, STANDARD};
 use analyser::listing::{bound_number, judge_number, list_rows_by, refusal_number};
 use analyser::load_sheet::sheet_of;
 use analyser::random::Random;
-use analyser::table::{self, Refusal, Row, FIELDS, LINE};
+use analyser::table::{self, copy_into, Refusal, Row, GROUP, NODE};
 
-/// Which lengths the analyser goes by.
+/// What the analyser goes by.
 #[derive(Clone, Copy)]
-pub enum Lengths {
-    /// Those that the call is given.
-    Loaded,
-    /// Its constant, which is document 01's, whatever the call is given.
-    Constant,
+pub enum Rules {
+    /// The lengths that the call is given, and groups.
+    Now,
+    /// Its constant, which is document 01's, whatever the call is given; and nodes, in a table without
+    /// the column of the groups.
+    Before,
 }
 
-impl Lengths {
-    fn of_file(self, file: &[u8]) -> Result<LengthTable, Refusal> {
+impl Rules {
+    fn lengths_of_file(self, file: &[u8]) -> Result<LengthTable, Refusal> {
         match self {
-            Lengths::Loaded => lengths::parse(file),
-            Lengths::Constant => Ok(STANDARD),
+            Rules::Now => lengths::parse(file),
+            Rules::Before => Ok(STANDARD),
         }
     }
 
-    fn of_numbers(self, numbers: &[u32]) -> LengthTable {
+    fn lengths_of(self, numbers: &[u32]) -> LengthTable {
         match self {
-            Lengths::Loaded => table_of(numbers),
-            Lengths::Constant => STANDARD,
+            Rules::Now => table_of(numbers),
+            Rules::Before => STANDARD,
+        }
+    }
+
+    fn parse(self, file: &[u8]) -> Result<Vec<Row>, Refusal> {
+        match self {
+            Rules::Now => table::parse(file),
+            Rules::Before => before::parse(&before::narrowed_file(file)),
+        }
+    }
+
+    fn check(self, words: &[u32]) -> Result<Vec<Row>, Refusal> {
+        match self {
+            Rules::Now => table::check(words),
+            Rules::Before => before::check(&before::narrowed_words(words)),
+        }
+    }
+
+    /// The rows as the library has them: before there were groups, the node's number as the group's.
+    fn in_library(self, mut rows: Vec<Row>) -> Vec<Row> {
+        if let Rules::Before = self {
+            rows.iter_mut().for_each(|row| row[GROUP] = row[NODE]);
+        }
+        rows
+    }
+
+    fn judge(self, lengths: &LengthTable, rows: &[Row], row: u64) -> Result<Judgement, Refusal> {
+        match self {
+            Rules::Now => judge(lengths, &rows.concat(), row.into()),
+            Rules::Before => before::judge(lengths, rows, row.into()),
+        }
+    }
+
+    fn precise_bound(self, lengths: &LengthTable, rows: &[Row], row: u64) -> Result<u64, Refusal> {
+        match self {
+            Rules::Now => precise_bound(lengths, &rows.concat(), row.into()),
+            Rules::Before => before::precise_bound(lengths, rows, row.into()),
+        }
+    }
+
+    /// The listing of accepted rows, which the yardstick must give too.
+    fn list(self, lengths: &LengthTable, rows: Vec<Row>) -> Result<String, String> {
+        let text = match self {
+            Rules::Now => list_rows_by(Search::Pruned, lengths, &rows),
+            Rules::Before => before::list(lengths, &rows),
+        };
+        if yardstick::list(lengths, &self.in_library(rows)) == text {
+            Ok(text)
+        } else {
+            Err("the yardstick's listing is not the analyser's".into())
+        }
+    }
+
+    fn sheet(self, lengths: &LengthTable, rows: &[Row]) -> String {
+        match self {
+            Rules::Now => sheet_of(lengths, rows),
+            Rules::Before => before::sheet(lengths, rows),
         }
     }
 }
 
 /// The answer, or what differs.
-pub fn compare(call: &Call, by: Lengths, random: &mut Random) -> Result<i64, String> {
+pub fn compare(call: &Call, rules: Rules, random: &mut Random) -> Result<i64, String> {
     match call {
         Call::File(lengths, file, operation) => {
-            compare_file(random, by.of_file(lengths), lengths, file, *operation)
+            compare_file(random, rules, lengths, file, *operation)
         }
         Call::Rows(lengths, words, operation) => {
-            compare_rows(random, &by.of_numbers(lengths), lengths, words, *operation)
+            compare_rows(random, rules, lengths, words, *operation)
         }
         Call::ReadLengths(lengths, file, size) => {
-            let operation = OnFile::LoadSheet(*size);
-            compare_file(random, by.of_file(lengths), lengths, file, operation)
+            compare_file(random, rules, lengths, file, OnFile::LoadSheet(*size))
         }
         Call::WriteLengths(lengths, size) => {
-            let wanted = by.of_numbers(lengths);
-            let write = |area: &mut [u8]| elements(lengths::write_into(&wanted, area), 1);
+            let wanted = rules.lengths_of(lengths);
+            let write = |area: &mut [u8]| written(lengths::write_into(&wanted, area));
             let none: &[u8] = &[];
             with_area(random, none, lengths, *size, write, |_, lengths, area| {
                 library::write_lengths(lengths, area)
@@ -60,43 +117,44 @@ pub fn compare(call: &Call, by: Lengths, random: &mut Random) -> Result<i64, Str
     }
 }
 
-/// An operation on files, by lengths that were read or refused.
+/// An operation on files: the lengths' refusal comes before the table's.
 fn compare_file(
     random: &mut Random,
-    loaded: Result<LengthTable, Refusal>,
+    rules: Rules,
     lengths: &[u8],
     file: &[u8],
     operation: OnFile,
 ) -> Result<i64, String> {
-    let rows = || table::parse(file);
+    let both = || Ok((rules.lengths_of_file(lengths)?, rules.parse(file)?));
     match operation {
         OnFile::Judge(row) => {
-            let judged = loaded.and_then(|by| judge(&by, &rows()?.concat(), row.into()));
+            let judged = both().and_then(|(by, rows)| rules.judge(&by, &rows, row));
             without_area(random, lengths, file, judge_number(judged), |lengths, file| {
                 library::judge(lengths, file, row)
             })
         }
         OnFile::PreciseBound(row) => {
-            let bound = loaded.and_then(|by| precise_bound(&by, &rows()?.concat(), row.into()));
+            let bound = both().and_then(|(by, rows)| rules.precise_bound(&by, &rows, row));
             without_area(random, lengths, file, bound_number(bound), |lengths, file| {
                 library::precise_bound(lengths, file, row)
             })
         }
         OnFile::Read(size) => {
-            let read = |area: &mut [u32]| elements(table::read_into(file, area), FIELDS);
+            let rows = rules.parse(file).map(|rows| rules.in_library(rows));
+            let read = |area: &mut [u32]| copied(rows.map(|rows| rows.concat()), area);
             with_area(random, lengths, file, size, read, |_, file, area| library::read(file, area))
         }
         OnFile::List(size) => {
-            let listed = match loaded.and_then(|by| Ok((by, rows()?))) {
-                Ok((by, rows)) => Ok(listing(&by, &rows)?),
+            let listed = match both() {
+                Ok((by, rows)) => Ok(rules.list(&by, rows)?.into_bytes()),
                 Err(refusal) => Err(refusal),
             };
-            let text = |area: &mut [u8]| text_into(listed, area);
+            let text = |area: &mut [u8]| copied(listed, area);
             with_area(random, lengths, file, size, text, library::list)
         }
         OnFile::LoadSheet(size) => {
-            let sheet = loaded.and_then(|by| Ok(sheet_of(&by, &rows()?)));
-            let text = |area: &mut [u8]| text_into(sheet, area);
+            let sheet = both().map(|(by, rows)| rules.sheet(&by, &rows).into_bytes());
+            let text = |area: &mut [u8]| copied(sheet, area);
             with_area(random, lengths, file, size, text, library::load_sheet)
         }
     }
@@ -105,30 +163,34 @@ fn compare_file(
 /// An operation on rows in memory, by lengths that are checked with them.
 fn compare_rows(
     random: &mut Random,
-    by: &LengthTable,
+    rules: Rules,
     lengths: &[u32],
     words: &[u32],
     operation: OnRows,
 ) -> Result<i64, String> {
+    let by = rules.lengths_of(lengths);
+    let both = || lengths::check(&by).and_then(|()| rules.check(words));
     match operation {
         OnRows::Judge(row) => {
-            let wanted = judge_number(judge(by, words, row.into()));
+            let wanted = judge_number(both().and_then(|rows| rules.judge(&by, &rows, row)));
             without_area(random, lengths, words, wanted, |lengths, words| {
                 library::judge_rows(lengths, words, row)
             })
         }
         OnRows::PreciseBound(row) => {
-            let wanted = bound_number(precise_bound(by, words, row.into()));
+            let bound = both().and_then(|rows| rules.precise_bound(&by, &rows, row));
+            let wanted = bound_number(bound);
             without_area(random, lengths, words, wanted, |lengths, words| {
                 library::precise_bound_rows(lengths, words, row)
             })
         }
         OnRows::Check => {
-            let wanted = table::check(words).map_or_else(refusal_number, |_| 0);
+            let wanted = rules.check(words).map_or_else(refusal_number, |_| 0);
             without_area(random, lengths, words, wanted, |_, words| library::check(words))
         }
         OnRows::Write(size) => {
-            let write = |area: &mut [u8]| elements(table::write_into(words, area), LINE);
+            let rows = rules.check(words).map(|rows| rules.in_library(rows));
+            let write = |area: &mut [u8]| copied(rows.map(|rows| table::file_of(&rows)), area);
             with_area(random, lengths, words, size, write, |_, words, area| {
                 library::write(words, area)
             })
@@ -136,30 +198,13 @@ fn compare_rows(
     }
 }
 
-fn elements(lines: Result<usize, Refusal>, in_a_line: usize) -> i64 {
-    lines.map_or_else(refusal_number, |lines| (lines * in_a_line) as i64)
+fn written(size: Result<usize, Refusal>) -> i64 {
+    size.map_or_else(refusal_number, |size| size as i64)
 }
 
-/// The analyser's listing of accepted rows, which the yardstick must give too.
-fn listing(lengths: &LengthTable, rows: &[Row]) -> Result<String, String> {
-    let text = list_rows_by(Search::Pruned, lengths, rows);
-    if yardstick::list(lengths, rows) == text {
-        Ok(text)
-    } else {
-        Err("the yardstick's listing is not the analyser's".into())
-    }
-}
-
-/// A text of accepted rows; an area too short comes last.
-fn text_into(text: Result<String, Refusal>, area: &mut [u8]) -> i64 {
-    match text {
-        Err(refusal) => refusal_number(refusal),
-        Ok(text) if text.len() > area.len() => refusal_number(Refusal { number: 8, place: 0 }),
-        Ok(text) => {
-            area[..text.len()].copy_from_slice(text.as_bytes());
-            text.len() as i64
-        }
-    }
+/// Puts a result into the area: how many elements it has; an area too short comes last.
+fn copied<T: Copy>(result: Result<Vec<T>, Refusal>, area: &mut [T]) -> i64 {
+    written(result.and_then(|result| copy_into(&result, area).map(|()| result.len())))
 }
 
 /// Calls with no area; lengths and input stay.

@@ -3,11 +3,13 @@
 use crate::lent::{filled, Element};
 use analyser::random::Random;
 use analyser::table::{
-    Row, FIELDS, IDENTIFIER, KIND, LINE, MOST_LINES, NODE, OFFSET, PERIOD, WIDTHS,
+    Row, CLAIM, FIELDS, GROUP, GROUPS, IDENTIFIER, KIND, LINE, MOST_LINES, NODE, OFFSET, PERIOD,
+    WIDTHS,
 };
 
 /// For each column the limits, what stands beside them, and what fewer bits would take for them.
 const AT_LIMITS: [&[u32]; FIELDS] = [
+    &[0, 1, 16, 17, 257],
     &[0, 1, 16, 17, 257],
     &[0, 2047, 2048, 536_870_911, 536_870_912, u32::MAX],
     &[0, 10, 11, 12, 28, 29, 30, 267],
@@ -21,7 +23,7 @@ const AT_LIMITS: [&[u32]; FIELDS] = [
 const FRAMES: &[(u32, u32)] =
     &[(11, 0), (11, 2047), (11, 2048), (29, 0), (29, 536_870_911), (29, 536_870_912)];
 
-/// Periods that bring a node to the limits of its pattern.
+/// Periods that bring a group to the limits of its pattern.
 const PERIODS: &[u32] = &[
     1, 2, 3, 125, 250, 255, 256, 999, 1000, 1001, 3906, 3907, 4000, 65_536, 65_537, 200_000,
     500_000, 999_983, 999_999, 1_000_000,
@@ -43,18 +45,22 @@ const LONG_IDENTIFIERS: &[&[u8]] =
 /// Changes fields to values at and beyond their limits, to those of other lines, or at random.
 pub fn damage_rows(random: &mut Random, rows: &mut [Row]) {
     let line = some_line(random, rows.len());
-    let other = random.below(rows.len() as u64) as usize;
+    let other = random.pick(rows);
     let column = random.below(FIELDS as u64) as usize;
-    match random.below(18) {
+    match random.below(26) {
         0..=4 => rows[line][column] = random.pick(AT_LIMITS[column]),
         5 => (rows[line][KIND], rows[line][IDENTIFIER]) = random.pick(FRAMES),
         6 => rows[line][OFFSET] = rows[line][PERIOD].saturating_sub(random.below(2) as u32),
         7..=9 => {
-            rows[line][IDENTIFIER] = rows[other][IDENTIFIER];
-            rows[line][KIND] = rows[other][KIND];
+            rows[line][IDENTIFIER] = other[IDENTIFIER];
+            rows[line][KIND] = other[KIND];
         }
-        10 => rows[line][NODE] = rows[other][NODE],
-        11 => rows[line][column] = random.word() as u32,
+        10 => rows[line][..IDENTIFIER].copy_from_slice(&other[..IDENTIFIER]),
+        11..=12 => rows[line][NODE] = other[NODE],
+        13 => rows[line][GROUP] = other[GROUP],
+        14 => rows[line][GROUP] = random.between(1, GROUPS.into()) as u32,
+        15..=18 => set_second_group(random, rows, line),
+        19 => rows[line][column] = random.word() as u32,
         _ => set_periods(random, rows, line),
     }
 }
@@ -68,15 +74,30 @@ fn some_line(random: &mut Random, lines: usize) -> usize {
     }
 }
 
-/// Gives the frames of a line's node periods near the limits of a pattern.
+/// Puts the node of another line in a second group; mostly something else is wrong too, on the same
+/// line or on any.
+fn set_second_group(random: &mut Random, rows: &mut [Row], line: usize) {
+    let other = random.pick(rows);
+    rows[line][NODE] = other[NODE];
+    rows[line][GROUP] = other[GROUP] % GROUPS + 1;
+    let at = if random.percent(50) { line } else { some_line(random, rows.len()) };
+    match random.below(5) {
+        0 => rows[at][CLAIM] = random.pick(&[0, 1_000_001]),
+        1..=2 => rows[at][IDENTIFIER..=KIND].copy_from_slice(&other[IDENTIFIER..=KIND]),
+        3 => set_periods(random, rows, at),
+        _ => (),
+    }
+}
+
+/// Gives the frames of a line's group periods near the limits of a pattern.
 fn set_periods(random: &mut Random, rows: &mut [Row], line: usize) {
-    let node = rows[line][NODE];
+    let [node, group, ..] = rows[line];
     let next = (line + 1) % rows.len();
-    rows[next][NODE] = node;
-    let of_node = rows.iter_mut().filter(|row| row[NODE] == node);
-    let mut of_node: Vec<&mut Row> = of_node.collect();
-    let periods = periods(random, of_node.len());
-    for (row, period) in of_node.iter_mut().zip(periods) {
+    (rows[next][NODE], rows[next][GROUP]) = (node, group);
+    let of_group = rows.iter_mut().filter(|row| row[GROUP] == group);
+    let mut of_group: Vec<&mut Row> = of_group.collect();
+    let periods = periods(random, of_group.len());
+    for (row, period) in of_group.iter_mut().zip(periods) {
         row[PERIOD] = period;
         row[OFFSET] %= period;
     }
@@ -119,17 +140,17 @@ pub fn damage_file(random: &mut Random, file: &mut Vec<u8>) {
     }
     let line = some_line(random, file.len() / LINE);
     let column = random.below(FIELDS as u64) as usize;
-    match random.below(8) {
-        0 => file[line * LINE + LINE - 1] = random.pick(b" \r0x\0\x0b"),
-        1..=3 => overwrite(field(file, line, column), random.pick(BROKEN)),
-        4 => overwrite(field(file, line, column), &b"9999999999"[..WIDTHS[column]]),
-        5 => {
+    match random.below(10) {
+        0..=2 => file[line * LINE + LINE - 1] = random.pick(b" \r0x\0\x0b"),
+        3..=5 => overwrite(field(file, line, column), random.pick(BROKEN)),
+        6 => overwrite(field(file, line, column), &b"9999999999"[..WIDTHS[column]]),
+        7 => {
             overwrite(field(file, line, IDENTIFIER), random.pick(LONG_IDENTIFIERS));
             if random.percent(40) {
                 overwrite(field(file, line, KIND), random.pick(BROKEN));
             }
         }
-        6 => file[line * LINE + random.below(LINE as u64) as usize] = random.word() as u8,
+        8 => file[line * LINE + random.below(LINE as u64) as usize] = random.word() as u8,
         _ => file[line * LINE + random.below(LINE as u64) as usize] = random.pick(b"  0123456789"),
     }
 }

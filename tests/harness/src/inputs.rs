@@ -4,9 +4,10 @@ use crate::call::{sheet_size, Call, OnFile, OnRows, LISTED};
 use crate::damage::{damage_file, damage_rows, damage_words, file_of};
 use crate::lengths::{table_of, Given};
 use crate::tables::{self, claim_all, is_cheap, Drawn};
+use analyser::before::{narrowed_file, narrowed_words, widened_file, widened_words};
 use analyser::lengths::{self, LengthTable, STANDARD};
 use analyser::random::Random;
-use analyser::table::{self, Row, FIELDS, LINE, MOST_LINES};
+use analyser::table::{self, Row, FIELDS, GROUP, LINE, MOST_LINES, NODE};
 
 /// The generator of one number's draws.
 pub fn generator(seed: u64, number: u64) -> Random {
@@ -25,6 +26,29 @@ enum Task {
     Copy,
 }
 
+/// Tables of any groups; or of document 01's seven columns, with each node's number as its group's.
+#[derive(Clone, Copy)]
+enum Form {
+    Any,
+    Widened,
+}
+
+impl Form {
+    fn of_file(self, file: Vec<u8>) -> Vec<u8> {
+        match self {
+            Form::Any => file,
+            Form::Widened => widened_file(&narrowed_file(&file)),
+        }
+    }
+
+    fn of_words(self, words: Vec<u32>) -> Vec<u32> {
+        match self {
+            Form::Any => words,
+            Form::Widened => widened_words(&narrowed_words(&words)),
+        }
+    }
+}
+
 /// The chance of faults in a table, in percent; and in one whose lengths have some.
 const FAULTY: u64 = 45;
 const BOTH_FAULTY: u64 = 85;
@@ -38,17 +62,18 @@ pub fn draw(random: &mut Random) -> Call {
         return on_lengths(random, given);
     }
     let chance = if faults > 0 { BOTH_FAULTY } else { FAULTY };
-    let mut call = on_table(random, drawn, given, chance);
+    let mut call = on_table(random, drawn, given, chance, Form::Any);
     if random.percent(2) {
         add_lines(random, &mut call);
     }
     call
 }
 
-/// As it was drawn before there were lengths; document 01's are loaded.
+/// As it was drawn before there were lengths and groups; document 01's lengths are loaded.
 pub fn draw_before(random: &mut Random) -> Call {
-    let drawn = tables::draw_by(random, STANDARD);
-    on_table(random, drawn, Given::document_01(), FAULTY)
+    let mut drawn = tables::draw_by(random, STANDARD);
+    drawn.rows.iter_mut().for_each(|row| row[NODE] = row[GROUP]);
+    on_table(random, drawn, Given::document_01(), FAULTY, Form::Widened)
 }
 
 /// Makes a file longer than any table, by its own lines.
@@ -70,7 +95,7 @@ fn on_lengths(random: &mut Random, given: Given) -> Call {
 }
 
 /// Asks for something of a table, which is damaged with this chance.
-fn on_table(random: &mut Random, mut drawn: Drawn, given: Given, chance: u64) -> Call {
+fn on_table(random: &mut Random, mut drawn: Drawn, given: Given, chance: u64, form: Form) -> Call {
     let task = task(random, drawn.row, drawn.rows.len());
     if task == Task::List {
         claim_all(random, &drawn.lengths, &mut drawn.rows);
@@ -82,6 +107,7 @@ fn on_table(random: &mut Random, mut drawn: Drawn, given: Given, chance: u64) ->
     if random.percent(50) {
         let mut file = file_of(&drawn.rows);
         (in_rows..faults).for_each(|_| damage_file(random, &mut file));
+        let file = form.of_file(file);
         let by = lengths::parse(&given.file).ok();
         let accepted = table::parse(&file).unwrap_or_default();
         let task = affordable(task, &drawn.lengths, by, &accepted, cheap);
@@ -89,6 +115,7 @@ fn on_table(random: &mut Random, mut drawn: Drawn, given: Given, chance: u64) ->
     } else {
         let mut words = drawn.rows.concat();
         (in_rows..faults).for_each(|_| damage_words(random, &mut words));
+        let words = form.of_words(words);
         let numbers = table_of(&given.numbers);
         let by = lengths::check(&numbers).map(|()| numbers).ok();
         let accepted = table::check(&words).unwrap_or_default();

@@ -2,12 +2,14 @@
 
 use crate::answer::{refusal, Judged};
 use crate::call::Call;
+use crate::simulate::is_together;
 use analyser::bounds::View;
 use analyser::judgement::LIMITS;
 use analyser::lengths::{LengthTable, FILE, PAYLOADS, STANDARD};
 use analyser::random::first_bits;
 use analyser::table::{
-    self, Refusal, Row, CLAIM, IDENTIFIER, KIND, MOST_LINES, NODE, NODES, OFFSET, PAYLOAD, PERIOD,
+    self, Refusal, Row, CLAIM, GROUP, GROUPS, IDENTIFIER, KIND, MOST_LINES, NODE, OFFSET, PAYLOAD,
+    PERIOD,
 };
 
 /// What is so little beyond a limit is beside it; the next number cannot always be met.
@@ -19,6 +21,19 @@ type Test = fn(&Seen) -> bool;
 const ALL: &[(&str, Test, Test)] = &[
     ("node 1", |s| s.serves(|row| row[NODE] == 1), |s| s.refuses(|row| row[NODE] == 0)),
     ("node 16", |s| s.serves(|row| row[NODE] == 16), |s| s.refuses(|row| row[NODE] == 17)),
+    ("group 1", |s| s.serves(|row| row[GROUP] == 1), |s| s.refuses(|row| row[GROUP] == 0)),
+    ("group 16", |s| s.serves(|row| row[GROUP] == 16), |s| s.refuses(|row| row[GROUP] == 17)),
+    (
+        "groups beside nodes",
+        |s| s.is_served() && s.rows.iter().any(|row| row[GROUP] != row[NODE]),
+        |s| s.is_served() && s.rows.iter().all(|row| row[GROUP] == row[NODE]),
+    ),
+    (
+        "nodes beside groups",
+        |s| s.is_served() && is_together(&s.rows),
+        |s| s.is_served() && !is_together(&s.rows),
+    ),
+    ("one group a node", |s| s.serves_again(), |s| s.is_refused(15)),
     (
         "identifier 2047",
         |s| s.serves(|row| row[KIND] == 11 && row[IDENTIFIER] == 2047),
@@ -69,13 +84,13 @@ const ALL: &[(&str, Test, Test)] = &[
     ),
     (
         "hyperperiod 1000000",
-        |s| s.serves_node(|node| node.hyperperiod == 1_000_000),
-        |s| s.refuses_node(6, |node| is_beside(node.hyperperiod, 1_000_000)),
+        |s| s.serves_group(|group| group.hyperperiod == 1_000_000),
+        |s| s.refuses_group(6, |group| is_beside(group.hyperperiod, 1_000_000)),
     ),
     (
         "queueings 256",
-        |s| s.serves_node(|node| node.queueings == 256),
-        |s| s.refuses_node(7, |node| node.queueings == 257),
+        |s| s.serves_group(|group| group.queueings == 256),
+        |s| s.refuses_group(7, |group| group.queueings == 257),
     ),
     (
         "area of the result",
@@ -231,13 +246,19 @@ impl<'a> Seen<'a> {
         self.rows.get(place as usize - 1).is_some_and(test)
     }
 
-    /// An accepted table has such a node.
-    fn serves_node(&self, test: fn(Pattern) -> bool) -> bool {
-        self.is_served() && (1..=NODES).any(|node| test(Pattern::new(&self.rows, node)))
+    /// An accepted table has a node on two lines.
+    fn serves_again(&self) -> bool {
+        let nodes = || self.rows.iter().map(|row| row[NODE]);
+        self.is_served() && nodes().any(|node| nodes().filter(|other| *other == node).count() > 1)
     }
 
-    /// The node turned back is such a node.
-    fn refuses_node(&self, number: u32, test: fn(Pattern) -> bool) -> bool {
+    /// An accepted table has such a group.
+    fn serves_group(&self, test: fn(Pattern) -> bool) -> bool {
+        self.is_served() && (1..=GROUPS).any(|group| test(Pattern::new(&self.rows, group)))
+    }
+
+    /// The group turned back is such a group.
+    fn refuses_group(&self, number: u32, test: fn(Pattern) -> bool) -> bool {
         let refusal = self.refusal.filter(|refusal| refusal.number == number);
         refusal.is_some_and(|refusal| test(Pattern::new(&self.rows, refusal.place)))
     }
@@ -249,10 +270,10 @@ struct Pattern {
 }
 
 impl Pattern {
-    fn new(rows: &[Row], node: u32) -> Pattern {
-        let hyperperiod = table::node_hyperperiod(rows, node);
-        let of_node = rows.iter().filter(|row| row[NODE] == node);
-        let queueings = of_node.map(|row| hyperperiod / u64::from(row[PERIOD])).sum();
+    fn new(rows: &[Row], group: u32) -> Pattern {
+        let hyperperiod = table::group_hyperperiod(rows, group);
+        let of_group = rows.iter().filter(|row| row[GROUP] == group);
+        let queueings = of_group.map(|row| hyperperiod / u64::from(row[PERIOD])).sum();
         Pattern { hyperperiod, queueings }
     }
 }

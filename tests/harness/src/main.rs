@@ -2,12 +2,13 @@
 
 mod answer;
 mod bench;
-mod bench_groups;
+mod bench_sets;
 mod bench_tables;
 mod call;
 mod compare;
 mod damage;
 mod frame_lengths;
+mod group_orders;
 mod inputs;
 mod lengths;
 mod lent;
@@ -22,7 +23,7 @@ mod starts;
 mod tables;
 mod tally;
 mod yardstick;
-mod yardstick_nodes;
+mod yardstick_groups;
 
 use std::io;
 use std::process::ExitCode;

@@ -7,14 +7,14 @@ use analyser::lengths::{self, LengthTable, FILE, LINE, WIDTH};
 use analyser::table::{number, Refusal};
 
 /// All that can be wrong besides, in the order of the checks.
-const BEHIND: [u32; 11] = [14, 1, 2, 10, 3, 4, 5, 6, 7, 9, 8];
+const BEHIND: [u32; 12] = [14, 1, 2, 10, 3, 4, 5, 15, 6, 7, 9, 8];
 
 /// What is refused, whether it is numbers in memory, and what can be wrong besides. 14 behind 14 is
 /// another line.
 const CELLS: [(&str, u32, bool, &[u32]); 3] = [
-    ("13 of a file", 13, false, &[14, 1, 2, 3, 4, 5, 6, 7, 9, 8]),
-    ("14 of a file", 14, false, &[14, 1, 2, 3, 4, 5, 6, 7, 9, 8]),
-    ("14 of numbers", 14, true, &[14, 10, 4, 5, 6, 7, 9, 8]),
+    ("13 of a file", 13, false, &[14, 1, 2, 3, 4, 5, 15, 6, 7, 9, 8]),
+    ("14 of a file", 14, false, &[14, 1, 2, 3, 4, 5, 15, 6, 7, 9, 8]),
+    ("14 of numbers", 14, true, &[14, 10, 4, 5, 15, 6, 7, 9, 8]),
 ];
 
 /// How often each came before each.

@@ -1,7 +1,8 @@
 //! The library beside the analyser on random inputs.
 
 use crate::call::Call;
-use crate::compare::{compare, Lengths};
+use crate::compare::{compare, Rules};
+use crate::group_orders::GroupOrders;
 use crate::inputs::{draw, draw_before, generator};
 use crate::limits::Limits;
 use crate::orders::Orders;
@@ -16,18 +17,20 @@ const ENOUGH: u64 = 10_000;
 /// So many differences are printed.
 const MOST_PRINTED: u64 = 10;
 
-/// Inputs that a seed and a number settle, and the lengths by which the analyser answers them.
+/// Inputs that a seed and a number settle, and the rules by which the analyser answers them.
 #[derive(Clone, Copy)]
 pub struct Source {
     draw: fn(&mut Random) -> Call,
-    by: Lengths,
+    rules: Rules,
 }
 
 /// Lengths and tables of every kind.
-pub const ANY: Source = Source { draw, by: Lengths::Loaded };
+pub const ANY: Source = Source { draw, rules: Rules::Now };
 
-/// Inputs as before there were lengths, with document 01's loaded; the analyser has its constant.
-pub const BEFORE: Source = Source { draw: draw_before, by: Lengths::Constant };
+/// Inputs as before there were lengths and groups: document 01's lengths are loaded, and tables of its
+/// seven columns widened by each node's number as its group's. The analyser has its constant, and
+/// goes by nodes.
+pub const BEFORE: Source = Source { draw: draw_before, rules: Rules::Before };
 
 /// Compares so many inputs; true if nothing differs. The first that does is saved if wanted.
 pub fn random(seed: u64, count: u64, save: Option<&str>) -> io::Result<bool> {
@@ -35,31 +38,35 @@ pub fn random(seed: u64, count: u64, save: Option<&str>) -> io::Result<bool> {
     let mut tally = Tally::new();
     let mut limits = Limits::new();
     let mut orders = Orders::new();
+    let mut group_orders = GroupOrders::new();
     let differences = ANY.run(seed, count, save, |call, answer| {
         tally.add(call, answer);
         limits.add(call, answer);
         orders.add(call, answer);
+        group_orders.add(call, answer);
     })?;
     tally.print();
     limits.print();
     orders.print();
-    let faults = [tally.faults(), limits.faults(), orders.faults()].concat();
+    group_orders.print();
+    let faults = [tally.faults(), limits.faults(), orders.faults(), group_orders.faults()].concat();
     let complete = count < ENOUGH || is_complete(&faults);
     println!("{} listings by the yardstick as well", tally.listings());
     println!("{count} inputs, {differences} differences");
     Ok(differences == 0 && complete)
 }
 
-/// The same for inputs as before there were lengths.
+/// The same for inputs as before there were lengths and groups.
 pub fn before(seed: u64, count: u64, save: Option<&str>) -> io::Result<bool> {
     println!("seed {seed}");
-    let mut tally = Tally::with_good_lengths();
+    let mut tally = Tally::as_before();
     let differences = BEFORE.run(seed, count, save, |call, answer| tally.add(call, answer))?;
     tally.print();
     let complete = count < ENOUGH || is_complete(&tally.faults());
     println!("{} listings by the yardstick as well", tally.listings());
     println!(
-        "{count} inputs as before with document 01's lengths loaded, {differences} differences"
+        "{count} inputs as before, document 01's lengths loaded and groups as nodes, \
+         {differences} differences"
     );
     Ok(differences == 0 && complete)
 }
@@ -114,7 +121,7 @@ impl Source {
         let drawn = catch_unwind(|| {
             let mut random = generator(seed, number);
             let call = (self.draw)(&mut random);
-            let compared = compare(&call, self.by, &mut random);
+            let compared = compare(&call, self.rules, &mut random);
             (call, compared)
         });
         let input = format!("seed {seed}, input {number}");

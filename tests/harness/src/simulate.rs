@@ -11,11 +11,11 @@ use analyser::lengths::{length, LengthTable, STANDARD};
 use analyser::literal_bus;
 use analyser::random::Random;
 use analyser::simulator::{release, schedule, Starts, Transmission};
-use analyser::table::{Row, CLAIM, PERIOD};
+use analyser::table::{Row, CLAIM, GROUP, NODE, PERIOD};
 
 /// Schedules of each table.
 const SCHEDULES: u64 = 4;
-/// Releases of a schedule after the last node has started, about.
+/// Releases of a schedule after the last group has started, about.
 const RELEASES: u64 = 3000;
 /// Ticks of a schedule that is also followed tick by tick.
 const TICKS: u64 = 4000;
@@ -27,6 +27,8 @@ struct Tally {
     tables: u64,
     /// Tables by other lengths than document 01's, and the frames certified by them.
     own: [u64; 2],
+    /// Tables in which nodes start together, and the frames certified in them.
+    together: [u64; 2],
     /// Frames certified by the rough bound, and by the exact one.
     certified: [u64; 2],
     schedules: u64,
@@ -70,6 +72,10 @@ impl Tally {
         if drawn.lengths != STANDARD {
             self.own[0] += 1;
             self.own[1] += certified.len() as u64;
+        }
+        if is_together(&drawn.rows) {
+            self.together[0] += 1;
+            self.together[1] += certified.len() as u64;
         }
         for _ in 0..SCHEDULES {
             let worst = worst_starts(random, drawn, &certified);
@@ -138,7 +144,10 @@ impl Tally {
         let [rough, exact] = self.certified;
         let [own, own_certified] = self.own;
         let lengths = ![self.tables - own, own, own_certified].contains(&0);
+        let [together, certified] = self.together;
+        let groups = ![self.tables - together, together, certified].contains(&0);
         lengths
+            && groups
             && ![rough, exact, self.instances, self.just_in_time, self.bounds, self.ticked]
                 .contains(&0)
     }
@@ -149,6 +158,8 @@ impl Tally {
         println!("{rough} frames certified by the rough bound, {exact} by the exact one");
         let [own, own_certified] = self.own;
         println!("{own} tables by own lengths, {own_certified} frames certified by them");
+        let [together, certified] = self.together;
+        println!("{together} tables with nodes that start together, {certified} frames certified in them");
         println!("{} instances of them end at their claim", self.just_in_time);
         let met = self.bounds - self.missed;
         println!("{} bounds of lowest-priority frames, {met} met to the tick", self.bounds);
@@ -172,6 +183,12 @@ fn certified_rows(random: &mut Random, drawn: &Drawn) -> [Vec<usize>; 2] {
     by_verdict
 }
 
+/// Whether some group has several nodes.
+pub fn is_together(rows: &[Row]) -> bool {
+    let beside = |row: &Row| rows.iter().any(|o| o[GROUP] == row[GROUP] && o[NODE] != row[NODE]);
+    rows.iter().any(beside)
+}
+
 /// The ends of each row's instances, from number 0 on.
 fn ends(rows: &[Row], list: &[Transmission]) -> Vec<Vec<u64>> {
     let mut ends = vec![Vec::new(); rows.len()];
@@ -182,7 +199,7 @@ fn ends(rows: &[Row], list: &[Transmission]) -> Vec<Vec<u64>> {
 /// A tick with enough releases between it and the last start, and not too many.
 fn until(rows: &[Row], starts: &Starts) -> u64 {
     let rate: u64 = rows.iter().map(|row| 1_000_000 / u64::from(row[PERIOD])).sum();
-    let latest = starts.iter().max().expect("a node");
+    let latest = starts.iter().max().expect("a group");
     latest + (RELEASES * 1_000_000 / rate).min(2_000_000)
 }
 

@@ -2,12 +2,12 @@
 //! little, over and over, and what takes longer is kept.
 
 use crate::bench::{input_of, library_listing};
-use crate::bench_groups::{groups, Table};
+use crate::bench_sets::{sets, Table};
 use analyser::bounds::rank;
 use analyser::lengths::LengthTable;
 use analyser::random::{own_lengths, Random};
 use analyser::table::{
-    self, Row, CLAIM, IDENTIFIER, KIND, MOST_LINES, NODE, NODES, OFFSET, PAYLOAD, PERIOD,
+    self, Row, CLAIM, GROUP, IDENTIFIER, KIND, MOST_LINES, NODE, NODES, OFFSET, PAYLOAD, PERIOD,
 };
 use std::time::{Duration, Instant};
 use std::{fs, io};
@@ -81,7 +81,7 @@ pub fn search(seed: u64, minutes: u64, save: Option<&str>) -> io::Result<bool> {
 
 /// The benchmark's tables.
 fn starts() -> impl Iterator<Item = Timed> {
-    let tables = groups().into_iter().flat_map(|(_, tables)| tables);
+    let tables = sets().into_iter().flat_map(|(_, tables)| tables);
     tables.map(|Table { lengths, mut rows, .. }| {
         rows.sort_by_key(rank);
         Timed::new(lengths, numbered(rows))
@@ -164,8 +164,13 @@ fn change_rows(random: &mut Random, rows: &mut Vec<Row>) {
             rows.remove(at);
         }
         2 => rows.swap(at, to),
-        _ => rows[at][NODE] = random.between(1, NODES.into()) as u32,
+        _ => set_node(&mut rows[at], random.between(1, NODES.into()) as u32),
     }
+}
+
+/// Each node is a group by itself, as in all of the benchmark's tables.
+fn set_node(row: &mut Row, node: u32) {
+    (row[NODE], row[GROUP]) = (node, node);
 }
 
 /// All offsets of a node later by as much, or all its periods longer in the same ratio.
@@ -194,7 +199,7 @@ fn replace_node(random: &mut Random, rows: &mut Vec<Row>, other: &[Row]) {
     for row in other.iter().filter(|row| row[NODE] == from) {
         let at = random.between(0, rows.len() as u64) as usize;
         rows.insert(at, *row);
-        rows[at][NODE] = node;
+        set_node(&mut rows[at], node);
     }
     rows.truncate(MOST_LINES);
 }

@@ -1,4 +1,4 @@
-//! Starts of the nodes of a simulated bus.
+//! Starts of the groups of a simulated bus.
 
 use crate::tables::Drawn;
 use analyser::bounds::{rank, View, Worst};
@@ -6,17 +6,15 @@ use analyser::judgement::LIMITS;
 use analyser::lengths::length;
 use analyser::random::Random;
 use analyser::simulator::Starts;
-use analyser::table::{self, Row, NODE, NODES, OFFSET, PERIOD};
+use analyser::table::{self, Row, GROUP, GROUPS, OFFSET, PERIOD};
 
 /// The most scenarios searched for the worst one.
 const MOST_SCENARIOS: u64 = 500;
 
-/// Starts at random, close together, or such that releases of all nodes nearly meet.
+/// Starts at random, close together, or such that releases of all groups nearly meet.
 pub fn starts(random: &mut Random, rows: &[Row]) -> Starts {
     match random.below(5) {
-        0 => {
-            std::array::from_fn(|node| random.below(table::node_hyperperiod(rows, node as u32 + 1)))
-        }
+        0 => std::array::from_fn(|at| random.below(table::group_hyperperiod(rows, at as u32 + 1))),
         1 => std::array::from_fn(|_| random.below(500)),
         _ => meeting_starts(random, rows),
     }
@@ -31,7 +29,7 @@ pub fn worst_starts(random: &mut Random, drawn: &Drawn, certified: &[usize]) -> 
     let row = random.pick(certified);
     let (_, mut instants) = worst_scenario(drawn, row)?;
     if let Some(blocking) = blocking_frame(drawn, &drawn.rows[row]) {
-        instants[blocking[NODE] as usize - 1] = u64::from(blocking[OFFSET]) + 1;
+        instants[blocking[GROUP] as usize - 1] = u64::from(blocking[OFFSET]) + 1;
     }
     Some(starts_to_meet(&instants))
 }
@@ -48,35 +46,35 @@ pub fn worst_scenario(drawn: &Drawn, row: usize) -> Option<(Worst, Vec<u64>)> {
     Some((worst, view.instants(scenario)))
 }
 
-/// The longest frame below, unless its node has frames ahead.
+/// The longest frame below, unless its group has frames ahead.
 fn blocking_frame<'a>(drawn: &'a Drawn, frame: &Row) -> Option<&'a Row> {
     let (below, ahead): (Vec<&Row>, Vec<&Row>) =
         drawn.rows.iter().partition(|row| rank(row) > rank(frame));
     let longest = below.into_iter().max_by_key(|row| length(&drawn.lengths, row))?;
-    let alone = ahead.iter().all(|row| row[NODE] != longest[NODE]);
+    let alone = ahead.iter().all(|row| row[GROUP] != longest[GROUP]);
     alone.then_some(longest)
 }
 
-/// Starts for which the instants of all nodes meet.
+/// Starts for which the instants of all groups meet.
 pub fn starts_to_meet(instants: &[u64]) -> Starts {
-    let meeting = instants.iter().max().expect("a node");
-    std::array::from_fn(|node| meeting - instants[node])
+    let meeting = instants.iter().max().expect("a group");
+    std::array::from_fn(|group| meeting - instants[group])
 }
 
-/// Starts for which releases of all nodes meet or nearly so.
+/// Starts for which releases of all groups meet or nearly so.
 fn meeting_starts(random: &mut Random, rows: &[Row]) -> Starts {
-    let nodes = 1..=NODES;
-    let instants: Vec<u64> = nodes.map(|node| some_release(random, rows, node)).collect();
+    let groups = 1..=GROUPS;
+    let instants: Vec<u64> = groups.map(|group| some_release(random, rows, group)).collect();
     starts_to_meet(&instants).map(|start| start + random.pick(&[0, 0, 1, 1, 1, 2]))
 }
 
-/// A release within the hyperperiod of a node, counted from its start.
-fn some_release(random: &mut Random, rows: &[Row], node: u32) -> u64 {
-    let of_node: Vec<&Row> = rows.iter().filter(|row| row[NODE] == node).collect();
-    if of_node.is_empty() {
+/// A release within the hyperperiod of a group, counted from its start.
+fn some_release(random: &mut Random, rows: &[Row], group: u32) -> u64 {
+    let of_group: Vec<&Row> = rows.iter().filter(|row| row[GROUP] == group).collect();
+    if of_group.is_empty() {
         return 0;
     }
-    let row = random.pick(&of_node);
-    let periods = table::node_hyperperiod(rows, node) / u64::from(row[PERIOD]);
+    let row = random.pick(&of_group);
+    let periods = table::group_hyperperiod(rows, group) / u64::from(row[PERIOD]);
     u64::from(row[OFFSET]) + random.below(periods) * u64::from(row[PERIOD])
 }

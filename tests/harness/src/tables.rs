@@ -7,8 +7,10 @@ use analyser::judge_cases::{
 };
 use analyser::judgement::LIMITS;
 use analyser::lengths::{length, LengthTable, PAYLOADS, STANDARD};
-use analyser::random::{clustered, set_claim, Random};
-use analyser::table::{self, Row, CLAIM, IDENTIFIER, KIND, NODE, NODES, OFFSET, PERIOD};
+use analyser::random::{clustered, give_nodes, set_claim, Random};
+use analyser::table::{
+    self, Row, CLAIM, GROUP, GROUPS, IDENTIFIER, KIND, NODE, NODES, OFFSET, PERIOD,
+};
 
 /// The greatest effort for a row of any shape.
 const MOST_EFFORT: u64 = 300_000;
@@ -99,20 +101,22 @@ fn shape(random: &mut Random, lengths: &LengthTable) -> Vec<Row> {
         68..=79 => judge_cases::long(random, lengths),
         80..=87 => judge_cases::short(random, lengths),
         88..=92 => nearly_full(random, lengths),
-        93..=96 => clustered(random, lengths, NODES.into(), 8, (110, 300)),
+        93..=96 => clustered(random, lengths, GROUPS.into(), 8, (110, 300)),
         _ => lone_frame(random, lengths),
     }
 }
 
-/// A frame of each kind and payload, but for two, each of its own node and queued at every tick: by
-/// its load sheet a length is a node's quotient / 10000.
+/// A frame of each kind and payload, but for two, each of its own node and any group, and queued at
+/// every tick: by its load sheet a length is a node's quotient / 10000.
 pub fn one_of_each(random: &mut Random) -> Vec<Row> {
     let payloads = || 0..PAYLOADS as u32;
-    let of_kind = |kind| payloads().map(move |payload| [0, payload, kind, payload, 1, 0, 500]);
+    let of_kind = |kind| payloads().map(move |payload| [0, 0, payload, kind, payload, 1, 0, 500]);
     let mut rows: Vec<Row> = of_kind(11).chain(of_kind(29)).collect();
     random.shuffle(&mut rows);
     rows.truncate(NODES as usize);
-    (1..).zip(&mut rows).for_each(|(node, row)| row[NODE] = node);
+    for (node, row) in (1..).zip(&mut rows) {
+        (row[NODE], row[GROUP]) = (node, random.between(1, GROUPS.into()) as u32);
+    }
     rows
 }
 
@@ -134,7 +138,7 @@ pub fn is_cheap(lengths: &LengthTable, rows: &[Row], row: usize) -> bool {
 fn effort(lengths: &LengthTable, rows: &[Row], row: usize) -> u64 {
     let view = View::new(lengths, rows, row);
     let counts: Vec<u64> = view.alignment_counts().collect();
-    let own = counts[rows[row][NODE] as usize - 1];
+    let own = counts[rows[row][GROUP] as usize - 1];
     let count = view.scenario_count();
     let scenarios = if count > LIMITS.scenarios { 0 } else { count };
     let search = steps(lengths, rows, row) * (own * counts.iter().sum::<u64>() + scenarios);
@@ -159,19 +163,21 @@ fn load(lengths: &LengthTable, row: &Row) -> u64 {
 /// Alone on the bus, with a period beside its length.
 fn lone_frame(random: &mut Random, lengths: &LengthTable) -> Vec<Row> {
     let (kind, last) = random.pick(&[(11, 2047), (29, 536_870_911)]);
-    let mut row = [random.between(1, 16) as u32, 0, kind, random.below(9) as u32, 0, 0, 500];
+    let [node, group] = [0; 2].map(|_| random.between(1, 16) as u32);
+    let mut row = [node, group, 0, kind, random.below(9) as u32, 0, 0, 500];
     row[IDENTIFIER] = random.pick(&[0, 1, last - 1, last]);
     row[PERIOD] = (length(lengths, &row) + random.below(5) - 2) as u32;
     row[OFFSET] = random.below(row[PERIOD].into()) as u32;
     vec![row]
 }
 
-/// Three lone frames that leave little of the bus, and a node with rare frames.
+/// Three lone frames that leave little of the bus, and a group with rare frames.
 fn nearly_full(random: &mut Random, lengths: &LengthTable) -> Vec<Row> {
     let mut rows: Vec<Row> = Vec::new();
     let mut left = WHOLE - random.between(200, 4000);
     for share in [random.between(30, 60), random.between(80, 95), 100] {
-        let mut row = [rows.len() as u32 + 1, 0, 11, random.below(9) as u32, 0, 0, 500];
+        let group = rows.len() as u32 + 1;
+        let mut row = [0, group, 0, 11, random.below(9) as u32, 0, 0, 500];
         row[PERIOD] = (length(lengths, &row) * WHOLE * 100 / (left * share)) as u32 + 1;
         left = left.saturating_sub(load(lengths, &row)).max(1000);
         rows.push(row);
@@ -179,7 +185,7 @@ fn nearly_full(random: &mut Random, lengths: &LengthTable) -> Vec<Row> {
     let period = random.between(200_000, 1_000_000) as u32;
     for _ in 0..random.between(1, 3) {
         let offset = random.pick(&[0, 0, period / 2]);
-        rows.push([4, 0, 11, random.below(9) as u32, period, offset, 500]);
+        rows.push([0, 4, 0, 11, random.below(9) as u32, period, offset, 500]);
     }
     disguised(random, rows, 0).0
 }
@@ -213,11 +219,12 @@ fn many_scenarios(random: &mut Random) -> Drawn {
     let payload = random.below(9) as u32;
     let mut rows = counted_table(&counts, payload, random.between(60, 400) as u32);
     let row = rows.len() - 1;
-    // One more frame at instants that the last node has already.
+    // One more frame at instants that the last group has already.
     if counts[counts.len() - 1] <= 128 && random.percent(50) {
-        let [node, _, kind, _, period, offset, claim] = rows[row - 1];
-        rows.push([node, 1, kind, payload, period, offset, claim]);
+        let [node, group, _, kind, _, period, offset, claim] = rows[row - 1];
+        rows.push([node, group, 1, kind, payload, period, offset, claim]);
     }
+    give_nodes(random, &mut rows);
     Drawn { lengths: STANDARD, rows, row }
 }
 
@@ -234,11 +241,11 @@ fn factors(random: &mut Random) -> Vec<u32> {
     factors
 }
 
-/// Other nodes, patterns shifted, other identifiers in the same order, lines mixed: bounds stay.
+/// Other groups and nodes, patterns shifted, other identifiers in the same order, lines mixed: bounds stay.
 /// A long frame may tie with the short one before it.
 fn disguised(random: &mut Random, mut rows: Vec<Row>, judged: usize) -> (Vec<Row>, usize) {
-    let mut nodes: Vec<u32> = (1..=NODES).collect();
-    random.shuffle(&mut nodes);
+    let mut groups: Vec<u32> = (1..=GROUPS).collect();
+    random.shuffle(&mut groups);
     let shift = random.below(1_000_000) as u32;
     let mut first = 0;
     let mut before = 0;
@@ -248,9 +255,10 @@ fn disguised(random: &mut Random, mut rows: Vec<Row>, judged: usize) -> (Vec<Row
         }
         before = row[KIND];
         row[IDENTIFIER] = if before == 11 { first } else { first << 18 };
-        row[OFFSET] = (row[OFFSET] + shift / row[NODE]) % row[PERIOD];
-        row[NODE] = nodes[row[NODE] as usize - 1];
+        row[OFFSET] = (row[OFFSET] + shift / row[GROUP]) % row[PERIOD];
+        row[GROUP] = groups[row[GROUP] as usize - 1];
     }
+    give_nodes(random, &mut rows);
     let wanted = rows[judged][IDENTIFIER];
     random.shuffle(&mut rows);
     let row = rows.iter().position(|row| row[IDENTIFIER] == wanted);

@@ -2,7 +2,7 @@
 
 use crate::answer::{refusal, Judged};
 use crate::call::{Call, Operation};
-use std::collections::BTreeMap;
+use std::collections::{BTreeMap, BTreeSet};
 use std::fmt;
 
 /// What a call came to.
@@ -34,18 +34,18 @@ impl fmt::Display for Outcome {
     }
 }
 
-/// All that an operation can come to, by document 01 and document 02's request 2.
+/// All that an operation can come to, by document 01 and document 02's requests 2 and 6.
 fn possible(operation: Operation) -> Vec<Outcome> {
     use Operation::*;
     let refusals: &[u32] = match operation {
-        JudgeFile => &[1, 2, 3, 4, 5, 6, 7, 9, 13, 14],
-        BoundFile => &[1, 2, 3, 4, 5, 6, 7, 9, 11, 12, 13, 14],
-        Read => &[1, 2, 3, 4, 5, 6, 7, 8],
-        List | LoadSheet => &[1, 2, 3, 4, 5, 6, 7, 8, 13, 14],
-        JudgeRows => &[4, 5, 6, 7, 9, 10, 14],
-        BoundRows => &[4, 5, 6, 7, 9, 10, 11, 12, 14],
-        Check => &[4, 5, 6, 7, 10],
-        Write => &[4, 5, 6, 7, 8, 10],
+        JudgeFile => &[1, 2, 3, 4, 5, 6, 7, 9, 13, 14, 15],
+        BoundFile => &[1, 2, 3, 4, 5, 6, 7, 9, 11, 12, 13, 14, 15],
+        Read => &[1, 2, 3, 4, 5, 6, 7, 8, 15],
+        List | LoadSheet => &[1, 2, 3, 4, 5, 6, 7, 8, 13, 14, 15],
+        JudgeRows => &[4, 5, 6, 7, 9, 10, 14, 15],
+        BoundRows => &[4, 5, 6, 7, 9, 10, 11, 12, 14, 15],
+        Check => &[4, 5, 6, 7, 10, 15],
+        Write => &[4, 5, 6, 7, 8, 10, 15],
         ReadLengths => &[8, 13, 14],
         WriteLengths => &[8, 14],
     };
@@ -59,23 +59,27 @@ fn possible(operation: Operation) -> Vec<Outcome> {
 
 /// How often each operation came to each outcome.
 pub struct Tally {
+    possible: BTreeSet<(Outcome, Operation)>,
     counts: BTreeMap<(Outcome, Operation), u64>,
 }
 
 impl Tally {
     pub fn new() -> Tally {
         let cells = |operation| possible(operation).into_iter().map(move |o| ((o, operation), 0));
-        Tally { counts: Operation::ALL.into_iter().flat_map(cells).collect() }
+        Tally::of(Operation::ALL.into_iter().flat_map(cells).collect())
     }
 
-    /// For calls with good lengths, which are not refused for them, and none of the lengths alone.
-    pub fn with_good_lengths() -> Tally {
-        let Tally { mut counts } = Tally::new();
-        let lengths_refused = [13, 14].map(Outcome::Refused);
-        counts.retain(|(outcome, operation), _| {
-            !lengths_refused.contains(outcome) && !operation.of_lengths()
-        });
-        Tally { counts }
+    /// For calls as before: with good lengths, which are not refused for them, none of the lengths
+    /// alone, and with no second group.
+    pub fn as_before() -> Tally {
+        let Tally { mut counts, .. } = Tally::new();
+        let new = [13, 14, 15].map(Outcome::Refused);
+        counts.retain(|(outcome, operation), _| !new.contains(outcome) && !operation.of_lengths());
+        Tally::of(counts)
+    }
+
+    fn of(counts: BTreeMap<(Outcome, Operation), u64>) -> Tally {
+        Tally { possible: counts.keys().copied().collect(), counts }
     }
 
     pub fn add(&mut self, call: &Call, answer: i64) {
@@ -110,7 +114,7 @@ impl Tally {
         let fault = |(&(outcome, operation), &count): (&(Outcome, Operation), &u64)| {
             if count == 0 {
                 Some(format!("{operation}: {outcome} did not occur"))
-            } else if !possible(operation).contains(&outcome) {
+            } else if !self.possible.contains(&(outcome, operation)) {
                 Some(format!("{operation}: {outcome} is not one of its outcomes"))
             } else {
                 None

@@ -1,12 +1,12 @@
 //! The library's algorithm written for speed, under the library's rule that no list holds more than
-//! one of a node's alignments: the benchmark's yardstick.
+//! one of a group's alignments: the benchmark's yardstick.
 
-use crate::yardstick_nodes::{work, Frame, Node, Placed};
+use crate::yardstick_groups::{work, Frame, Group, Placed};
 use analyser::bounds::rank;
 use analyser::judgement::{Judgement, Verdict, LIMITS};
 use analyser::lengths::{length, LengthTable};
 use analyser::listing::judgement_columns;
-use analyser::table::{self, Row, CLAIM, IDENTIFIER, NODE, NODES};
+use analyser::table::{self, Row, CLAIM, GROUP, GROUPS, IDENTIFIER};
 use std::collections::HashSet;
 
 /// A line for each of accepted rows.
@@ -19,14 +19,14 @@ pub fn list(lengths: &LengthTable, rows: &[Row]) -> String {
 }
 
 /// How many greatest works a listing looks for, and how many of them at a length that was looked
-/// at before for the same row and node.
+/// at before for the same row and group.
 pub fn count_looks(lengths: &LengthTable, rows: &[Row]) -> (usize, usize) {
     let (mut all, mut distinct) = (0, 0);
     for (row, words) in rows.iter().enumerate() {
         let mut view = View::new(lengths, rows, row);
-        view.nodes.iter_mut().for_each(Node::watch);
+        view.groups.iter_mut().for_each(Group::watch);
         view.judge(words[CLAIM].into());
-        for looks in view.nodes.into_iter().map(Node::looks) {
+        for looks in view.groups.into_iter().map(Group::looks) {
             all += looks.len();
             distinct += looks.into_iter().collect::<HashSet<_>>().len();
         }
@@ -34,11 +34,11 @@ pub fn count_looks(lengths: &LengthTable, rows: &[Row]) -> (usize, usize) {
     (all, all - distinct)
 }
 
-/// The judged frame, then the other frames of nodes at one alignment; and nodes at any.
+/// The judged frame, then the other frames of groups at one alignment; and groups at any.
 #[derive(Clone, Copy)]
 struct Scenario<'a> {
     fixed: &'a [Placed],
-    open: &'a [&'a Node],
+    open: &'a [&'a Group],
 }
 
 /// A search for the least x that holds its load: the window, or the start behind so much work
@@ -64,21 +64,21 @@ impl Search {
         }
     }
 
-    /// The load with the open nodes at their greatest work.
+    /// The load with the open groups at their greatest work.
     fn full_load(self, scenario: Scenario, x: u64) -> u64 {
         let ticks = self.ticks(x);
-        let greatest = scenario.open.iter().map(|node| node.greatest(ticks));
+        let greatest = scenario.open.iter().map(|group| group.greatest(ticks));
         self.load(scenario.fixed, x) + greatest.sum::<u64>()
     }
 
-    /// The load with the open nodes' frames all queued at once.
+    /// The load with the open groups' frames all queued at once.
     fn load_above(self, scenario: Scenario, x: u64) -> u64 {
         let ticks = self.ticks(x);
-        let above = scenario.open.iter().map(|node| node.above(ticks));
+        let above = scenario.open.iter().map(|group| group.above(ticks));
         self.load(scenario.fixed, x) + above.sum::<u64>()
     }
 
-    /// The least x from a number on and up to the end, with all nodes fixed.
+    /// The least x from a number on and up to the end, with all groups fixed.
     fn climb(self, fixed: &[Placed], mut x: u64, end: u64) -> Option<u64> {
         while x <= end {
             let load = self.load(fixed, x);
@@ -90,7 +90,7 @@ impl Search {
         None
     }
 
-    /// The least x from a number on and up to the end. Open nodes stand at their guesses, which gives
+    /// The least x from a number on and up to the end. Open groups stand at their guesses, which gives
     /// no more than the full load, so that no climb passes that x; the next climb starts from the
     /// full load.
     fn settle(self, scenario: Scenario, mut x: u64, end: u64) -> Option<u64> {
@@ -100,7 +100,7 @@ impl Search {
         let mut fixed = scenario.fixed.to_vec();
         loop {
             fixed.truncate(scenario.fixed.len());
-            scenario.open.iter().for_each(|node| node.place(node.guess(), &mut fixed));
+            scenario.open.iter().for_each(|group| group.place(group.guess(), &mut fixed));
             let reached = self.climb(&fixed, x, end)?;
             x = self.full_load(scenario, reached);
             if x <= reached {
@@ -116,8 +116,8 @@ const STEPS: usize = 16;
 /// So many unserved instances are listed at the most.
 const LISTED: usize = 64;
 
-/// The instances before an end that are not shown to be served with the open nodes at any
-/// alignment. Fixing a node's alignment makes no response longer, so that where more nodes are
+/// The instances before an end that are not shown to be served with the open groups at any
+/// alignment. Fixing a group's alignment makes no response longer, so that where more groups are
 /// fixed, only these are looked at, and those from the end on.
 #[derive(Clone, Default)]
 struct Unserved {
@@ -141,9 +141,9 @@ impl Unserved {
 struct View {
     blocking: u64,
     scenarios: u64,
-    /// The frame's own node, which has the frame first, and the others with several alignments.
-    nodes: Vec<Node>,
-    /// The frames of other nodes with one alignment.
+    /// The frame's own group, which has the frame first, and the others with several alignments.
+    groups: Vec<Group>,
+    /// The frames of other groups with one alignment.
     lone: Vec<Placed>,
 }
 
@@ -152,28 +152,28 @@ impl View {
         let frame = &rows[row];
         let below = rows.iter().filter(|other| rank(other) > rank(frame));
         let blocking = below.map(|row| length(lengths, row) - 1).max().unwrap_or(0);
-        let others = (1..=NODES).filter(|node| *node != frame[NODE]);
-        let mut view = View { blocking, scenarios: 1, nodes: Vec::new(), lone: Vec::new() };
-        for node in [frame[NODE]].into_iter().chain(others) {
-            let of_node = rows.iter().filter(|row| row[NODE] == node);
-            let mut ahead: Vec<&Row> = of_node.filter(|row| rank(row) <= rank(frame)).collect();
+        let others = (1..=GROUPS).filter(|group| *group != frame[GROUP]);
+        let mut view = View { blocking, scenarios: 1, groups: Vec::new(), lone: Vec::new() };
+        for group in [frame[GROUP]].into_iter().chain(others) {
+            let of_group = rows.iter().filter(|row| row[GROUP] == group);
+            let mut ahead: Vec<&Row> = of_group.filter(|row| rank(row) <= rank(frame)).collect();
             ahead.sort_by_key(|row| rank(row) != rank(frame));
             if !ahead.is_empty() {
                 let frames = ahead.into_iter().map(|row| Frame::new(lengths, row)).collect();
-                view.add(Node::new(frames), table::node_hyperperiod(rows, node));
+                view.add(Group::new(frames), table::group_hyperperiod(rows, group));
             }
         }
         view
     }
 
-    fn add(&mut self, node: Node, hyperperiod: u64) {
-        let count = node.alignments().count() as u64;
-        let all = count * (hyperperiod / node.turn());
+    fn add(&mut self, group: Group, hyperperiod: u64) {
+        let count = group.alignments().count() as u64;
+        let all = count * (hyperperiod / group.turn());
         self.scenarios = self.scenarios.saturating_mul(all);
-        if self.nodes.is_empty() || count > 1 {
-            self.nodes.push(node);
+        if self.groups.is_empty() || count > 1 {
+            self.groups.push(group);
         } else {
-            node.place(node.guess(), &mut self.lone);
+            group.place(group.guess(), &mut self.lone);
         }
     }
 
@@ -201,22 +201,22 @@ impl View {
         self.window().settle(scenario, 1, LIMITS.window)
     }
 
-    /// The frames of the own node from an alignment, and those that have one alignment.
+    /// The frames of the own group from an alignment, and those that have one alignment.
     fn placed(&self, own: u64) -> Vec<Placed> {
         let mut placed = Vec::new();
-        self.nodes[0].place(own, &mut placed);
+        self.groups[0].place(own, &mut placed);
         placed.extend_from_slice(&self.lone);
         placed
     }
 
-    /// The rough bound, or none if an alignment of the own node has no window. The window with all
-    /// nodes open is the limit for each of these; without it, each has its own.
+    /// The rough bound, or none if an alignment of the own group has no window. The window with all
+    /// groups open is the limit for each of these; without it, each has its own.
     fn approximate(&self) -> Option<u64> {
-        let nodes: Vec<&Node> = self.nodes.iter().collect();
-        let common = self.settled_window(Scenario { fixed: &self.lone, open: &nodes });
+        let groups: Vec<&Group> = self.groups.iter().collect();
+        let common = self.settled_window(Scenario { fixed: &self.lone, open: &groups });
         let mut best = 0;
-        for own in self.nodes[0].alignments() {
-            let scenario = Scenario { fixed: &self.placed(own), open: &nodes[1..] };
+        for own in self.groups[0].alignments() {
+            let scenario = Scenario { fixed: &self.placed(own), open: &groups[1..] };
             let limit = common.or_else(|| self.settled_window(scenario))?;
             if !self.is_within(scenario, limit, best, &Unserved::default()) {
                 best = self.raised(scenario, best)?;
@@ -228,34 +228,34 @@ impl View {
     /// The exact bound, where the rough one is found.
     fn precise(&self) -> Option<u64> {
         let mut best = 0;
-        for own in self.nodes[0].alignments() {
+        for own in self.groups[0].alignments() {
             let mut fixed = self.placed(own);
-            let open: Vec<&Node> = self.nodes[1..].iter().collect();
+            let open: Vec<&Group> = self.groups[1..].iter().collect();
             let limit = self.settled_window(Scenario { fixed: &fixed, open: &open })?;
             best = self.improved(&mut fixed, &open, limit, best, &Unserved::default())?;
         }
         Some(best)
     }
 
-    /// The greater of the best and the responses with the open nodes fixed one after the other, unless
+    /// The greater of the best and the responses with the open groups fixed one after the other, unless
     /// nothing below can exceed the best: that is asked anew where the best has risen. What is left
     /// unserved is handed down.
     fn improved(
         &self,
         fixed: &mut Vec<Placed>,
-        open: &[&Node],
+        open: &[&Group],
         limit: u64,
         mut best: u64,
         known: &Unserved,
     ) -> Option<u64> {
-        let Some((node, rest)) = open.split_first() else {
+        let Some((group, rest)) = open.split_first() else {
             let scenario = Scenario { fixed, open };
             let within = self.is_within(scenario, limit, best, known);
             return if within { Some(best) } else { self.raised(scenario, best) };
         };
         let (mut asked, mut unserved) = (None, known.clone());
         let kept = fixed.len();
-        for alignment in node.alignments() {
+        for alignment in group.alignments() {
             if asked != Some(best) {
                 let scenario = Scenario { fixed, open };
                 let Some(left) = self.sweep(scenario, limit, best, &unserved, LISTED) else {
@@ -263,7 +263,7 @@ impl View {
                 };
                 (asked, unserved) = (Some(best), left);
             }
-            node.place(alignment, fixed);
+            group.place(alignment, fixed);
             best = self.improved(fixed, rest, limit, best, &unserved)?;
             fixed.truncate(kept);
         }

@@ -1,4 +1,4 @@
-//! The tables that are measured, in groups.
+//! The tables that are measured, in sets.
 
 use crate::bench_tables::{
     alike, crowded, late_jump, long_windows, many_looks, no_windows, Bursts, Drawing, Filled,
@@ -16,8 +16,8 @@ pub struct Table {
 type Named = (String, Vec<Row>);
 
 /// All but the last are by document 01's lengths.
-pub fn groups() -> Vec<(&'static str, Vec<Table>)> {
-    let groups = [
+pub fn sets() -> Vec<(&'static str, Vec<Table>)> {
+    let sets = [
         ("A realistic table: 12 nodes, periods 2500 to 500000", realistic()),
         ("Drawn as in document 002, appendix A", drawn()),
         ("Most scenarios, none to be ruled out early", many_scenarios()),
@@ -30,7 +30,7 @@ pub fn groups() -> Vec<(&'static str, Vec<Table>)> {
     ];
     let by_standard = |(title, tables)| (title, by_lengths(STANDARD, tables));
     let stretched = ("The realistic table, frames stretched by isolators", stretched());
-    groups.into_iter().map(by_standard).chain([stretched]).collect()
+    sets.into_iter().map(by_standard).chain([stretched]).collect()
 }
 
 fn by_lengths(lengths: LengthTable, tables: Vec<Named>) -> Vec<Table> {

@@ -1,4 +1,4 @@
-//! The yardstick's nodes: their frames, and the greatest work over their alignments.
+//! The yardstick's groups: their frames, and the greatest work over their alignments.
 
 use analyser::lengths::{length, LengthTable};
 use analyser::table::{Row, MOST_LINES, OFFSET, PERIOD};
@@ -57,10 +57,10 @@ fn common_multiple(a: u64, b: u64) -> u64 {
 }
 
 fn first_alignment(frames: &[Frame]) -> u64 {
-    frames.iter().map(|frame| frame.offset).min().expect("a node with frames")
+    frames.iter().map(|frame| frame.offset).min().expect("a group with frames")
 }
 
-/// A frame seen from an alignment of its node.
+/// A frame seen from an alignment of its group.
 #[derive(Clone, Copy)]
 pub struct Placed {
     pub frame: Frame,
@@ -72,7 +72,7 @@ pub fn work(placed: &[Placed], n: u64) -> u64 {
     placed.iter().map(|each| each.frame.work(each.distance, n)).fold(0, u64::wrapping_add)
 }
 
-/// The frames of a node at one alignment after the other, without divisions; room beyond them holds
+/// The frames of a group at one alignment after the other, without divisions; room beyond them holds
 /// frames of no length that are never queued.
 struct Walk<const ROOM: usize> {
     alignment: u64,
@@ -137,11 +137,11 @@ struct Stair {
     work: u64,
 }
 
-/// So many stairs share a place, and so many places has a node for each of its frames.
+/// So many stairs share a place, and so many places has a group for each of its frames.
 const WAYS: usize = 4;
 const FRAME_SETS: usize = 8;
 
-/// What is kept of a node's greatest works.
+/// What is kept of a group's greatest works.
 struct Memory {
     /// Stairs below the turn, by the part of it that they are in.
     stairs: Vec<[Stair; WAYS]>,
@@ -171,23 +171,23 @@ impl Memory {
     }
 }
 
-/// A node's frames ahead, which look the same after each turn, and what is kept of its greatest
+/// A group's frames ahead, which look the same after each turn, and what is kept of its greatest
 /// works.
-pub struct Node {
+pub struct Group {
     frames: Vec<Frame>,
     turn: u64,
     turn_work: u64,
     memory: RefCell<Memory>,
 }
 
-impl Node {
-    pub fn new(frames: Vec<Frame>) -> Node {
+impl Group {
+    pub fn new(frames: Vec<Frame>) -> Group {
         let turn = frames.iter().fold(1, |turn, frame| common_multiple(turn, frame.period));
         let guess = first_alignment(&frames);
         let turn_work = frames.iter().map(|frame| turn / frame.period * frame.length).sum();
         let stairs = vec![Default::default(); FRAME_SETS * frames.len()];
         let memory = RefCell::new(Memory { stairs, guess, looks: None });
-        Node { frames, turn, turn_work, memory }
+        Group { frames, turn, turn_work, memory }
     }
 
     pub fn turn(&self) -> u64 {
