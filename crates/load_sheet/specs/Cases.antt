@@ -1,4 +1,4 @@
--- Two sheets, worked out by hand.
+-- Sheets, worked out by hand.
 use Prim.Native.Nat.{ℕ, _+_}
 use mathlib.Core.Path.{_≡_, refl}
 use mathlib.Core.List.{List, [], _∷_, _++_, map}
@@ -9,11 +9,11 @@ use Rattle.bus_model.specs.Pattern.{ofGroup, hyperperiod}
 use Rattle.table_checks.specs.Frames.{standardLengths, priorityOf, largestLength, frameAt, framesOf}
 use Rattle.load_sheet.specs.declared.Load.{Load}
 use Rattle.load_sheet.specs.Load.{workIn, dividend, loadOf}
-use Rattle.load_sheet.specs.Sheet.{hasFrames, nodesOf, nodeLoad, nodeLine, linesOf, lastLine, greatestQuotient, sheetWith, sheetOf}
+use Rattle.load_sheet.specs.Sheet.{isOf, hasFrames, nodesOf, rowsOf, nodeFrames, groupOf, nodeLoad, nodeLine, linesOf, lastLine, greatestQuotient, sheetWith, sheetOf}
 
 -- what computing a sheet unfolds
 unfoldable everything : ℕ
-unfolding sum greatest keep exists range euclid gcd lcm lcmOf writeColumn ofGroup hyperperiod priorityOf largestLength frameAt framesOf workIn dividend loadOf hasFrames nodesOf nodeLoad nodeLine linesOf lastLine greatestQuotient sheetWith sheetOf
+unfolding sum greatest keep exists range euclid gcd lcm lcmOf writeColumn ofGroup hyperperiod priorityOf largestLength frameAt framesOf workIn dividend loadOf isOf hasFrames nodesOf rowsOf nodeFrames groupOf nodeLoad nodeLine linesOf lastLine greatestQuotient sheetWith sheetOf
 everything = 0
 
 load : ℕ → ℕ → ℕ → Load
@@ -65,3 +65,15 @@ remainders-sheet : sheetOf standardLengths remainders
     ≡ nodeLine 1 (load 1 600000 1000000) ++ (nodeLine 5 (load 114285 5 7) ++ (nodeLine 16 (load 276190 10 21) ++ lastLine 3 276190))
 unfolding remainders load everything
 remainders-sheet = refl
+
+-- Nodes 1 and 2 in one group, of periods 300 and 200: both loads are of 600 ticks. Node 1 sends 2 × 55 = 110, and 1100000 = 1833 × 600 + 200;
+-- node 2 sends 3 × 55 = 165, and 1650000 = 2750 × 600.
+together : List ℕ
+together =
+    1 ∷ 7 ∷ 16 ∷ 11 ∷ 0 ∷ 300 ∷ 0 ∷ 300
+    ∷ 2 ∷ 7 ∷ 32 ∷ 11 ∷ 0 ∷ 200 ∷ 0 ∷ 300
+    ∷ []
+
+together-sheet : sheetOf standardLengths together ≡ nodeLine 1 (load 1833 200 600) ++ (nodeLine 2 (load 2750 0 600) ++ lastLine 2 2750)
+unfolding together load everything
+together-sheet = refl

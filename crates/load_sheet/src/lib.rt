@@ -8,7 +8,7 @@ pub use sheet::write_input;
 // The characters of the longest sheet.
 pub const LONGEST: usize = 494;
 
-// A node's load: its work × 10000, divided by its hyperperiod.
+// A node's load: its work × 10000, divided by the hyperperiod of its group.
 pub struct Load {
     pub quotient: u64,
     pub remainder: u64,

@@ -11,13 +11,12 @@ ghost use Prim.Native.Nat.{_*_, _≤_, max};
 ghost use mathlib.Core.List.{_++_};
 ghost use lib.ListN.{length, take, drop};
 ghost use Rattle.table_checks.specs.declared.Checked.the-variants.{Passed};
-ghost use Rattle.table_checks.specs.Frames.{framesOf};
 ghost use Rattle.table_checks.specs.Checks.{Loadable, Accepted};
 ghost use Rattle.frame_table.specs.Text.{fieldsOf};
 ghost use Rattle.frame_table.specs.Table.{readCheck, answerFor, areaAfter, answerReturns, returnsFor};
 ghost use Rattle.lengths_file.specs.Lengths.{lengthsOf};
 ghost use Rattle.lengths_file.specs.Input.{inputCheck, inputReturns, lengthsPart, tablePart};
-ghost use Rattle.load_sheet.specs.Sheet.{nodesOf, nodeLine, linesOf, lastLine, greatestQuotient, sheetOf};
+ghost use Rattle.load_sheet.specs.Sheet.{nodesOf, nodeLoad, nodeLine, linesOf, lastLine, greatestQuotient, sheetOf};
 ghost use Rattle.load_sheet.specs.Steps.{Nodes};
 
 const NODES: usize = 16;
@@ -75,7 +74,7 @@ fn write_rows(lengths: [[u32; 9]; 2], rows: &[u32], out: &mut [u8]) -> Answer
     ensures { λ r. ⌜ now (out .exit) ≡ areaAfter r (sheetOf lengths (now (rows .entry))) (now (out .entry)) ⌝ }
 {
     let mut nodes = [0u32; NODES];
-    let count = find_nodes(lengths, rows, &mut nodes);
+    let count = find_nodes(rows, &mut nodes);
     let end = LINE * count;
     if out.len() < end + LAST_LINE {
         return no_room();
@@ -87,15 +86,15 @@ fn write_rows(lengths: [[u32; 9]; 2], rows: &[u32], out: &mut [u8]) -> Answer
 }
 
 // Puts the nodes that have frames at the start of an area, rising, and answers how many they are.
-fn find_nodes(lengths: [[u32; 9]; 2], rows: &[u32], nodes: &mut [u32]) -> usize
+fn find_nodes(rows: &[u32], nodes: &mut [u32]) -> usize
     requires { ⌜ length (now nodes) ≡ 16 ⌝ }
-    ensures { λ r. ⌜ take r (now (nodes .exit)) ≡ nodesOf (framesOf lengths (now (rows .entry))) ⌝ }
-    ensures counted { λ r. ⌜ (r ≡ length (nodesOf (framesOf lengths (now (rows .entry))))) × (r ≤ 16) ⌝ }
+    ensures { λ r. ⌜ take r (now (nodes .exit)) ≡ nodesOf (now (rows .entry)) ⌝ }
+    ensures counted { λ r. ⌜ (r ≡ length (nodesOf (now (rows .entry)))) × (r ≤ 16) ⌝ }
 {
     let mut found = 0;
     let mut node = 1;
     while node <= 16 {
-        if has_frames(lengths, rows, node) {
+        if has_frames(rows, node) {
             nodes[found] = node;
             found += 1;
         }
@@ -107,10 +106,10 @@ fn find_nodes(lengths: [[u32; 9]; 2], rows: &[u32], nodes: &mut [u32]) -> usize
 // Writes the lines of the nodes, and answers their greatest quotient.
 fn write_lines(lengths: [[u32; 9]; 2], rows: &[u32], nodes: &[u32], out: &mut [u8]) -> u64
     requires { ⌜ Loadable lengths × Accepted (now rows) ⌝ }
-    requires { ⌜ Nodes (now nodes) ⌝ }
+    requires { ⌜ Nodes (now rows) (now nodes) ⌝ }
     requires { ⌜ 30 * length (now nodes) ≤ length (now out) ⌝ }
-    ensures { λ r. ⌜ r ≡ greatestQuotient (framesOf lengths (now (rows .entry))) (now (nodes .entry)) ⌝ }
-    ensures { λ _. ⌜ now (out .exit) ≡ linesOf (framesOf lengths (now (rows .entry))) (now (nodes .entry)) ++ drop (30 * length (now (nodes .entry))) (now (out .entry)) ⌝ }
+    ensures { λ r. ⌜ r ≡ greatestQuotient (nodeLoad lengths (now (rows .entry))) (now (nodes .entry)) ⌝ }
+    ensures { λ _. ⌜ now (out .exit) ≡ linesOf (nodeLoad lengths (now (rows .entry))) (now (nodes .entry)) ++ drop (30 * length (now (nodes .entry))) (now (out .entry)) ⌝ }
 {
     let mut most = 0;
     let mut i = 0;

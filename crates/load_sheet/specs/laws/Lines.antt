@@ -8,15 +8,14 @@ use lib.ListN.{length, getD, set, take, drop, length-append}
 use lib.Seq.{take-all, take-suc}
 use borrow.Rule.Slice.PartMut.{midOf, putMid}
 use Rattle.arith.specs.Lists.{greatest, range}
-use Rattle.arith.specs.laws.Members.{mem-getD, of-keep, of-range}
+use Rattle.arith.specs.laws.Members.{mem-getD, of-keep}
 use Rattle.arith.specs.laws.Overwriting.{Begun, begun-none, begun-part, begun-filled, begun-element, begun-all}
 use Rattle.decimal.specs.Decimal.{writeColumn}
 use Rattle.decimal.specs.Laws.{length-write}
-use Rattle.bus_model.specs.declared.Frame.{Frame}
-use Rattle.table_checks.specs.Frames.{framesOf}
 use Rattle.load_sheet.specs.declared.Load.{Load}
 use Rattle.load_sheet.specs.Sheet.{hasFrames, nodesOf, nodeLoad, nodeLine, linesOf, lastLine, greatestQuotient, sheetWith, sheetOf}
 use Rattle.load_sheet.specs.Steps.{Nodes}
+use Rattle.load_sheet.specs.laws.Loads.{is-true}
 
 -- ---- lengths
 
@@ -29,16 +28,16 @@ unfolding lastLine
 length-last-line count most = simp (length-append, length-write)
 
 -- A line for each node.
-pub length-lines : (fs : List Frame) (js : List ℕ) → length (linesOf fs js) ≡ 30 * length js
+pub length-lines : (load : ℕ → Load) (js : List ℕ) → length (linesOf load js) ≡ 30 * length js
 unfolding linesOf
-length-lines fs [] = refl
-length-lines fs (j ∷ js) = length-append (nodeLine j (nodeLoad fs j)) (linesOf fs js) ∙ omega (arith, length-node-line j (nodeLoad fs j), length-lines fs js)
+length-lines load [] = refl
+length-lines load (j ∷ js) = length-append (nodeLine j (load j)) (linesOf load js) ∙ omega (arith, length-node-line j (load j), length-lines load js)
 
-length-sheet-with : (fs : List Frame) (js : List ℕ) → length (sheetWith fs js) ≡ 30 * length js + 14
+length-sheet-with : (load : ℕ → Load) (js : List ℕ) → length (sheetWith load js) ≡ 30 * length js + 14
 unfolding sheetWith
-length-sheet-with fs js =
-    length-append (linesOf fs js) (lastLine (length js) (greatestQuotient fs js))
-    ∙ omega (arith, length-lines fs js, length-last-line (length js) (greatestQuotient fs js))
+length-sheet-with load js =
+    length-append (linesOf load js) (lastLine (length js) (greatestQuotient load js))
+    ∙ omega (arith, length-lines load js, length-last-line (length js) (greatestQuotient load js))
 
 -- ---- a line, column by column
 
@@ -68,55 +67,55 @@ last-written count most line a b size p q =
 
 -- ---- the nodes that have frames
 
--- They are nodes, and few.
-pub nodes-of : (fs : List Frame) (js : List ℕ) → js ≡ nodesOf fs → length js ≤ 16 → Nodes js
+-- They are few, and have frames.
+pub nodes-of : (rows js : List ℕ) → js ≡ nodesOf rows → length js ≤ 16 → Nodes rows js
 unfolding nodesOf
-nodes-of fs js is few = record {
+nodes-of rows js is few = record {
   few = few;
-  each = λ i l. let m = of-range 1 16 (of-keep (hasFrames fs) (range 1 16) (subst (Mem (getD js i 0)) is (mem-getD js i 0 l)) .0) in (m .0, omega (arith, m .1));
+  each = λ i l. is-true _ (of-keep (hasFrames rows) (range 1 16) (subst (Mem (getD js i 0)) is (mem-getD js i 0 l)) .1);
 }
 
 -- ---- the lines of the nodes, one behind the other
 
-lines-more : (fs : List Frame) (js : List ℕ) (j : ℕ) → linesOf fs (js ++ (j ∷ [])) ≡ linesOf fs js ++ nodeLine j (nodeLoad fs j)
+lines-more : (load : ℕ → Load) (js : List ℕ) (j : ℕ) → linesOf load (js ++ (j ∷ [])) ≡ linesOf load js ++ nodeLine j (load j)
 unfolding linesOf
-lines-more fs [] j = append-nil (nodeLine j (nodeLoad fs j))
-lines-more fs (i ∷ js) j =
-    ap (λ (rest : List ℕ). nodeLine i (nodeLoad fs i) ++ rest) (lines-more fs js j)
-    ∙ sym (append-assoc (nodeLine i (nodeLoad fs i)) (linesOf fs js) (nodeLine j (nodeLoad fs j)))
+lines-more load [] j = append-nil (nodeLine j (load j))
+lines-more load (i ∷ js) j =
+    ap (λ (rest : List ℕ). nodeLine i (load i) ++ rest) (lines-more load js j)
+    ∙ sym (append-assoc (nodeLine i (load i)) (linesOf load js) (nodeLine j (load j)))
 
-most-more : (fs : List Frame) (js : List ℕ) (j : ℕ) → greatestQuotient fs (js ++ (j ∷ [])) ≡ max (greatestQuotient fs js) (nodeLoad fs j .quotient)
+most-more : (load : ℕ → Load) (js : List ℕ) (j : ℕ) → greatestQuotient load (js ++ (j ∷ [])) ≡ max (greatestQuotient load js) (load j .quotient)
 unfolding greatestQuotient greatest
-most-more fs [] j = omega arith
-most-more fs (i ∷ js) j = omega (arith, most-more fs js j)
+most-more load [] j = omega arith
+most-more load (i ∷ js) j = omega (arith, most-more load js j)
 
 -- the lines of the first i nodes are written over `old`, and `most` is their greatest quotient
-pub record Written (fs : List Frame) (js old out : List ℕ) (most i : ℕ) : Type 0 where
+pub record Written (load : ℕ → Load) (js old out : List ℕ) (most i : ℕ) : Type 0 where
   pub inside : i ≤ length js
-  pub begun : Begun (linesOf fs (take i js)) old out (30 * i)
-  pub most-is : most ≡ greatestQuotient fs (take i js)
+  pub begun : Begun (linesOf load (take i js)) old out (30 * i)
+  pub most-is : most ≡ greatestQuotient load (take i js)
 
-module _ (fs : List Frame) (js old : List ℕ) where
-  pub written-none : Written fs js old old 0 0
+module _ (load : ℕ → Load) (js old : List ℕ) where
+  pub written-none : Written load js old old 0 0
   unfolding linesOf greatestQuotient greatest
   written-none = record { inside = omega arith; begun = begun-none old; most-is = refl }
 
-  module _ {out : List ℕ} {most i : ℕ} (w : Written fs js old out most i) where
+  module _ {out : List ℕ} {most i : ℕ} (w : Written load js old out most i) where
     -- A line more.
-    pub written-more : (j : ℕ) (l : Load) (line : List ℕ) (next : ℕ) → i < length js → j ≡ getD js i 0 → l ≡ nodeLoad fs j → line ≡ nodeLine j l
-        → next ≡ max most (l .quotient) → Written fs js old (putMid (30 * i) (30 * i + 30 - 30 * i) out line) next (i + 1)
-    written-more j l line next less node load is more =
+    pub written-more : (j : ℕ) (l : Load) (line : List ℕ) (next : ℕ) → i < length js → j ≡ getD js i 0 → l ≡ load j → line ≡ nodeLine j l
+        → next ≡ max most (l .quotient) → Written load js old (putMid (30 * i) (30 * i + 30 - 30 * i) out line) next (i + 1)
+    written-more j l line next less node loaded is more =
         let part : take (i + 1) js ≡ take i js ++ (j ∷ []) = rw (add-one i, node) (take-suc js i 0 less) in
         let width : 30 * i + 30 - 30 * i ≡ 30 = omega arith in
         let end : 30 * (i + 1) ≡ 30 * i + 30 = omega arith in
         record {
           inside = omega arith;
-          begun = rw (part, width, end, lines-more fs (take i js) j, is, load) (begun-part _ old out (30 * i) (w .begun) (nodeLine j (nodeLoad fs j)) 30 (length-node-line j (nodeLoad fs j)));
-          most-is = rw (part, most-more fs (take i js) j, more, load, w .most-is);
+          begun = rw (part, width, end, lines-more load (take i js) j, is, loaded) (begun-part _ old out (30 * i) (w .begun) (nodeLine j (load j)) 30 (length-node-line j (load j)));
+          most-is = rw (part, most-more load (take i js) j, more, loaded, w .most-is);
         }
 
     -- All lines.
-    pub written-all : length js ≤ i → (most ≡ greatestQuotient fs js) × (out ≡ linesOf fs js ++ drop (30 * length js) old)
+    pub written-all : length js ≤ i → (most ≡ greatestQuotient load js) × (out ≡ linesOf load js ++ drop (30 * length js) old)
     written-all over =
         let e : i ≡ length js = omega (arith, w .inside) in
         let whole : take i js ≡ js = take-all i js over in
@@ -126,18 +125,18 @@ module _ (fs : List Frame) (js old : List ℕ) where
 
 module _ (ls : List (List ℕ)) (rows : List ℕ) where
   abbrev all : List ℕ
-  all = nodesOf (framesOf ls rows)
+  all = nodesOf rows
 
   pub length-sheet : (n : ℕ) → n ≡ length all → length (sheetOf ls rows) ≡ 30 * n + 14
   unfolding sheetOf
-  length-sheet n count = length-sheet-with (framesOf ls rows) all ∙ omega arith
+  length-sheet n count = length-sheet-with (nodeLoad ls rows) all ∙ omega arith
 
   -- The last line behind the lines.
   pub sheet-written : (js old out last : List ℕ) (n most : ℕ) → js ≡ all → n ≡ length all
-      → most ≡ greatestQuotient (framesOf ls rows) js → out ≡ linesOf (framesOf ls rows) js ++ drop (30 * length js) old → last ≡ lastLine n most
+      → most ≡ greatestQuotient (nodeLoad ls rows) js → out ≡ linesOf (nodeLoad ls rows) js ++ drop (30 * length js) old → last ≡ lastLine n most
       → putMid (30 * n) (30 * n + 14 - 30 * n) out last ≡ sheetOf ls rows ++ drop (30 * n + 14) old
   unfolding sheetOf sheetWith
   sheet-written js old out last n most is count most-is lines last-is =
-      let begun : Begun (linesOf (framesOf ls rows) all) old out (30 * n) = record { count = length-lines (framesOf ls rows) all ∙ omega arith; is = rw (is, ← count) at lines } in
+      let begun : Begun (linesOf (nodeLoad ls rows) all) old out (30 * n) = record { count = length-lines (nodeLoad ls rows) all ∙ omega arith; is = rw (is, ← count) at lines } in
       let width : 30 * n + 14 - 30 * n ≡ 14 = omega arith in
-      rw (width, last-is, most-is, is) (begun-part _ old out (30 * n) begun (lastLine n (greatestQuotient (framesOf ls rows) all)) 14 (length-last-line n _) .is ∙ rw count)
+      rw (width, last-is, most-is, is) (begun-part _ old out (30 * n) begun (lastLine n (greatestQuotient (nodeLoad ls rows) all)) 14 (length-last-line n _) .is ∙ rw count)

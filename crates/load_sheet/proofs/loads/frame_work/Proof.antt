@@ -17,9 +17,9 @@ div-result : tie.Need-div-result
 div-result c = search needs
 
 -- the work is small
-small : (c : tie.After-struct-known3) → c .before .before .before .before .args .g .length * (c .before .before .before .before .args .h / c .before .before .before .before .args .g .period) ≤ 400000000
+small : (c : tie.After-struct-known2) → c .before .before .before .args .g .length * (c .before .before .before .args .h / c .before .before .before .args .g .period) ≤ 400000000
 small c =
-    let start = c .before .before .before .before in
+    let start = c .before .before .before in
     let few = div-le-self (start .args .h) (start .args .g .period) in
     mul-le-mul {n₂ = 400} {m₂ = 1000000} (start .pre .2) (omega (arith, few, start .pre .0))
 

@@ -1,18 +1,20 @@
 -- `load_sheet::loads::work` meets its contract: the invariant has the work of the frames read.
-use Prim.Native.Nat.{_-_, _*_, _/_, _≤_}
+use Prim.Native.Nat.{_-_, _*_, _/_, _≤_, _<_}
+use mathlib.Core.Path.{_∙_}
 use native.Mathlib.Omega.{arith}
 use borrow.Author.Needs.{needs}
 use lib.ListN.{length}
+use Rattle.arith.specs.Lists.{range}
 use Rattle.arith.specs.laws.Walks.{Down, down-end}
 use Rattle.table_checks.specs.Columns.{columns}
-use Rattle.table_checks.specs.Frames.{framesOf}
-use Rattle.table_checks.specs.laws.Accepted.{accepted-size}
+use Rattle.table_checks.specs.laws.Accepted.{frame-row, accepted-size}
+use Rattle.load_sheet.specs.Sheet.{nodeFrames, rowsOf}
 use Rattle.load_sheet.specs.laws.Loads.{frame-limits, workOf, work-none, work-more}
 use Rattle.load_sheet.proofs.loads.work.Statement.{statement}
 use Rattle.load_sheet.proofs.loads.work.Tie as tie
 
 abbrev Inv-loop : tie.InvT-loop
-Inv-loop lengths rows node h sum₀ i₀ sum i = Down (workOf h node) (framesOf lengths rows) sum i × (sum ≤ 400000000 * (length rows / columns - i)) × (i ≤ length rows / columns)
+Inv-loop lengths rows node h sum₀ i₀ sum i = Down (workOf lengths rows h node) (range 0 (length rows / columns)) sum i × (sum ≤ 400000000 * (length rows / columns - i)) × (i ≤ length rows / columns)
 
 abbrev μ-loop : tie.MeasureT-loop
 μ-loop lengths rows node h sum₀ i₀ sum i = i
@@ -26,16 +28,31 @@ sub-i c = search needs
 frame-requires : tie.Need-frame-requires Inv-loop μ-loop
 frame-requires c κs = search needs
 
+mul-frame-work : tie.Need-mul-frame-work Inv-loop μ-loop
+mul-frame-work c = search needs
+
+add-frame-work : tie.Need-add-frame-work Inv-loop μ-loop
+add-frame-work c = search needs
+
+mul-frame-work-2 : tie.Need-mul-frame-work-2 Inv-loop μ-loop
+mul-frame-work-2 c = search needs
+
+shared-slice-read-frame-work : tie.Need-shared-slice-read-frame-work Inv-loop μ-loop
+shared-slice-read-frame-work c = search needs
+
 frame-work-requires : tie.Need-frame-work-requires Inv-loop μ-loop
 frame-work-requires c κs =
-    let at-loop = c .before .before in
+    let at-frame = c .before in
+    let at-loop = at-frame .before .before in
     let start = at-loop .before .before in
-    let m = frame-limits _ _ (start .pre .0 .0) (start .pre .0 .1) (at-loop .loop .i - 1) (omega (arith, at-loop .loop .inv .2, c .before .loop-test .taken)) in
-    (start .pre .1, rw (c .frame .ensures) (m .0), rw (c .frame .ensures) (m .1))
+    let l : at-loop .loop .i - 1 < length (start .args .rows .now) / columns = omega (arith, at-loop .loop .inv .2, at-frame .before .loop-test .taken) in
+    let is = at-frame .frame .ensures ∙ frame-row _ _ (at-loop .loop .i - 1) l in
+    let m = frame-limits _ _ (start .pre .0 .0) (start .pre .0 .1) (at-loop .loop .i - 1) l in
+    (start .pre .1, rw is (m .0), rw is (m .1))
 
 add-sum : tie.Need-add-sum Inv-loop μ-loop
 add-sum c =
-    let at-loop = c .before .before .before in
+    let at-loop = c .before .before .before .before in
     omega (arith, accepted-size _ (at-loop .before .before .pre .0 .1) .most, at-loop .loop .inv .1, c .frame-work .ensures .1)
 
 loop-less : tie.Need-loop-less Inv-loop μ-loop
@@ -43,14 +60,16 @@ loop-less c = search needs
 
 loop-again : tie.Need-loop-again Inv-loop μ-loop
 loop-again c =
-    let at-loop = c .before .before .before in
-    let some = c .before .before .loop-test .taken in (
-      work-more _ _ _ _ (at-loop .loop .inv .0) some (c .before .frame .ensures) (c .frame-work .ensures .0),
+    let at-frame = c .before .before in
+    let at-loop = at-frame .before .before in
+    let some = at-frame .before .loop-test .taken in (
+      work-more _ _ _ _ (at-loop .loop .inv .0) some (at-frame .frame .ensures) (c .frame-work .ensures .0),
       omega (arith, at-loop .loop .inv .1, at-loop .loop .inv .2, some, c .frame-work .ensures .1),
       search needs,
     )
 
 returns : tie.Need-returns Inv-loop μ-loop
+unfolding nodeFrames rowsOf
 returns c =
     let at-loop = c .before in
     (down-end _ _ (at-loop .loop .inv .0) (c .loop-test .left), omega (arith, at-loop .loop .inv .1, accepted-size _ (at-loop .before .before .pre .0 .1) .most))
@@ -64,6 +83,10 @@ work-spec =
     loop-holds
     sub-i
     frame-requires
+    mul-frame-work
+    add-frame-work
+    mul-frame-work-2
+    shared-slice-read-frame-work
     frame-work-requires
     add-sum
     loop-less

@@ -4,16 +4,15 @@ use mathlib.Core.Logic.{⊎-elim}
 use native.Mathlib.Omega.{arith}
 use borrow.Author.Needs.{needs}
 use Rattle.arith.specs.laws.Gathering.{Gathered, gathered-none, gathered-put, gathered-skip, gathered-all}
-use Rattle.table_checks.specs.Frames.{framesOf}
 use Rattle.load_sheet.specs.Sheet.{hasFrames, nodesOf}
 use Rattle.load_sheet.proofs.sheet.find_nodes.Statement.{statement}
 use Rattle.load_sheet.proofs.sheet.find_nodes.Tie as tie
 
 abbrev Inv-loop : tie.InvT-loop
-Inv-loop lengths rows nodes₀ found₀ node₀ nodes found node = Gathered (hasFrames (framesOf lengths rows)) 1 17 16 nodes found node
+Inv-loop rows nodes₀ found₀ node₀ nodes found node = Gathered (hasFrames rows) 1 17 16 nodes found node
 
 abbrev μ-loop : tie.MeasureT-loop
-μ-loop lengths rows nodes₀ found₀ node₀ nodes found node = 17 - node
+μ-loop rows nodes₀ found₀ node₀ nodes found node = 17 - node
 
 loop-holds : tie.Need-loop-holds Inv-loop μ-loop
 loop-holds c = gathered-none (c .before .before .pre) (omega arith) (omega arith)

@@ -4,13 +4,13 @@ use mathlib.Core.Path.{_≡_, refl}
 use native.Mathlib.Omega.{arith}
 use borrow.Author.Needs.{needs}
 use lib.ListN.{length, length-take, length-drop}
-use Rattle.table_checks.specs.Frames.{framesOf}
+use Rattle.load_sheet.specs.Sheet.{nodeLoad}
 use Rattle.load_sheet.specs.laws.Lines.{Written, written-none, written-more, written-all}
 use Rattle.load_sheet.proofs.sheet.write_lines.Statement.{statement}
 use Rattle.load_sheet.proofs.sheet.write_lines.Tie as tie
 
 abbrev Inv-loop : tie.InvT-loop
-Inv-loop lengths rows nodes out₀ most₀ i₀ out most i = Written (framesOf lengths rows) nodes out₀ out most i × (length out ≡ length out₀)
+Inv-loop lengths rows nodes out₀ most₀ i₀ out most i = Written (nodeLoad lengths rows) nodes out₀ out most i × (length out ≡ length out₀)
 
 abbrev μ-loop : tie.MeasureT-loop
 μ-loop lengths rows nodes out₀ most₀ i₀ out most i = length nodes - i
