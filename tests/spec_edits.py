@@ -10,7 +10,7 @@ import random
 import re
 
 ROOT = pathlib.Path(__file__).resolve().parent.parent
-PROVED = {'laws', 'theory', 'examples', 'Lib', 'Laws', 'Cases', 'Compute', 'Applied'}  # folders and files of no definitions
+PROVED = {'laws', 'theory', 'examples', 'Lib', 'Laws', 'Cases', 'Compute', 'Groups', 'Applied'}  # folders and files of no definitions
 
 Node = collections.namedtuple('Node', 'start end text inner')  # inner: what stands between brackets, None for a word
 Clause = collections.namedtuple('Clause', 'pattern start end')  # the sides of an equation, or a field's name and type

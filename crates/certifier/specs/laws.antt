@@ -4,3 +4,4 @@ pub mod Encoding
 pub mod Listing
 pub mod Answers
 pub mod Before
+pub mod Ungrouped

@@ -2,3 +2,4 @@
 pub mod Loads
 pub mod Lines
 pub mod Sheet
+pub mod Ungrouped

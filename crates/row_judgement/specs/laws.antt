@@ -2,3 +2,4 @@
 pub mod Stored
 pub mod Judged
 pub mod Returns
+pub mod Ungrouped

@@ -6,5 +6,6 @@ pub mod Lengths
 pub mod Sizes
 pub mod Accepted
 pub mod Before
+pub mod Ungrouped
 pub mod Returns
 pub mod OneKind
