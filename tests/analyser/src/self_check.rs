@@ -7,7 +7,7 @@ use crate::lengths::{self, LengthTable, STANDARD};
 use crate::literal;
 use crate::literal_table::{faults_of_file, faults_of_words, refusal};
 use crate::random::{clustered, dense, own_lengths, set_claim, stretched, Random};
-use crate::table::{self, Refusal, Row, FIELDS, GROUP, NODE};
+use crate::table::{self, Refusal, Row, FIELDS, GROUP, GROUPS, IDENTIFIER, NODE, PAYLOAD, PERIOD};
 use crate::table_cases::{damage_file, damage_words};
 
 const MOST_SCENARIOS: u64 = 150;
@@ -101,9 +101,9 @@ fn has_several_nodes(rows: &[Row]) -> bool {
     rows.iter().any(beside)
 }
 
-/// Damages a table in up to four places, as rows and as a file.
+/// Damages a table in up to five places, as rows and as a file.
 fn compare_checks(random: &mut Random, mut rows: Vec<Row>, tally: &mut Tally) {
-    for _ in 0..random.below(3) {
+    for _ in 0..random.below(4) {
         damage_row(random, &mut rows);
     }
     let mut words = rows.concat();
@@ -127,17 +127,19 @@ fn compare_checks(random: &mut Random, mut rows: Vec<Row>, tally: &mut Tally) {
     }
 }
 
-/// Another node, group, frame or period, mostly one that stands in the table, on the middle line or any.
+/// Another node, group, frame or period, mostly one that stands in the table; on the middle line, so
+/// that several faults meet, or on any.
 fn damage_row(random: &mut Random, rows: &mut [Row]) {
     let other = random.pick(rows);
-    let any = random.below(rows.len() as u64) as usize;
-    let row = &mut rows[if random.percent(50) { any } else { any / 2 }];
-    match random.below(6) {
+    let (any, middle) = (random.below(rows.len() as u64) as usize, rows.len() / 2);
+    let row = &mut rows[if random.percent(30) { any } else { middle }];
+    match random.below(7) {
         0 => row[NODE] = other[NODE],
         1 => row[GROUP] = random.between(0, 17) as u32,
-        2 => row[table::IDENTIFIER..table::PAYLOAD].copy_from_slice(&other[2..4]),
-        3 => row[table::PERIOD] = random.pick(&[1, 999, 1000, 1001, 1_000_000]),
+        2 => row[IDENTIFIER..PAYLOAD].copy_from_slice(&other[IDENTIFIER..PAYLOAD]),
+        3 => row[PERIOD] = random.pick(&[1, 999, 1000, 1001, 1_000_000]),
         4 => row[..2].copy_from_slice(&other[..2]),
+        5 => (row[NODE], row[GROUP]) = (other[NODE], other[GROUP] % GROUPS + 1),
         _ => row[random.below(FIELDS as u64) as usize] = random.pick(&[0, 1, 16, 17, 1_000_001]),
     }
 }
