@@ -1,5 +1,6 @@
 -- Tables without groups, as document 01 has them: seven numbers a row, and each node starts by itself. Widened by a group equal to its
--- node, such a table is checked as it was, and has the same frames; so what is told of frames is told as before.
+-- node, such a table is checked as it was, and has the same frames; so what is told of frames is told as before. Every table with group
+-- equal to node is a widened one.
 use Prim.Native.Nat.{ℕ, zero, suc, _+_, _-_, _*_, _/_, _%_, _<_}
 use mathlib.Core.Path.{_≡_, refl, sym, ap, ap₂, fun-ext, _∙_}
 use mathlib.Core.Bool.{Bool, true, false, cond, not, _&&_, _||_}
@@ -9,6 +10,7 @@ use native.Mathlib.Decide.{ℕ-discrete, decLt}
 use borrow.Author.Tests.{eq-eqb, ne-eqb, lt-ltb, le-ltb}
 use lib.Dec.{ltb, eqb}
 use lib.ListN.{length, getD, length-map}
+use lib.Seq.{ext-getD}
 use Rattle.arith.specs.Lists.{exists, range}
 use Rattle.arith.specs.laws.Members.{length-range, getD-table, getD-beyond}
 use Rattle.bus_model.specs.declared.Frame.{Frame}
@@ -30,7 +32,7 @@ plainColumns = 7
 abbrev pub plainField : List ℕ → ℕ → ℕ → ℕ
 plainField t i j = getD t (plainColumns * i + j) 0
 
--- its place among the columns of today
+-- the place of column j among today's
 abbrev pub columnNow : ℕ → ℕ
 columnNow zero = nodeColumn
 columnNow (suc j) = suc (suc j)
@@ -209,3 +211,44 @@ module _ (t : List ℕ) (whole : length t % plainColumns ≡ 0) where
   unfolding rowsCheck tableCheck linesCheck plainCheck
   widened-check =
       rw (size-widened, widened-frames [], rows-widened, ap (λ (c : ℕ → Checked). firstOf c (length t / plainColumns) 0) (fun-ext line-widened))
+
+-- ---- every table whose groups are its nodes is a widened one
+
+-- the rows without their groups
+unfoldable pub narrowed : List ℕ → List ℕ
+narrowed rows = map (λ k. field rows (k / plainColumns) (columnNow (k % plainColumns))) (range 0 (plainColumns * (length rows / columns)))
+
+module _ (rows : List ℕ) (whole : length rows % columns ≡ 0) (same : (i : ℕ) → i < length rows / columns → field rows i groupColumn ≡ field rows i nodeColumn) where
+  abbrev count : ℕ
+  count = length rows / columns
+
+  length-narrowed : length (narrowed rows) ≡ plainColumns * count
+  unfolding narrowed
+  length-narrowed = length-map (range 0 (plainColumns * count)) (λ k. field rows (k / plainColumns) (columnNow (k % plainColumns))) ∙ length-range 0 _
+
+  pub narrowed-whole : length (narrowed rows) % plainColumns ≡ 0
+  narrowed-whole = omega (arith, length-narrowed)
+
+  narrowed-field : (i j : ℕ) → i < count → j < plainColumns → plainField (narrowed rows) i j ≡ field rows i (columnNow j)
+  unfolding narrowed
+  narrowed-field i j h l =
+      let x : (0 + (plainColumns * i + j)) / plainColumns ≡ i = omega arith in
+      let y : (0 + (plainColumns * i + j)) % plainColumns ≡ j = omega arith in
+      getD-table (λ k. field rows (k / plainColumns) (columnNow (k % plainColumns))) 0 (plainColumns * count) (plainColumns * i + j) 0 (omega arith) ∙ rw (x, y)
+
+  -- What stands a column earlier without groups is what stands there.
+  column-back : (i j : ℕ) → i < count → field rows i (columnNow (j - 1)) ≡ field rows i j
+  column-back i zero h = refl
+  column-back i (suc zero) h = sym (same i h)
+  column-back i (suc (suc j)) h = let z : suc (suc j) - 1 ≡ suc j = omega arith in rw z
+
+  field-back : (i j : ℕ) → i < count → j < columns → field (widened (narrowed rows)) i j ≡ field rows i j
+  field-back i j h l = widened-field (narrowed rows) narrowed-whole i j l ∙ narrowed-field i (j - 1) h (omega arith) ∙ column-back i j h
+
+  pub widened-back : widened (narrowed rows) ≡ rows
+  widened-back =
+      let size = length-widened (narrowed rows) narrowed-whole in
+      let narrow = length-narrowed in
+      ext-getD 0 (widened (narrowed rows)) rows (omega arith)
+      (λ k l. let place : columns * (k / columns) + k % columns ≡ k = omega arith in
+      rw place at (field-back (k / columns) (k % columns) (omega arith) (omega arith)))
