@@ -53,9 +53,9 @@ blocking fs k = greatest (λ g. g .length) (below fs k) - 1
 
 -- ---- alignments
 
--- o as the bounds read it, which is below the period; a valid frame's offset is so itself
+-- o as the bounds read it: o mod p, which is o itself where o is below p
 unfoldable pub phase : Frame → ℕ
-phase g = g .offset
+phase g = g .offset % g .period
 
 -- a is an instant o + m×p of the frame
 unfoldable pub isReleasedAt : ℕ → Frame → Bool

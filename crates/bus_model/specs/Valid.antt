@@ -13,9 +13,12 @@ pub record ValidFrame (g : Frame) : Type 0 where
   pub length : 1 ≤ g .length
   pub group-low : 1 ≤ g .group
   pub group-high : g .group ≤ 16
-  pub offset : g .offset < g .period
 
 -- a table: every frame is valid, and no two rows have the same priority
 pub record Valid (fs : List Frame) : Type 0 where
   pub frame : (i : ℕ) → i < length fs → ValidFrame (row fs i)
   pub distinct : (i j : ℕ) → i < length fs → j < length fs → row fs i .priority ≡ row fs j .priority → i ≡ j
+
+-- no frame begins late: each offset is below its period, as document 01 had it before late starters (document 02, 7)
+abbrev pub Early : List Frame → Type 0
+Early fs = (i : ℕ) → i < length fs → row fs i .offset < row fs i .period

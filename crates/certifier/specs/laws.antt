@@ -5,3 +5,4 @@ pub mod Listing
 pub mod Answers
 pub mod Before
 pub mod Ungrouped
+pub mod Offsets

@@ -2,6 +2,7 @@
 use crate::Bounded;
 use crate::Cause;
 use crate::Refusal;
+use crate::frames::early_frame;
 use crate::frames::store;
 use crate::of_table;
 use arith::Found;
@@ -46,7 +47,7 @@ fn bound_row(lengths: [[u32; 9]; 2], rows: &[u32], i: usize) -> Bounded
     requires { ⌜ i < length (framesOf lengths (now rows)) ⌝ }
     ensures { λ r. ⌜ r ≡ boundFrame (framesOf lengths (now (rows .entry))) i ⌝ }
 {
-    let k = table_checks::frame(lengths, rows, i);
+    let k = early_frame(lengths, rows, i);
     let mut frames = [0u32; workload::FRAMES];
     store(lengths, rows, &mut frames);
     let used = workload::FRAME * (rows.len() / table_checks::ROW);

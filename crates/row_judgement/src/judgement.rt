@@ -2,6 +2,7 @@
 use crate::Cause;
 use crate::Judged;
 use crate::Refusal;
+use crate::frames::early_frame;
 use crate::frames::store;
 use crate::of_table;
 use arith::Found;
@@ -57,7 +58,7 @@ pub fn judge_row(lengths: [[u32; 9]; 2], rows: &[u32], i: usize) -> Judgement
     requires { ⌜ i < length (framesOf lengths (now rows)) ⌝ }
     ensures { λ r. ⌜ r ≡ judge (framesOf lengths (now (rows .entry))) (row (framesOf lengths (now (rows .entry))) i) (claimOf (now (rows .entry)) i) ⌝ }
 {
-    let k = table_checks::frame(lengths, rows, i);
+    let k = early_frame(lengths, rows, i);
     let claim = rows[table_checks::ROW * i + table_checks::CLAIM];
     let mut frames = [0u32; workload::FRAMES];
     store(lengths, rows, &mut frames);

@@ -1,5 +1,5 @@
 -- Demand 3 applied to document 01's whole case, as the contract of `row_judgement::judge` says it: frame 32 has verdict 1 and
--- frame 64 has verdict 2, so both meet their claims in every schedule, and there are schedules.
+-- frame 64 has verdict 2, so both meet their claims in every schedule, and there are schedules. A late starter meets its claim too.
 use Prim.Native.Nat.{ℕ}
 use mathlib.Core.Path.{_≡_, refl}
 use mathlib.Core.List.{List, List·Memᴰ as Mem}
@@ -18,7 +18,7 @@ use Rattle.row_judgement.specs.declared.Judged.the-variants.{Verdict}
 use Rattle.row_judgement.specs.Judge.{judgeChecked, judgeRow, certified}
 use Rattle.row_judgement.specs.laws.Judged.{judged-meets}
 use Rattle.starred_examples.specs.Compute.{everything}
-use Rattle.starred_examples.specs.Cases.{listing}
+use Rattle.starred_examples.specs.Cases.{listing, starting}
 
 -- ---- verdict 1
 
@@ -63,3 +63,14 @@ listing-accepted = refl
 pub listing-runs : (starts : ℕ → ℕ) (T : ℕ)
     → (xs : List Transmission) × Schedule (framesOf standardLengths listing) starts T xs × ((x : Transmission) → Mem x xs → x .length ≡ row (framesOf standardLengths listing) (x .frame) .length)
 listing-runs = longest-schedule (accepted-valid listing listing-accepted standardLengths standard-loadable)
+
+-- ---- a late starter
+
+late-judged : judgeRow standardLengths (starting 1000) 0 ≡ Verdict (record { outcome = CertifiedApproximate 135; bound = 135; margin = pos 0 })
+unfolding everything judgeRow judgeChecked
+late-judged = refl
+
+-- With offset 1000 and period 1000 the frame meets its claim in every schedule; it is first released 1000 ticks after its group's start.
+pub late-meets : MeetsClaim (framesOf standardLengths (starting 1000)) 0 135
+unfolding everything certified certifies
+late-meets = judged-meets standardLengths (starting 1000) 0 (rw late-judged tt)

@@ -1,4 +1,4 @@
--- The starred examples of document 01, with its lengths: one list of cases, one theorem.
+-- The starred examples of document 01, with its lengths: one list of cases, one theorem. Late starters (document 02, 7) have a list of their own.
 -- All hold by computation but one, whose search would take a million steps: there a law tells that a frame longer than its period has no window.
 use Prim.Native.Nat.{ℕ, _+_, _*_}
 use mathlib.Core.Path.{_≡_, refl, ap}
@@ -17,6 +17,7 @@ use Rattle.table_checks.specs.Refusal.{checkReturns}
 use Rattle.table_checks.specs.Checks.{rowsCheck}
 use Rattle.table_checks.specs.laws.Lengths.{standard-loadable}
 use Rattle.table_checks.specs.laws.Accepted.{accepted-valid}
+use Rattle.table_checks.specs.laws.Offsets.{columnCheckWith, columnsCheckWith, lineCheckWith, linesCheckWith, tableCheckWith, rowsCheckWith, formerLimit}
 use Rattle.starred_examples.specs.Compute.{everything}
 
 -- ---- the tables, row by row
@@ -33,6 +34,10 @@ listing =
 -- one frame of kind 11 with 8 payload bytes
 abbrev pub alone : ℕ → List ℕ
 alone p = 1 ∷ 1 ∷ 0 ∷ 11 ∷ 8 ∷ p ∷ 0 ∷ 135 ∷ []
+
+-- one such frame of period 1000, with an offset
+abbrev pub starting : ℕ → List ℕ
+starting o = 1 ∷ 1 ∷ 0 ∷ 11 ∷ 8 ∷ 1000 ∷ o ∷ 135 ∷ []
 
 -- two frames of a group, of periods 1 and p
 abbrev pub dense : ℕ → List ℕ
@@ -113,3 +118,25 @@ too-long = ap numbers (overloaded-judged (accepted-valid (alone 134) refl standa
 pub all-hold : AllHold cases
 unfolding cases AllHold Holds numbers everything
 all-hold = (refl, (refl, (refl, (refl, (refl, (refl, (refl, (refl, (refl, (too-long, (refl, (refl, (refl, (refl, ((refl, refl), ((refl, refl), tt))))))))))))))))
+
+-- ---- late starters
+
+-- document 01's edge example, offset 1000 with period 1000, is accepted; so is the greatest offset, and one more is 4; a late frame is
+-- judged as one that starts at once
+unfoldable pub late : List Case
+late =
+    checked (starting 1000) 0 0
+    ∷ checked (starting 1_000_000) 0 0
+    ∷ checked (starting 1_000_001) 4 1
+    ∷ judged (starting 0) 0 135 1 135 (pos 0)
+    ∷ judged (starting 4000) 0 135 1 135 (pos 0)
+    ∷ []
+
+pub late-hold : AllHold late
+unfolding late AllHold Holds numbers everything
+late-hold = (refl, (refl, (refl, (refl, (refl, tt)))))
+
+-- With document 01's limit the edge example was 4.
+pub formerly-refused : checkReturns (rowsCheckWith formerLimit (starting 1000)) ≡ record { number = 4; place = 1 }
+unfolding rowsCheckWith tableCheckWith linesCheckWith lineCheckWith columnsCheckWith columnCheckWith everything
+formerly-refused = refl

@@ -5,7 +5,7 @@ use Prim.Native.Nat.{ℕ, _+_, _*_}
 use mathlib.Core.Bool.{Bool, true, false, _&&_, _||_}
 use mathlib.Core.List.{List, [], _∷_}
 use lib.ListN.{getD, take}
-use lib.Dec.{ltb, leb, eqb}
+use lib.Dec.{leb, eqb}
 use Rattle.arith.specs.Lists.{sum}
 
 -- ---- in memory
@@ -90,7 +90,7 @@ unfoldable pub isIdentifier : ℕ → ℕ → Bool
 isIdentifier kind identifier = (eqb kind 11 && leb identifier 2047) || (eqb kind 29 && leb identifier 536_870_911)
 
 -- for each column whether v is within its limits, where `before` stands in the column before it:
--- an identifier's limit is judged at its kind, and an offset is below its period
+-- an identifier's limit is judged at its kind
 abbrev pub limits : ℕ → ℕ → List Bool
 limits before v =
     between 1 16 v
@@ -99,7 +99,7 @@ limits before v =
     ∷ isIdentifier v before
     ∷ leb v 8
     ∷ between 1 1_000_000 v
-    ∷ ltb v before
+    ∷ leb v 1_000_000
     ∷ between 1 1_000_000 v
     ∷ []
 

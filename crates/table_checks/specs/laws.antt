@@ -10,3 +10,4 @@ pub mod Before
 pub mod Ungrouped
 pub mod Returns
 pub mod OneKind
+pub mod Offsets

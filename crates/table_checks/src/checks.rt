@@ -106,7 +106,7 @@ fn is_within(j: usize, before: u64, v: u64) -> bool
         KIND => is_identifier(v, before),
         PAYLOAD => v <= 8,
         PERIOD => is_between(1, 1_000_000, v),
-        OFFSET => v < before,
+        OFFSET => v <= 1_000_000,
         CLAIM => is_between(1, 1_000_000, v),
         _ => false,
     }

@@ -25,7 +25,7 @@ pub record Fine (g : Frame) : Type 0 where
   pub period-high : g .period ≤ 1000000
   pub offset : g .offset < g .period
 
--- the frames of a table that was accepted
+-- the frames of a table that was accepted, as they stand in the area: none begins late
 pub record FineTable (fs : List Frame) : Type 0 where
   pub few : length fs ≤ 64
   pub valid : Valid fs

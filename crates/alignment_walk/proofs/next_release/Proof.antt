@@ -4,7 +4,7 @@ use mathlib.Core.Path.{ap}
 use native.Mathlib.Omega.{arith}
 use borrow.Author.Needs.{needs}
 use Rattle.arith.specs.laws.Releases.{count-short}
-use Rattle.bus_model.specs.Bounds.{phase}
+use Rattle.bus_model.specs.theory.Frames.{phase-offset}
 use Rattle.alignment_walk.proofs.next_release.Statement.{statement}
 use Rattle.alignment_walk.proofs.next_release.Tie as tie
 
@@ -25,10 +25,10 @@ add-result : tie.Need-add-result
 add-result c = omega (arith, short (c .before .before))
 
 returns : tie.Need-returns
-unfolding phase
 returns c =
-    let g = c .before .before .before .args .g in
-    ap (λ (t : ℕ). g .offset + t * g .period) (c .before .before .releases-before .ensures .0)
+    let s = c .before .before .before in
+    let g = s .args .g in
+    rw (phase-offset g (s .pre .0 .offset)) (ap (λ (t : ℕ). g .offset + t * g .period) (c .before .before .releases-before .ensures .0))
 
 pub next-release-spec : {M : Type 1} → statement M
 next-release-spec = tie.close (tie.spec releases-before-requires mul-result add-result returns)

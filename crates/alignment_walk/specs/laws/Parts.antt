@@ -19,6 +19,7 @@ use Rattle.arith.specs.declared.Found.{Found}
 use Rattle.arith.specs.declared.Found.the-variants.{At, Nothing}
 use Rattle.bus_model.specs.declared.Frame.{Frame}
 use Rattle.bus_model.specs.Bounds.{phase, isReleasedAt, distance, orEmpty}
+use Rattle.bus_model.specs.theory.Frames.{phase-rest, phase-fits}
 use Rattle.bus_model.specs.theory.Alignment.{released-at, released-turn, distance-lt, distance-reaches}
 use Rattle.workload.specs.ByGroup.{Fine, FinePart, framesIn, isInstant, orEnd}
 use Rattle.workload.specs.laws.Fine.{of-fine}
@@ -28,8 +29,7 @@ use Rattle.alignment_walk.specs.Steps.{nextRelease, waitFrom}
 
 -- It is a release.
 pub next-released : {g : Frame} → Fine g → (a : ℕ) → T (isReleasedAt (nextRelease a g) g)
-unfolding phase
-next-released {g} fine a = released-at g (nextRelease a g) (add-mul-mod-self-right (phase g) _ (g .period) ∙ mod-eq-of-lt (fine .offset))
+next-released {g} fine a = released-at g (nextRelease a g) (add-mul-mod-self-right (phase g) _ (g .period) ∙ mod-eq-of-lt (phase-fits (of-fine fine)))
 
 -- No release at a or later comes before it.
 next-first : {g : Frame} → Fine g → (a m : ℕ) → a ≤ m → T (isReleasedAt m g) → nextRelease a g ≤ m
@@ -72,8 +72,7 @@ module _ {g : Frame} (fine : Fine g) where
 
   -- The very first is at the offset.
   pub next-offset : g .offset ≡ nextRelease 0 g
-  unfolding phase
-  next-offset = next-within 0 (g .offset) (omega arith) (omega (arith, fine .offset)) (mod-eq-of-lt (fine .offset))
+  next-offset = next-within 0 (g .offset) (omega arith) (omega (arith, fine .offset)) (phase-rest g)
 
   -- It is waited for from a tick before it.
   pub wait-first : (a : ℕ) → a ≤ g .offset → g .offset - a ≡ waitFrom a a g

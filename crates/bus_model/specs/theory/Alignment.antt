@@ -146,7 +146,7 @@ distance-fits {g} valid s v a c started before same = rw same-rest (omega (arith
     late = g .offset / p
 
     offset-is : phase g + late * p ≡ g .offset
-    offset-is = rw (phase-rest valid) at (mod-add-div' (g .offset) p)
+    offset-is = rw (phase-rest g) at (mod-add-div' (g .offset) p)
 
     shifted : phase g + (p - a % p) + (c + late) * p ≡ y + suc ((v - s) / p) * p
     shifted = omega (arith, offset-is, mod-add-div' (v - s) p, mod-lt a (valid .period))
@@ -190,9 +190,9 @@ module _ (fs : List Frame) (valid : Valid fs) (k : Frame) (starts : ℕ → ℕ)
 
       rest : a % (x .period) ≡ phase x
       rest =
-          let (own, started) = of-table (l .listed) in
+          let started = of-table (l .listed) .1 in
           let past : v - starts j ≡ x .offset + releasedBy starts x t * x .period = omega arith in
-          rw (mod-mod-of-dvd (x .period) (v - starts j) (group-divides fs k j (l .listed)), past, add-mul-mod-self-right) (phase-rest own)
+          rw (mod-mod-of-dvd (x .period) (v - starts j) (group-divides fs k j (l .listed)), past, add-mul-mod-self-right) (phase-rest x)
 
       stands : (g : Frame) → Mem g (ofGroup (ahead fs k) j) → t + distance g a ≤ next starts t g
       stands g m =

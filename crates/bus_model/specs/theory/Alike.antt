@@ -1,12 +1,12 @@
 -- Frames that differ in what the bounds do not read have the same bounds and judgements, and where they are released together the
--- same schedules. The bounds read priorities by their order alone.
+-- same schedules. The bounds read priorities by their order alone, and offsets modulo the period.
 use Prim.Native.Nat.{ℕ, suc, _+_, _-_, _*_, _≤_, _<_}
 use mathlib.Core.Path.{_≡_, refl, sym, ap, _∙_, fun-ext}
 use mathlib.Core.List.{List, [], _∷_, map, List·Memᴰ as Mem}
 use mathlib.Core.Bool.{Bool, true, false}
 use mathlib.Core.Logic.{_↔_, inl, inr}
 use native.Mathlib.Omega.{arith}
-use native.Mathlib.Nat.{eq-or-lt-of-le}
+use native.Mathlib.Nat.{eq-or-lt-of-le, mod-mod}
 use lib.Dec.{leb, ltb, leb→le, le→leb, ltb→lt, lt→ltb}
 use lib.ListN.{length, length-map, List·getD-map}
 use Rattle.arith.specs.Lists.{sum, product, greatest, keep, exists, range, combinations}
@@ -18,6 +18,7 @@ use Rattle.arith.specs.laws.Maps.{sum-map, greatest-map, lcmOf-map, exists-map,
 use Rattle.bus_model.specs.Frame.{noFrame, row}
 use Rattle.bus_model.specs.Release.{release}
 use Rattle.bus_model.specs.Bus.{Transmission, Waiting, Idle, Next, Runs, Schedule, MeetsClaim}
+use Rattle.bus_model.specs.Valid.{ValidFrame, Valid}
 use Rattle.bus_model.specs.Pattern.{ofGroup, hyperperiod}
 use Rattle.bus_model.specs.Bounds.{groups, windowLimit, isAhead, isBetter, isBelow, ahead, better, below, blocking, phase, isReleasedAt, alignments, distance, choiceOf, orEmpty, choices, scenarios, ownGroup, demand, workAt, groupWork, work, windowLoad, busyWindow, delayLoad, queueingDelay, ownDistance, instanceResponse, responseTime, scenarioResponse, boundOf, scenarioCount}
 use Rattle.bus_model.specs.Judgement.{lacksWindow, tooManyScenarios, preciseOutcome, refinedOutcome, windowedOutcome, outcomeOf, judge}
@@ -261,3 +262,41 @@ keeps-rising r rising f g m n = (to, back)
 
     back : f .priority ≤ g .priority → r (f .priority) ≤ r (g .priority)
     back le = elim (eq-or-lt-of-le le) [ inl e ↦ omega (arith, ap r e) | inr less ↦ omega (arith, rising f g m n less) ]
+
+-- ---- late starts
+
+-- the frame if it did not start late
+abbrev pub early : Frame → Frame
+early = recast (λ g. g .priority) phase
+
+-- It has the same phase,
+pub early-phase : (g : Frame) → phase (early g) ≡ phase g
+unfolding phase
+early-phase g = mod-mod (g .offset) (g .period)
+
+-- and the order stays.
+pub early-keeps : (fs : List Frame) → KeepsOrder (λ g. g .priority) fs
+early-keeps fs f g m n = (λ le. le, λ le. le)
+
+-- So its judgement is the same.
+pub judge-early : (fs : List Frame) {k : Frame} → Mem k fs → judge (map early fs) (early k) ≡ judge fs k
+judge-early fs m = judge-alike (λ g. g .priority) phase early-phase (early-keeps fs) m
+
+module _ (fs : List Frame) where
+  pub row-early : (i : ℕ) → i < length fs → row (map early fs) i ≡ early (row fs i)
+  row-early = row-recast (λ g. g .priority) phase fs
+
+  -- A valid table stays so.
+  pub valid-early : Valid fs → Valid (map early fs)
+  valid-early valid = record { frame = frame; distinct = distinct }
+    where
+      inside : {i : ℕ} → i < length (map early fs) → i < length fs
+      inside l = rw (length-map fs early) at l
+
+      frame : (i : ℕ) → i < length (map early fs) → ValidFrame (row (map early fs) i)
+      frame i l =
+          let v = valid .frame i (inside l) in
+          rw (row-early i (inside l)) (record { period = v .period; length = v .length; group-low = v .group-low; group-high = v .group-high })
+
+      distinct : (i j : ℕ) → i < length (map early fs) → j < length (map early fs) → row (map early fs) i .priority ≡ row (map early fs) j .priority → i ≡ j
+      distinct i j l l′ e = valid .distinct i j (inside l) (inside l′) (rw (row-early i (inside l), row-early j (inside l′)) at e)

@@ -4,7 +4,7 @@ use Prim.Native.Nat.{ℕ, _≤_, _<_, _%_, _∣_}
 use mathlib.Core.Path.{_≡_, refl}
 use mathlib.Core.List.{List, List·Memᴰ as Mem}
 use native.Mathlib.Omega.{arith}
-use native.Mathlib.Nat.{le-refl, mod-eq-of-lt}
+use native.Mathlib.Nat.{le-refl, mod-lt, mod-eq-of-lt}
 use lib.Dec.{le→leb, ltb→lt, eqb-refl, eqb→eq}
 use lib.ListN.{length}
 use Rattle.arith.specs.Lists.{range}
@@ -19,14 +19,19 @@ use Rattle.bus_model.specs.declared.Frame.{Frame}
 -- ---- one frame
 
 -- The phase is the offset modulo the period.
-pub phase-rest : {g : Frame} → ValidFrame g → g .offset % g .period ≡ phase g
+pub phase-rest : (g : Frame) → g .offset % g .period ≡ phase g
 unfolding phase
-phase-rest valid = mod-eq-of-lt (valid .offset)
+phase-rest g = refl
 
 -- It is below the period.
 pub phase-fits : {g : Frame} → ValidFrame g → phase g < g .period
 unfolding phase
-phase-fits valid = valid .offset
+phase-fits {g} valid = mod-lt (g .offset) (valid .period)
+
+-- It is the offset itself, where that is below the period.
+pub phase-offset : (g : Frame) → g .offset < g .period → phase g ≡ g .offset
+unfolding phase
+phase-offset g early = mod-eq-of-lt early
 
 -- A frame's group is one of the groups.
 pub group-listed : {g : Frame} → ValidFrame g → Mem (g .group) (range 1 groups)

@@ -166,7 +166,7 @@ module _ (rows : List ℕ) (accepted : Accepted rows) where
     valid-frame i l =
         let m = accepted-limits i l in
         let c = length-bounds ls loadable (field rows i kindColumn) (field rows i payloadColumn) (m .payload-max) in
-        record { period = m .period-min; length = omega (arith, c .0); group-low = m .group-min; group-high = m .group-max; offset = m .offset-max }
+        record { period = m .period-min; length = omega (arith, c .0); group-low = m .group-min; group-high = m .group-max }
 
     no-duplicate : (i j : ℕ) → i < j → j < length rows / columns → frameAt ls rows i .priority ≡ frameAt ls rows j .priority → ⊥
     unfolding frameAt

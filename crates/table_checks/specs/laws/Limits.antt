@@ -6,7 +6,7 @@ use mathlib.Core.List.{List, [], _∷_}
 use mathlib.Core.Logic.{_⊎_, inl, inr}
 use native.Mathlib.Nat.{zero-add}
 use native.Mathlib.Omega.{arith}
-use borrow.Author.Tests.{leb-true, ltb-true, eqb-true}
+use borrow.Author.Tests.{leb-true, eqb-true}
 use lib.ListN.{length, getD}
 use lib.Dec.{leb, ltb, eqb, ltb→lt}
 use Rattle.arith.specs.laws.Tests.{by-test, and-both}
@@ -30,7 +30,7 @@ pub record Limits (t : List ℕ) (i : ℕ) : Type 0 where
   pub payload-max : field t i payloadColumn ≤ 8
   pub period-min : 1 ≤ field t i periodColumn
   pub period-max : field t i periodColumn ≤ 1000000
-  pub offset-max : field t i offsetColumn < field t i periodColumn
+  pub offset-max : field t i offsetColumn ≤ 1000000
   pub claim-min : 1 ≤ field t i claimColumn
   pub claim-max : field t i claimColumn ≤ 1000000
 
@@ -41,7 +41,7 @@ not-passed e = let z : _≡_ {A = ℕ} 0 1 = cc in absurd (omega arith)
 -- ---- a line
 
 -- A column that passed is within its limits.
-column-within : (t : List ℕ) (i j : ℕ) → columnCheck t i j ≡ Passed → within j (field t i (j - 1)) (field t i j) ≡ true
+pub column-within : (t : List ℕ) (i j : ℕ) → columnCheck t i j ≡ Passed → within j (field t i (j - 1)) (field t i j) ≡ true
 unfolding columnCheck
 column-within t i j e =
     by-test (eqb (field t i j) unterminated) (λ u. not-passed {cause = FileForm} {place = i + 1} (simp u at e))
@@ -72,7 +72,7 @@ line-limits t i e =
       payload-max = leb-true _ _ (each payloadColumn (omega arith));
       period-min = period .0;
       period-max = period .1;
-      offset-max = ltb-true _ _ (each offsetColumn (omega arith));
+      offset-max = leb-true _ _ (each offsetColumn (omega arith));
       claim-min = claim .0;
       claim-max = claim .1;
     }
@@ -104,7 +104,7 @@ unfolding greatestIn
 field-most t i m =
     let d = identified-max _ _ (m .identified) in
     each-below (λ j. field t i j ≤ greatestIn j) columns
-    ((((((((tt, m .node-max), m .group-max), d .1), d .0), m .payload-max), m .period-max), omega (arith, m .offset-max, m .period-max)), m .claim-max)
+    ((((((((tt, m .node-max), m .group-max), d .1), d .0), m .payload-max), m .period-max), m .offset-max), m .claim-max)
 
 -- A number within its limits has 32 bits.
 pub field-small : (t : List ℕ) (i : ℕ) → Limits t i → (j : ℕ) → j < columns → field t i j < 2 ^ 32

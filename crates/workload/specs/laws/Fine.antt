@@ -14,7 +14,7 @@ use Rattle.workload.specs.ByGroup.{Fine, FineTable, FinePart, partOf, By
 
 -- They are those that the definitions ask for.
 pub of-fine : {g : Frame} → Fine g → ValidFrame g
-of-fine fine = record { period = fine .period-low; length = fine .length-low; group-low = fine .group-low; group-high = fine .group-high; offset = fine .offset }
+of-fine fine = record { period = fine .period-low; length = fine .length-low; group-low = fine .group-low; group-high = fine .group-high }
 
 module _ (fs : List Frame) (table : FineTable fs) where
   -- Each frame of the table is.

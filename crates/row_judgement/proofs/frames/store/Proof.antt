@@ -1,9 +1,10 @@
 -- The invariant has the frames put there.
 use borrow.Author.Needs.{needs}
 use Prim.Native.Nat.{_-_, _/_, _≤_}
-use mathlib.Core.Path.{sym, _∙_}
+use mathlib.Core.Path.{sym, ap, _∙_}
 use native.Mathlib.Omega.{arith}
 use lib.ListN.{length}
+use Rattle.bus_model.specs.theory.Alike.{early}
 use Rattle.table_checks.specs.Columns.{columns}
 use Rattle.table_checks.specs.Frames.{frameAt}
 use Rattle.table_checks.specs.laws.Accepted.{frame-row, accepted-size}
@@ -13,7 +14,7 @@ use Rattle.row_judgement.proofs.frames.store.Statement.{statement}
 use Rattle.row_judgement.proofs.frames.store.Tie as tie
 
 abbrev Inv-loop : tie.InvT-loop
-Inv-loop lengths rows frames₀ i₀ frames i = StoredTo (frameAt lengths rows) frames i × (i ≤ length rows / columns)
+Inv-loop lengths rows frames₀ i₀ frames i = StoredTo (λ m. early (frameAt lengths rows m)) frames i × (i ≤ length rows / columns)
 
 abbrev μ-loop : tie.MeasureT-loop
 μ-loop lengths rows frames₀ i₀ frames i = length rows / columns - i
@@ -21,8 +22,8 @@ abbrev μ-loop : tie.MeasureT-loop
 loop-holds : tie.Need-loop-holds Inv-loop μ-loop
 loop-holds c = (record { size = c .before .before .pre .1; each = λ m l. absurd (omega arith) }, omega arith)
 
-frame-requires : tie.Need-frame-requires Inv-loop μ-loop
-frame-requires c κs = search needs
+early-frame-requires : tie.Need-early-frame-requires Inv-loop μ-loop
+early-frame-requires c κs = search needs
 
 put-requires : tie.Need-put-requires Inv-loop μ-loop
 put-requires c κs =
@@ -30,7 +31,7 @@ put-requires c κs =
     let l = c .before .before .before .loop in
     let inside = c .before .before .loop-test .taken in
     let few = accepted-size _ (s .pre .0) .most in
-    (omega (arith, l .inv .0 .size, few), omega (arith, l .inv .0 .size), rw (c .frame .ensures) (priority-short _ _ (s .pre .0) _ inside))
+    (omega (arith, l .inv .0 .size, few), omega (arith, l .inv .0 .size), rw (c .early-frame .ensures) (priority-short _ _ (s .pre .0) _ inside))
 
 add-i : tie.Need-add-i Inv-loop μ-loop
 add-i c = search needs
@@ -45,7 +46,7 @@ loop-again c =
     let l = t .before .loop in
     let s = t .before .before .before .before in
     let few = accepted-size _ (s .pre .0) .most in (
-      put-more (l .inv .0) (omega (arith, few, t .loop-test .taken)) (f .frame .ensures ∙ frame-row _ _ _ (t .loop-test .taken)) (c .before .before .put .ensures),
+      put-more (l .inv .0) (omega (arith, few, t .loop-test .taken)) (f .early-frame .ensures ∙ ap early (frame-row _ _ _ (t .loop-test .taken))) (c .before .before .put .ensures),
       omega (arith, t .loop-test .taken),
     )
 
@@ -65,7 +66,7 @@ store-spec =
     Inv-loop
     μ-loop
     loop-holds
-    frame-requires
+    early-frame-requires
     put-requires
     add-i
     loop-less

@@ -4,7 +4,8 @@ use mathlib.Core.Path.{_≡_, sym, _∙_}
 use native.Mathlib.Nat.{mod-lt, mod-eq-of-lt, mod-eq-sub-mod, mod-eq-sub-div-mul, div-mul-le-self}
 use native.Mathlib.Omega.{arith}
 use borrow.Author.Needs.{needs}
-use Rattle.bus_model.specs.Bounds.{phase, distance}
+use Rattle.bus_model.specs.Bounds.{distance}
+use Rattle.bus_model.specs.theory.Frames.{phase-offset}
 use Rattle.workload.proofs.work.distance_from.Statement.{statement}
 use Rattle.workload.proofs.work.distance_from.Tie as tie
 
@@ -40,16 +41,16 @@ add-later : tie.Need-add-later
 add-later c = search needs
 
 returns : tie.Need-returns
-unfolding distance phase
+unfolding distance
 returns c =
     let q = c .before .before .before .before .before in
-    (sym (rw (← rest q) (mod-eq-of-lt (c .if1 .taken))), c .if1 .taken)
+    (sym (rw (phase-offset (q .before .args .g) (q .before .pre .offset), ← rest q) (mod-eq-of-lt (c .if1 .taken))), c .if1 .taken)
 
 returns-2 : tie.Need-returns-2
-unfolding distance phase
+unfolding distance
 returns-2 c =
     let q = c .before .before .before .before .before .before in
-    rw (← rest q) (once _ _ (c .before .if1 .left) (omega (arith, q .before .pre .offset)))
+    rw (phase-offset (q .before .args .g) (q .before .pre .offset), ← rest q) (once _ _ (c .before .if1 .left) (omega (arith, q .before .pre .offset)))
 
 pub distance-from-spec : {M : Type 1} → statement M
 distance-from-spec = tie.close (tie.spec quotient-requires mul-rest sub-rest sub-later add-later returns returns-2)
