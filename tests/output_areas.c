@@ -59,8 +59,9 @@ static const char second[] =
     "  1  1         1 11 0    1000       0     100\n"
     "  1  2         2 11 0    1001       0     100\n";
 
-/* One frame, alone on the bus: its bound is its length. */
+/* One frame, alone on the bus: its bound is its length, whenever it is queued first. */
 static const char one[] = "  1  1         7 29 8  100000       0     300\n";
+static const char one_late[] = "  1  1         7 29 8  100000  400000     300\n";
 static const char one_listed[] = "         7  1     160      140\n";
 static const char one_listed_longer[] = "         7  3     400     -100\n";
 
@@ -210,6 +211,7 @@ static void call_refused(operation *run)
     call(run, both(standard, " 17  1         1 11 0       3       0     100\n"), AREA, -40001, "");
     call(run, both(standard, "  1 17         1 11 0       3       0     100\n"), AREA, -40001, "");
     call(run, both(standard, "  1  0         1 11 0       3       3     100\n"), 0, -40001, "");
+    call(run, both(standard, "  1  1         1 11 0       3 1000001     100\n"), AREA, -40001, "");
     call(run, both(standard, second), AREA, -150002, "");
     call(run, both(standard, second), 0, -150002, "");
 }
@@ -222,6 +224,7 @@ int main(void)
     call_longest_sheet();
     call_refused(certifier_load_sheet);
     call_all(certifier_list, both(standard, one), one_listed);
+    call_all(certifier_list, both(standard, one_late), one_listed);
     call_all(certifier_list, both(longer, one), one_listed_longer);
     call_all(certifier_list, both(standard, turns), turns_listed);
     call_longest_listing();

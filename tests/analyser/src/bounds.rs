@@ -297,8 +297,9 @@ fn alignments<'a>(
     let ahead: Vec<&Row> = frames.filter(|row| rank(row) <= rank(frame)).collect();
     let mut instants: Vec<u64> = Vec::new();
     for row in &ahead {
-        let offset = u64::from(row[OFFSET]);
-        instants.extend((offset..hyperperiod).step_by(row[PERIOD] as usize));
+        // A late frame is aligned as if it had begun: the offset modulo the period.
+        let phase = u64::from(row[OFFSET] % row[PERIOD]);
+        instants.extend((phase..hyperperiod).step_by(row[PERIOD] as usize));
     }
     instants.sort_unstable();
     instants.dedup();

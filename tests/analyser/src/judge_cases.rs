@@ -67,6 +67,7 @@ pub fn all() -> Vec<Case> {
     let mut cases = Cases { list: Vec::new() };
     cases.document_examples();
     cases.groups();
+    cases.late_starters();
     cases.ranks();
     cases.refusals();
     cases.long_windows();
@@ -190,6 +191,26 @@ impl Cases {
         }
     }
 
+    /// Document 01's whole case with frames that begin late: the bounds are the same.
+    fn late_starters(&mut self) {
+        for (line, offset) in [(0, 1000), (1, 4200), (2, 1_000_000), (3, 1000), (3, 999_000)] {
+            let mut rows = WHOLE_CASE;
+            rows[line][OFFSET] = offset;
+            for row in 0..rows.len() {
+                self.add('J', row, &rows);
+                self.around(row, &rows);
+            }
+        }
+        // A frame whose offset is beyond its period, and one that is not, in a group.
+        let rows = [[1, 1, 1, 11, 8, 1000, 4300, 500], [1, 1, 2, 11, 0, 1000, 300, 500]];
+        let exact =
+            |row| View::new(&STANDARD, &rows, row).exact(LIMITS.window).expect("a window").response;
+        assert_eq!([0, 1].map(exact), [54 + 135, 135 + 55]);
+        (0..2).for_each(|row| self.around(row, &rows));
+        self.around(0, &[[1, 1, 5, 11, 8, 135, 1_000_000, 500]]);
+        self.around(0, &[[1, 1, 5, 11, 8, 134, 1_000_000, 500]]);
+    }
+
     /// Of a short and a long frame the first waits for one that began a tick before, the other for
     /// all of the first.
     fn ranks(&mut self) {
@@ -213,7 +234,7 @@ impl Cases {
                 self.list.push(Case::of_words(letter, row, &words[..count]));
             }
         }
-        let edits = ["2.node=17", "3.offset=1000", "1.claim=0", "3.id=5", "3.id=5;2.kind=12"];
+        let edits = ["2.node=17", "3.offset=1000001", "1.claim=0", "3.id=5", "3.id=5;2.kind=12"];
         let mut refused: Vec<Vec<Row>> = edits.map(|text| edited_rows(3, text)).to_vec();
         let edits =
             ["2.group=0", "3.group=17", "3.node=1", "3.node=1;3.id=5", "3.node=1;3.claim=0"];

@@ -12,6 +12,8 @@ mod group_examples;
 pub mod judge_cases;
 pub mod judgement;
 pub mod known_frames;
+#[cfg(test)]
+mod late_examples;
 pub mod lengths;
 #[cfg(test)]
 mod lengths_examples;

@@ -157,7 +157,8 @@ fn judgement(
     }
 }
 
-/// The distinct instants o + m*p of a group's frames ahead, or one empty alignment.
+/// The distinct instants o + m*p of a group's frames ahead, each o less whole periods, or one empty
+/// alignment.
 fn instants(rows: &[Row], judged: &Row, group: u32) -> Vec<u64> {
     let of_group: Vec<&Row> = rows.iter().filter(|row| row[1] == group).collect();
     let divides = |multiple: u64| of_group.iter().all(|row| multiple % u64::from(row[5]) == 0);
@@ -165,6 +166,9 @@ fn instants(rows: &[Row], judged: &Row, group: u32) -> Vec<u64> {
     let mut found = BTreeSet::new();
     for row in of_group.iter().filter(|row| !goes_ahead(judged, row)) {
         let mut instant = u64::from(row[6]);
+        while instant >= u64::from(row[5]) {
+            instant -= u64::from(row[5]);
+        }
         while instant < hyperperiod {
             found.insert(instant);
             instant += u64::from(row[5]);

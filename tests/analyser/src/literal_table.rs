@@ -122,7 +122,7 @@ fn outside(values: &Values) -> Vec<usize> {
         kind.is_some_and(|kind| ![11, 29].contains(&kind)) || limits(identifier, 0, identifiers),
         limits(payload, 0, 8),
         limits(period, 1, 1_000_000),
-        period.is_some_and(|period| offset.is_some_and(|offset| offset >= period)),
+        limits(offset, 0, 1_000_000),
         limits(claim, 1, 1_000_000),
     ];
     (0..8).filter(|column| is_outside[*column]).collect()

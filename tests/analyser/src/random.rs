@@ -7,6 +7,9 @@ use crate::table::{
     self, Row, CLAIM, GROUP, GROUPS, IDENTIFIER, KIND, NODE, NODES, OFFSET, PERIOD,
 };
 
+/// The last offset that there is.
+const LAST_OFFSET: u32 = 1_000_000;
+
 /// A splitmix generator.
 #[derive(Clone)]
 pub struct Random(u64);
@@ -178,9 +181,15 @@ pub fn stretched(random: &mut Random, groups: u64, multiple: u64, base: u64) -> 
     finish(random, rows)
 }
 
-/// Gives nodes and identifiers and mixes the lines.
+/// Gives nodes and identifiers, lets some frames begin late, and mixes the lines.
 fn finish(random: &mut Random, mut rows: Vec<Row>) -> Vec<Row> {
     give_nodes(random, &mut rows);
+    for row in &mut rows {
+        if random.percent(2) {
+            row[OFFSET] = random.pick(&[row[PERIOD], LAST_OFFSET]);
+        }
+    }
+    begin_late(random, &mut rows);
     let range = if random.percent(60) { 70 } else { 2048 };
     let mut used = Vec::new();
     for row in &mut rows {
@@ -193,6 +202,21 @@ fn finish(random: &mut Random, mut rows: Vec<Row>) -> Vec<Row> {
     }
     random.shuffle(&mut rows);
     rows
+}
+
+/// Lets no frame, some or all begin late, by a few periods or as many as there can be. Bounds stay.
+pub fn begin_late(random: &mut Random, rows: &mut [Row]) {
+    let chance = random.pick(&[0, 0, 20, 60, 100]);
+    for row in rows {
+        let left = (LAST_OFFSET - row[OFFSET]) / row[PERIOD];
+        let periods = match random.below(12) {
+            0 => random.between(0, left.into()) as u32,
+            _ => left.min(random.between(1, 5) as u32),
+        };
+        if random.percent(chance) {
+            row[OFFSET] += row[PERIOD] * periods;
+        }
+    }
 }
 
 /// Gives each group's frames their nodes: the one of the group's number, any other one, or several,

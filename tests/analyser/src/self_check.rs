@@ -7,7 +7,9 @@ use crate::lengths::{self, LengthTable, STANDARD};
 use crate::literal;
 use crate::literal_table::{faults_of_file, faults_of_words, refusal};
 use crate::random::{clustered, dense, own_lengths, set_claim, stretched, Random};
-use crate::table::{self, Refusal, Row, FIELDS, GROUP, GROUPS, IDENTIFIER, NODE, PAYLOAD, PERIOD};
+use crate::table::{
+    self, Refusal, Row, FIELDS, GROUP, GROUPS, IDENTIFIER, NODE, OFFSET, PAYLOAD, PERIOD,
+};
 use crate::table_cases::{damage_file, damage_words};
 
 const MOST_SCENARIOS: u64 = 150;
@@ -25,6 +27,8 @@ struct Tally {
     files: [u64; 3],
     /// Rows of tables where groups are nodes, and where a group has several.
     groups: [u64; 2],
+    /// Rows of tables with late frames.
+    late: u64,
     /// Damaged tables by the number of their refusal; accepted ones at 0.
     refusals: [u64; 16],
 }
@@ -86,6 +90,7 @@ fn compare(lengths: &LengthTable, rows: &[Row], row: usize, limits: Limits, tall
     tally.rows += 1;
     tally.groups[0] += u64::from(rows.iter().all(|row| row[NODE] == row[GROUP]));
     tally.groups[1] += u64::from(has_several_nodes(rows));
+    tally.late += u64::from(rows.iter().any(|row| row[OFFSET] >= row[PERIOD]));
     if !same {
         tally.differences += 1;
         eprintln!("row {row} differs in {rows:?} with lengths {lengths:?}");
@@ -188,6 +193,7 @@ impl Tally {
         eprintln!("files of lengths: {good} good, {notation} with 13, {limits} with 14");
         let [alike, several] = self.groups;
         eprintln!("rows with groups as nodes: {alike}, with a group of several nodes: {several}");
+        eprintln!("rows of tables with late frames: {}", self.late);
         eprintln!("tables refused by number, accepted at 0: {:?}", self.refusals);
         let Tally { tables, rows, .. } = self;
         println!("{tables} tables, {rows} rows, {} differences", self.differences);

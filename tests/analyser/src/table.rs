@@ -169,7 +169,7 @@ fn within_limits(column: usize, fields: &[u64; FIELDS]) -> bool {
         KIND => value == 29 && fields[IDENTIFIER] <= 536_870_911,
         PAYLOAD => value <= 8,
         PERIOD | CLAIM => (1..=1_000_000).contains(&value),
-        OFFSET => value < fields[PERIOD],
+        OFFSET => value <= 1_000_000,
         _ => true,
     }
 }

@@ -41,7 +41,7 @@ const FILE_EDITS: &[(usize, Outcome, &str)] = &[
     (3, (4, 2), "2.id=9999999999;2.kind=30|2.id=9999999999;2.kind=11"),
     (3, (4, 2), "2.id=9999999999;2.payload=x|2.id=4294967302"),
     (3, (4, 3), "3.id=4294967301|3.id=4294967296|3.id=4294967295|3.id=8589934592"),
-    (3, (4, 1), "1.period=99999999;1.offset=99999998"),
+    (3, (4, 1), "1.period=99999999;1.offset=99999998|1.offset=99999998|1.offset=1000001;1.claim=x"),
 ];
 
 /// The same for edits that rows in memory can hold as well.
@@ -50,12 +50,22 @@ const ROW_EDITS: &[(usize, Outcome, &str)] = &[
     (3, GOOD, "2.group=1|2.group=16|1.group=1;2.group=16;3.group=1|1.group=9;2.group=9;3.group=9"),
     (3, GOOD, "3.kind=11|3.kind=29|2.payload=0|2.payload=8|2.claim=1|2.claim=1000000"),
     (3, GOOD, "3.period=1;3.offset=0|3.period=1000000|2.offset=0|2.offset=999"),
+    (3, GOOD, "2.offset=1000|2.offset=1001|2.offset=999999|2.offset=1000000|1.offset=4000"),
+    (
+        3,
+        GOOD,
+        "3.period=1;3.offset=1|3.period=1;3.offset=1000000|3.period=1000000;3.offset=1000000",
+    ),
     (3, GOOD, "3.period=1000000;3.offset=999999|2.id=5"),
     (3, (7, 16), "2.period=1;2.offset=0|2.period=1000000|1.period=1000000;1.offset=999999"),
     (3, (4, 1), "1.id=2048|1.id=536870911"),
     (3, (4, 2), "2.node=0|2.node=17|2.id=536870912|2.payload=9|2.claim=0|2.claim=1000001"),
     (3, (4, 2), "2.group=0|2.group=17|2.group=0;3.id=5|2.group=17;3.node=1"),
-    (3, (4, 2), "2.period=0;2.offset=0|2.period=1;2.offset=1|2.period=1000001|2.offset=1000"),
+    (
+        3,
+        (4, 2),
+        "2.period=0;2.offset=0|2.period=0|2.period=1000001|2.offset=1000001|2.offset=99999999",
+    ),
     (3, (4, 2), "2.claim=0;3.id=5"),
     (3, (4, 3), "3.kind=0|3.kind=10|3.kind=12|3.kind=28|3.kind=30|3.id=5;3.claim=0"),
     (3, (4, 3), "3.node=1;3.claim=0|3.node=1;3.kind=12|3.node=1;3.payload=9|3.node=1;3.group=17"),
@@ -320,7 +330,7 @@ impl Cases {
 
     /// 3 in one column beside 4 in another: the left one, an identifier's 4 at the kind.
     fn two_columns(&mut self) {
-        let too_great = ["17", "17", "536870912", "30", "9", "1000001", "1000", "1000001"];
+        let too_great = ["17", "17", "536870912", "30", "9", "1000001", "1000001", "1000001"];
         for (broken, name) in NAMES[..FIELDS].iter().enumerate() {
             for (outside, value) in too_great.iter().enumerate() {
                 if broken == outside {

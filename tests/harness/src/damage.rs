@@ -50,7 +50,10 @@ pub fn damage_rows(random: &mut Random, rows: &mut [Row]) {
     match random.below(26) {
         0..=4 => rows[line][column] = random.pick(AT_LIMITS[column]),
         5 => (rows[line][KIND], rows[line][IDENTIFIER]) = random.pick(FRAMES),
-        6 => rows[line][OFFSET] = rows[line][PERIOD].saturating_sub(random.below(2) as u32),
+        6 => {
+            let periods = rows[line][PERIOD].saturating_mul(random.between(1, 4) as u32);
+            rows[line][OFFSET] = periods.saturating_sub(random.below(2) as u32);
+        }
         7..=9 => {
             rows[line][IDENTIFIER] = other[IDENTIFIER];
             rows[line][KIND] = other[KIND];

@@ -7,7 +7,9 @@ use crate::tables::{self, claim_all, is_cheap, Drawn};
 use analyser::before::{narrowed_file, narrowed_words, widened_file, widened_words};
 use analyser::lengths::{self, LengthTable, STANDARD};
 use analyser::random::Random;
-use analyser::table::{self, Row, FIELDS, GROUP, LINE, MOST_LINES, NODE};
+use analyser::table::{
+    self, number, Row, FIELDS, GROUP, LINE, MOST_LINES, NODE, OFFSET, PERIOD, WIDTHS,
+};
 
 /// The generator of one number's draws.
 pub fn generator(seed: u64, number: u64) -> Random {
@@ -69,11 +71,38 @@ pub fn draw(random: &mut Random) -> Call {
     call
 }
 
-/// As it was drawn before there were lengths and groups; document 01's lengths are loaded.
+/// As it was drawn before there were lengths, groups and late frames; document 01's lengths are
+/// loaded. What was refused for a late frame alone is not drawn.
 pub fn draw_before(random: &mut Random) -> Call {
     let mut drawn = tables::draw_by(random, STANDARD);
-    drawn.rows.iter_mut().for_each(|row| row[NODE] = row[GROUP]);
-    on_table(random, drawn, Given::document_01(), FAULTY, Form::Widened)
+    for row in &mut drawn.rows {
+        row[NODE] = row[GROUP];
+        row[OFFSET] %= row[PERIOD];
+    }
+    loop {
+        let call = on_table(random, drawn.clone(), Given::document_01(), FAULTY, Form::Widened);
+        if !has_late_frame(&call) {
+            return call;
+        }
+    }
+}
+
+/// Whether some line has an offset beyond its period that is no more than the last one.
+fn has_late_frame(call: &Call) -> bool {
+    let is_late = |period: u64, offset: u64| period <= offset && offset <= 1_000_000;
+    match call {
+        Call::File(_, file, _) => file.chunks(LINE).any(|line| {
+            let column = |column: usize| {
+                let start: usize = WIDTHS[..column].iter().sum();
+                line.get(start..start + WIDTHS[column]).and_then(number)
+            };
+            column(PERIOD).zip(column(OFFSET)).is_some_and(|(p, o)| is_late(p, o))
+        }),
+        Call::Rows(_, words, _) => {
+            words.chunks_exact(FIELDS).any(|row| is_late(row[PERIOD].into(), row[OFFSET].into()))
+        }
+        Call::ReadLengths(..) | Call::WriteLengths(..) => false,
+    }
 }
 
 /// Makes a file longer than any table, by its own lines.

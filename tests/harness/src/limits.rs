@@ -69,7 +69,17 @@ const ALL: &[(&str, Test, Test)] = &[
     (
         "offset period-1",
         |s| s.serves(|row| row[OFFSET] == row[PERIOD] - 1),
-        |s| s.refuses(|row| row[OFFSET] == row[PERIOD]),
+        |s| s.serves(|row| row[OFFSET] == row[PERIOD]),
+    ),
+    (
+        "offset 2*period-1",
+        |s| s.serves(|row| row[OFFSET] == 2 * row[PERIOD] - 1),
+        |s| s.serves(|row| row[OFFSET] > 2 * row[PERIOD]),
+    ),
+    (
+        "offset 1000000",
+        |s| s.serves(|row| row[OFFSET] == 1_000_000),
+        |s| s.refuses(|row| row[OFFSET] == 1_000_001),
     ),
     ("claim 1", |s| s.serves(|row| row[CLAIM] == 1), |s| s.refuses(|row| row[CLAIM] == 0)),
     (

@@ -27,9 +27,9 @@ pub struct Source {
 /// Lengths and tables of every kind.
 pub const ANY: Source = Source { draw, rules: Rules::Now };
 
-/// Inputs as before there were lengths and groups: document 01's lengths are loaded, and tables of its
-/// seven columns widened by each node's number as its group's. The analyser has its constant, and
-/// goes by nodes.
+/// Inputs as before there were lengths, groups and late frames: document 01's lengths are loaded, and
+/// tables of its seven columns widened by each node's number as its group's. The analyser has its
+/// constant, goes by nodes, and knows no offset beyond its period.
 pub const BEFORE: Source = Source { draw: draw_before, rules: Rules::Before };
 
 /// Compares so many inputs; true if nothing differs. The first that does is saved if wanted.
@@ -56,7 +56,7 @@ pub fn random(seed: u64, count: u64, save: Option<&str>) -> io::Result<bool> {
     Ok(differences == 0 && complete)
 }
 
-/// The same for inputs as before there were lengths and groups.
+/// The same for inputs as before there were lengths, groups and late frames.
 pub fn before(seed: u64, count: u64, save: Option<&str>) -> io::Result<bool> {
     println!("seed {seed}");
     let mut tally = Tally::as_before();
@@ -65,7 +65,7 @@ pub fn before(seed: u64, count: u64, save: Option<&str>) -> io::Result<bool> {
     let complete = count < ENOUGH || is_complete(&tally.faults());
     println!("{} listings by the yardstick as well", tally.listings());
     println!(
-        "{count} inputs as before, document 01's lengths loaded and groups as nodes, \
+        "{count} inputs as before, document 01's lengths loaded, groups as nodes and no late frame, \
          {differences} differences"
     );
     Ok(differences == 0 && complete)

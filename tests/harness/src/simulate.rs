@@ -11,7 +11,7 @@ use analyser::lengths::{length, LengthTable, STANDARD};
 use analyser::literal_bus;
 use analyser::random::Random;
 use analyser::simulator::{release, schedule, Starts, Transmission};
-use analyser::table::{Row, CLAIM, GROUP, NODE, PERIOD};
+use analyser::table::{Row, CLAIM, GROUP, NODE, OFFSET, PERIOD};
 
 /// Schedules of each table.
 const SCHEDULES: u64 = 4;
@@ -29,6 +29,8 @@ struct Tally {
     own: [u64; 2],
     /// Tables in which nodes start together, and the frames certified in them.
     together: [u64; 2],
+    /// Late frames that are certified, and their instances.
+    late_frames: [u64; 2],
     /// Frames certified by the rough bound, and by the exact one.
     certified: [u64; 2],
     schedules: u64,
@@ -77,6 +79,8 @@ impl Tally {
             self.together[0] += 1;
             self.together[1] += certified.len() as u64;
         }
+        let late = certified.iter().filter(|row| is_late(&drawn.rows[**row]));
+        self.late_frames[0] += late.count() as u64;
         for _ in 0..SCHEDULES {
             let worst = worst_starts(random, drawn, &certified);
             let starts = worst.unwrap_or_else(|| starts(random, &drawn.rows));
@@ -114,6 +118,7 @@ impl Tally {
                     println!("row {row}, instance {instance} is late with starts {starts:?}");
                 }
                 self.instances += 1;
+                self.late_frames[1] += u64::from(is_late(&rows[*row]));
                 self.late += u64::from(spare.is_none());
                 self.just_in_time += u64::from(spare == Some(0));
             }
@@ -148,6 +153,7 @@ impl Tally {
         let groups = ![self.tables - together, together, certified].contains(&0);
         lengths
             && groups
+            && !self.late_frames.contains(&0)
             && ![rough, exact, self.instances, self.just_in_time, self.bounds, self.ticked]
                 .contains(&0)
     }
@@ -160,7 +166,9 @@ impl Tally {
         println!("{own} tables by own lengths, {own_certified} frames certified by them");
         let [together, certified] = self.together;
         println!("{together} tables with nodes that start together, {certified} frames certified in them");
-        println!("{} instances of them end at their claim", self.just_in_time);
+        let [begun_late, sent] = self.late_frames;
+        println!("{begun_late} certified frames begin late, with {sent} instances");
+        println!("{} instances end at their claim", self.just_in_time);
         let met = self.bounds - self.missed;
         println!("{} bounds of lowest-priority frames, {met} met to the tick", self.bounds);
         println!("{} schedules also tick by tick, {} differ", self.ticked, self.unequal);
@@ -183,6 +191,11 @@ fn certified_rows(random: &mut Random, drawn: &Drawn) -> [Vec<usize>; 2] {
     by_verdict
 }
 
+/// Whether a frame is queued first after a period or more.
+fn is_late(row: &Row) -> bool {
+    row[OFFSET] >= row[PERIOD]
+}
+
 /// Whether some group has several nodes.
 pub fn is_together(rows: &[Row]) -> bool {
     let beside = |row: &Row| rows.iter().any(|o| o[GROUP] == row[GROUP] && o[NODE] != row[NODE]);
@@ -196,11 +209,12 @@ fn ends(rows: &[Row], list: &[Transmission]) -> Vec<Vec<u64>> {
     ends
 }
 
-/// A tick with enough releases between it and the last start, and not too many.
+/// A tick with enough releases between it and the last beginning of a frame, and not too many.
 fn until(rows: &[Row], starts: &Starts) -> u64 {
     let rate: u64 = rows.iter().map(|row| 1_000_000 / u64::from(row[PERIOD])).sum();
     let latest = starts.iter().max().expect("a group");
-    latest + (RELEASES * 1_000_000 / rate).min(2_000_000)
+    let begun = rows.iter().map(|row| release(row, starts, 0)).max().expect("a row");
+    begun.max(*latest) + (RELEASES * 1_000_000 / rate).min(2_000_000)
 }
 
 /// Always the largest, anything, or mostly the largest.

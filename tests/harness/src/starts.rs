@@ -34,8 +34,8 @@ pub fn worst_starts(random: &mut Random, drawn: &Drawn, certified: &[usize]) -> 
     Some(starts_to_meet(&instants))
 }
 
-/// The exact bound of a row and the instants of the first scenario that gives it; none if there are
-/// too many scenarios, or no window.
+/// The exact bound of a row and the instants of the first scenario that gives it, where all frames have
+/// begun; none if there are too many scenarios, or no window.
 pub fn worst_scenario(drawn: &Drawn, row: usize) -> Option<(Worst, Vec<u64>)> {
     let view = View::new(&drawn.lengths, &drawn.rows, row);
     if view.scenario_count() > MOST_SCENARIOS || !drawn.is_cheap(row) {
@@ -43,7 +43,19 @@ pub fn worst_scenario(drawn: &Drawn, row: usize) -> Option<(Worst, Vec<u64>)> {
     }
     view.rough(LIMITS.window)?;
     let (worst, scenario) = view.worst_scenario(LIMITS.window)?;
-    Some((worst, view.instants(scenario)))
+    let instants = (1..).zip(view.instants(scenario));
+    Some((worst, instants.map(|(group, instant)| begun(&drawn.rows, group, instant)).collect()))
+}
+
+/// The instant, whole hyperperiods later, from which on all frames of a group are queued as if they
+/// had begun: it is less than a period before the offset of each.
+fn begun(rows: &[Row], group: u32, instant: u64) -> u64 {
+    let of_group = rows.iter().filter(|row| row[GROUP] == group);
+    let earliest =
+        of_group.map(|row| u64::from(row[OFFSET] + 1).saturating_sub(row[PERIOD].into()));
+    let missing = earliest.max().unwrap_or(0).saturating_sub(instant);
+    let hyperperiod = table::group_hyperperiod(rows, group);
+    instant + missing.div_ceil(hyperperiod) * hyperperiod
 }
 
 /// The longest frame below, unless its group has frames ahead.
@@ -68,7 +80,8 @@ fn meeting_starts(random: &mut Random, rows: &[Row]) -> Starts {
     starts_to_meet(&instants).map(|start| start + random.pick(&[0, 0, 1, 1, 1, 2]))
 }
 
-/// A release within the hyperperiod of a group, counted from its start.
+/// A release of a group, counted from its start: one of the first of some frame, by which others may
+/// still be to begin, or one by which all have.
 fn some_release(random: &mut Random, rows: &[Row], group: u32) -> u64 {
     let of_group: Vec<&Row> = rows.iter().filter(|row| row[GROUP] == group).collect();
     if of_group.is_empty() {
@@ -76,5 +89,10 @@ fn some_release(random: &mut Random, rows: &[Row], group: u32) -> u64 {
     }
     let row = random.pick(&of_group);
     let periods = table::group_hyperperiod(rows, group) / u64::from(row[PERIOD]);
-    u64::from(row[OFFSET]) + random.below(periods) * u64::from(row[PERIOD])
+    let release = u64::from(row[OFFSET]) + random.below(periods) * u64::from(row[PERIOD]);
+    if random.percent(50) {
+        release
+    } else {
+        begun(rows, group, release)
+    }
 }

@@ -7,7 +7,7 @@ use analyser::judge_cases::{
 };
 use analyser::judgement::LIMITS;
 use analyser::lengths::{length, LengthTable, PAYLOADS, STANDARD};
-use analyser::random::{clustered, give_nodes, set_claim, Random};
+use analyser::random::{begin_late, clustered, give_nodes, set_claim, Random};
 use analyser::table::{
     self, Row, CLAIM, GROUP, GROUPS, IDENTIFIER, KIND, NODE, NODES, OFFSET, PERIOD,
 };
@@ -19,6 +19,7 @@ const MOST_EFFORT: u64 = 300_000;
 const WHOLE: u64 = 1_000_000;
 
 /// Lengths, an accepted table, and a row of it that is not too much work by them.
+#[derive(Clone)]
 pub struct Drawn {
     pub lengths: LengthTable,
     pub rows: Vec<Row>,
@@ -47,6 +48,7 @@ pub fn draw_by(random: &mut Random, lengths: LengthTable) -> Drawn {
         10..=39 => bounds_apart(random, lengths),
         _ => cheap_row(random, lengths),
     };
+    begin_late(random, &mut drawn.rows);
     set_claim(random, &drawn.lengths, &mut drawn.rows, drawn.row, LIMITS);
     if random.percent(8) {
         drawn.rows[drawn.row][CLAIM] = random.pick(&[1, 1_000_000]);

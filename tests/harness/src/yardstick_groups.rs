@@ -11,7 +11,8 @@ const SHIFT: u32 = 41;
 /// A frame ahead.
 #[derive(Clone, Copy)]
 pub struct Frame {
-    offset: u64,
+    /// The offset modulo the period.
+    phase: u64,
     pub period: u64,
     pub length: u64,
     inverse: u64,
@@ -21,7 +22,12 @@ impl Frame {
     pub fn new(lengths: &LengthTable, row: &Row) -> Frame {
         let period = u64::from(row[PERIOD]);
         let inverse = (1 << SHIFT) / period + 1;
-        Frame { offset: row[OFFSET].into(), period, length: length(lengths, row), inverse }
+        Frame {
+            phase: u64::from(row[OFFSET]) % period,
+            period,
+            length: length(lengths, row),
+            inverse,
+        }
     }
 
     fn divide(&self, ticks: u64) -> u64 {
@@ -30,7 +36,7 @@ impl Frame {
 
     /// When it is queued first, from an instant on.
     fn next(&self, instant: u64) -> u64 {
-        self.offset.wrapping_add(self.count(self.offset, instant).wrapping_mul(self.period))
+        self.phase.wrapping_add(self.count(self.phase, instant).wrapping_mul(self.period))
     }
 
     /// How long after an instant it is queued.
@@ -57,7 +63,7 @@ fn common_multiple(a: u64, b: u64) -> u64 {
 }
 
 fn first_alignment(frames: &[Frame]) -> u64 {
-    frames.iter().map(|frame| frame.offset).min().expect("a group with frames")
+    frames.iter().map(|frame| frame.phase).min().expect("a group with frames")
 }
 
 /// A frame seen from an alignment of its group.
@@ -94,7 +100,7 @@ impl<const ROOM: usize> Walk<ROOM> {
         let mut walk = Walk { alignment, ahead, periods, lengths, rests, whole: 0 };
         for (at, frame) in frames.iter().enumerate() {
             let count = frame.divide(n);
-            walk.ahead[at] = (frame.offset - alignment) as i32;
+            walk.ahead[at] = (frame.phase - alignment) as i32;
             walk.periods[at] = frame.period as i32;
             walk.lengths[at] = frame.length as i32;
             walk.rests[at] = (n - count * frame.period) as i32;
