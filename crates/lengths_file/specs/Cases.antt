@@ -74,6 +74,7 @@ small = textOf (pair (line 47 0 46) (line 47 0 47))
 record Files : Type 0 where
   standard : Answers (lengthsFileCheck (textOf standardLengths)) 0 0
   back : lengthsOf (textOf standardLengths) ≡ standardLengths
+  short-first : take 46 (textOf standardLengths) ≡ lineText standardLengths 0
   a-byte-less : Answers (lengthsFileCheck (take 91 (textOf standardLengths))) 13 0
   a-byte-more : Answers (lengthsFileCheck (textOf standardLengths ++ (10 ∷ []))) 13 0
   no-line-feed : Answers (lengthsFileCheck (set (textOf standardLengths) 45 32)) 13 0
@@ -92,6 +93,7 @@ unfolding checkReturns numberOf lengthsCheck breaksLimits isOutside isLength bet
 files = record {
   standard = refl;
   back = refl;
+  short-first = refl;
   a-byte-less = refl;
   a-byte-more = refl;
   no-line-feed = refl;

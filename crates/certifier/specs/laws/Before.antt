@@ -4,17 +4,22 @@ use Prim.Native.Nat.{ℕ, zero, suc, _+_, _/_}
 use mathlib.Core.Path.{_≡_, refl, sym, ap, ap₂}
 use mathlib.Core.Bool.{cond}
 use mathlib.Core.List.{List, [], _++_}
-use lib.ListN.{length}
+use lib.ListN.{length, getD}
 use Rattle.bus_model.specs.Frame.{row}
 use Rattle.bus_model.specs.Judgement.{judge}
 use Rattle.table_checks.specs.declared.Checked.{Checked}
 use Rattle.table_checks.specs.declared.Checked.the-variants.{Passed, Failed}
 use Rattle.table_checks.specs.Columns.{field, columns, identifierColumn}
 use Rattle.table_checks.specs.Frames.{standardLengths, framesOf, unmeasured}
-use Rattle.table_checks.specs.Checks.{first, firstOf, rowsSizeCheck, linesCheck, groupCheck, groupsCheck, tableCheck, rowsCheck, loadedCheck}
+use Rattle.table_checks.specs.Checks.{first, firstOf, fileSizeCheck, rowsSizeCheck, linesCheck, groupCheck, groupsCheck, tableCheck, rowsCheck, loadedCheck}
 use Rattle.table_checks.specs.laws.Lengths.{standard-loadable}
 use Rattle.table_checks.specs.laws.Accepted.{hyper-same, releases-same}
 use Rattle.table_checks.specs.laws.Before.{framesBefore, frames-before}
+use Rattle.frame_table.specs.Text.{fieldsOf}
+use Rattle.frame_table.specs.Table.{readCheck, answerFor}
+use Rattle.lengths_file.specs.Lengths.{lengthsOf, lengthsFileCheck, textOf}
+use Rattle.lengths_file.specs.Input.{inputCheck}
+use Rattle.lengths_file.specs.laws.RoundTrip.{read-text}
 use Rattle.row_judgement.specs.declared.Cause.the-variants.{NoSuchRow}
 use Rattle.row_judgement.specs.declared.Judged.{Judged}
 use Rattle.row_judgement.specs.declared.Judged.the-variants.{Verdict, NotJudged}
@@ -23,11 +28,15 @@ use Rattle.row_judgement.specs.declared.Bounded.the-variants.{NotBounded}
 use Rattle.row_judgement.specs.Refusal.{ofTable}
 use Rattle.row_judgement.specs.Judge.{claimOf, noRow, judgeChecked, judgeRow, boundFrame, boundChecked, boundRow}
 use Rattle.certifier.specs.Listing.{listingLine, lineOf, linesFrom, listingOf}
+use Rattle.certifier.specs.Encode.{judgeRead, judgeFile, boundRead, boundFile, listAnswer}
 
 -- ---- before
 
+unfoldable pub tableCheckBefore : List ℕ → Checked
+tableCheckBefore t = first (linesCheck t) (groupsCheck (framesBefore t))
+
 unfoldable pub rowsCheckBefore : List ℕ → Checked
-rowsCheckBefore rows = first (rowsSizeCheck (length rows)) (first (linesCheck rows) (groupsCheck (framesBefore rows)))
+rowsCheckBefore rows = first (rowsSizeCheck (length rows)) (tableCheckBefore rows)
 
 unfoldable pub judgeCheckedBefore : Checked → List ℕ → ℕ → Judged
 judgeCheckedBefore (Failed f) rows r = NotJudged (ofTable f)
@@ -55,6 +64,18 @@ linesBefore rows (suc n) i = lineBefore rows i ++ linesBefore rows n (i + 1)
 unfoldable pub listingBefore : List ℕ → List ℕ
 listingBefore rows = linesBefore rows (length rows / columns) 0
 
+-- of files, where no lengths were passed
+unfoldable pub readCheckBefore : List ℕ → Checked
+readCheckBefore file = first (fileSizeCheck (length file)) (tableCheckBefore (fieldsOf file))
+
+unfoldable pub judgeReadBefore : Checked → List ℕ → ℕ → Judged
+judgeReadBefore (Failed f) file r = NotJudged (ofTable f)
+judgeReadBefore Passed file r = judgeRowBefore (fieldsOf file) r
+
+unfoldable pub boundReadBefore : Checked → List ℕ → ℕ → Bounded
+boundReadBefore (Failed f) file r = NotBounded (ofTable f)
+boundReadBefore Passed file r = boundRowBefore (fieldsOf file) r
+
 -- ---- the checks are the same: they ask for no length
 
 firstOf-same : (c d : ℕ → Checked) → ((n : ℕ) → c n ≡ d n) → (m n : ℕ) → firstOf c m n ≡ firstOf d m n
@@ -66,12 +87,15 @@ group-same : (ls : List (List ℕ)) (t : List ℕ) (j : ℕ) → groupCheck (fra
 unfolding groupCheck
 group-same ls t j = rw (hyper-same ls t j, releases-same ls t j)
 
+table-check-before : (t : List ℕ) → tableCheck t ≡ tableCheckBefore t
+unfolding tableCheck tableCheckBefore groupsCheck
+table-check-before t =
+    rw (← frames-before t)
+    (ap (first (linesCheck t)) (sym (firstOf-same (groupCheck (framesOf standardLengths t)) (groupCheck (unmeasured t)) (group-same standardLengths t) 16 1)))
+
 pub rows-check-before : (rows : List ℕ) → rowsCheck rows ≡ rowsCheckBefore rows
-unfolding rowsCheck rowsCheckBefore tableCheck groupsCheck
-rows-check-before rows =
-    rw (← frames-before rows)
-    (ap (λ (c : Checked). first (rowsSizeCheck (length rows)) (first (linesCheck rows) c))
-    (sym (firstOf-same (groupCheck (framesOf standardLengths rows)) (groupCheck (unmeasured rows)) (group-same standardLengths rows) 16 1)))
+unfolding rowsCheck rowsCheckBefore
+rows-check-before rows = ap (first (rowsSizeCheck (length rows))) (table-check-before rows)
 
 loaded-before : (rows : List ℕ) → loadedCheck standardLengths rows ≡ rowsCheckBefore rows
 unfolding loadedCheck
@@ -110,3 +134,33 @@ lines-before rows (suc n) i = ap₂ (λ (x y : List ℕ). x ++ y) (line-before r
 pub listing-before : (rows : List ℕ) → listingOf standardLengths rows ≡ listingBefore rows
 unfolding listingOf listingBefore
 listing-before rows = lines-before rows (length rows / columns) 0
+
+-- ---- the calls: what they answer of document 01's lengths in a file is what they answered of the table alone
+
+-- That file passes, and holds these lengths.
+standard-file : (lengthsFileCheck (textOf standardLengths) ≡ Passed) × (lengthsOf (textOf standardLengths) ≡ standardLengths)
+standard-file = read-text (getD standardLengths 0 []) (getD standardLengths 1 []) refl refl standard-loadable
+
+input-before : (file : List ℕ) → inputCheck (textOf standardLengths) file ≡ readCheckBefore file
+unfolding inputCheck readCheck readCheckBefore
+input-before file = rw (standard-file .0) (ap (first (fileSizeCheck (length file))) (table-check-before (fieldsOf file)))
+
+module _ (file : List ℕ) where
+  pub judge-file-before : (r : ℕ) → judgeFile (textOf standardLengths) file r ≡ judgeReadBefore (readCheckBefore file) file r
+  unfolding judgeFile judgeRead judgeReadBefore
+  judge-file-before r = rw (input-before file, standard-file .1) (go (readCheckBefore file))
+    where
+      go : (c : Checked) → judgeRead c standardLengths file r ≡ judgeReadBefore c file r
+      go (Failed f) = refl
+      go Passed = judge-before (fieldsOf file) r
+
+  pub bound-file-before : (r : ℕ) → boundFile (textOf standardLengths) file r ≡ boundReadBefore (readCheckBefore file) file r
+  unfolding boundFile boundRead boundReadBefore
+  bound-file-before r = rw (input-before file, standard-file .1) (go (readCheckBefore file))
+    where
+      go : (c : Checked) → boundRead c standardLengths file r ≡ boundReadBefore c file r
+      go (Failed f) = refl
+      go Passed = bound-before (fieldsOf file) r
+
+  pub list-before : (out : List ℕ) → listAnswer (textOf standardLengths) file out ≡ answerFor (readCheckBefore file) (listingBefore (fieldsOf file)) out
+  list-before out = rw (input-before file, standard-file .1, listing-before (fieldsOf file))

@@ -2,18 +2,21 @@
 -- the bounds of document 01, and the laws that they answer the same.
 use Prim.Native.Nat.{ℕ, zero, suc, _+_, _/_, _≤_, _<_}
 use mathlib.Core.Path.{_≡_, refl, sym, ap, ap₂, _∙_}
-use mathlib.Core.List.{List, [], _++_}
+use mathlib.Core.List.{List, [], _++_, map}
+use mathlib.Core.Logic.{_↔_}
 use native.Mathlib.Omega.{arith}
 use lib.ListN.{length}
 use Rattle.bus_model.specs.Frame.{row}
+use Rattle.bus_model.specs.Bus.{Transmission, Schedule}
+use Rattle.bus_model.specs.theory.Alike.{early}
 use Rattle.bus_model.specs.theory.Offsets.{judgeWith, offsetOf}
 use Rattle.table_checks.specs.declared.Checked.{Checked}
 use Rattle.table_checks.specs.declared.Checked.the-variants.{Passed, Failed}
 use Rattle.table_checks.specs.Columns.{field, columns, identifierColumn}
 use Rattle.table_checks.specs.Frames.{framesOf}
-use Rattle.table_checks.specs.Checks.{first, fileSizeCheck}
+use Rattle.table_checks.specs.Checks.{first, fileSizeCheck, Accepted}
 use Rattle.table_checks.specs.laws.First.{first-passed}
-use Rattle.table_checks.specs.laws.Offsets.{tableCheckWith, formerLimit, EarlyRows, table-kept, table-early}
+use Rattle.table_checks.specs.laws.Offsets.{tableCheckWith, formerLimit, FormerlyAccepted, EarlyRows, table-kept, table-early, formerly}
 use Rattle.frame_table.specs.declared.Answer.{Answer}
 use Rattle.frame_table.specs.Text.{fieldsOf}
 use Rattle.frame_table.specs.Table.{readCheck, answerFor}
@@ -24,8 +27,8 @@ use Rattle.row_judgement.specs.declared.Judged.the-variants.{NotJudged}
 use Rattle.row_judgement.specs.declared.Bounded.{Bounded}
 use Rattle.row_judgement.specs.declared.Bounded.the-variants.{NotBounded}
 use Rattle.row_judgement.specs.Refusal.{ofTable}
-use Rattle.row_judgement.specs.Judge.{claimOf}
-use Rattle.row_judgement.specs.laws.Offsets.{judgeRowFormer, boundRowFormer, frame-judged-kept, judge-row-kept, bound-row-kept}
+use Rattle.row_judgement.specs.Judge.{claimOf, judgeRow, boundRow}
+use Rattle.row_judgement.specs.laws.Offsets.{judgeRowFormer, boundRowFormer, frame-judged-kept, judge-row-kept, bound-row-kept, table-schedules-kept}
 use Rattle.load_sheet.specs.Sheet.{sheetOf}
 use Rattle.certifier.specs.Listing.{listingLine, lineOf, linesFrom, listingOf}
 use Rattle.certifier.specs.Encode.{judgeRead, judgeFile, boundRead, boundFile, listAnswer, sheetAnswer}
@@ -130,3 +133,25 @@ module _ (file : List ℕ) (before : EarlyRows (fieldsOf file)) where
 -- So a file that was accepted is accepted.
 pub file-kept : (file : List ℕ) → readCheckFormer file ≡ Passed → readCheck file ≡ Passed
 file-kept file e = read-kept file (file-early file e) ∙ e
+
+-- ---- a table that was accepted: all of it in one theorem
+
+pub record Kept (ls : List (List ℕ)) (rows : List ℕ) : Type 0 where
+  pub accepted : Accepted rows
+  pub judged : (r : ℕ) → judgeRow ls rows r ≡ judgeRowFormer ls rows r
+  pub bounded : (r : ℕ) → boundRow ls rows r ≡ boundRowFormer ls rows r
+  pub listed : listingOf ls rows ≡ listingFormer ls rows
+  pub scheduled : (starts : ℕ → ℕ) (T : ℕ) (xs : List Transmission)
+      → Schedule (framesOf ls rows) starts T xs ↔ Schedule (map early (framesOf ls rows)) starts T xs
+
+-- It is accepted, and judgements, bounds, listing and schedules are those with the offset in place of the phase.
+pub formerly-kept : (ls : List (List ℕ)) (rows : List ℕ) → FormerlyAccepted rows → Kept ls rows
+formerly-kept ls rows e =
+    let (accepted, before) = formerly rows .0 e in
+    record {
+      accepted = accepted;
+      judged = judge-row-kept ls rows before;
+      bounded = bound-row-kept ls rows before;
+      listed = listing-kept ls rows before;
+      scheduled = table-schedules-kept ls rows before;
+    }
