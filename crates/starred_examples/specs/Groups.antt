@@ -38,7 +38,12 @@ arms a b c =
 abbrev pub lineWith : ℕ → ℕ → ℕ → List ℕ → List ℕ
 lineWith node group identifier rest = node ∷ group ∷ identifier ∷ 11 ∷ 0 ∷ 100 ∷ 0 ∷ 1000 ∷ rest
 
--- together and apart; a node in a second group: 15 at its line, after 5 there and before 4 on the next line; two nodes in one group
+-- a line of node 1 and one of node 2, by their groups and periods
+abbrev pub periods : ℕ → ℕ → ℕ → ℕ → List ℕ
+periods a b p q = 1 ∷ a ∷ 0 ∷ 11 ∷ 0 ∷ p ∷ 0 ∷ 1000 ∷ 2 ∷ b ∷ 1 ∷ 11 ∷ 0 ∷ q ∷ 0 ∷ 1000 ∷ []
+
+-- together and apart; a node in a second group: 15 at its line, after 5 there and before 4 on the next line; two nodes in one group;
+-- periods that are too much for one group, 6 and 7 at the group, and not for two
 unfoldable pub groupCases : List Case
 groupCases =
     judged (arms 1 1 2) 0 300 1 269 (pos 31)
@@ -51,8 +56,12 @@ groupCases =
     ∷ checked (lineWith 1 1 0 (lineWith 1 2 0 [])) 5 2
     ∷ checked (lineWith 1 1 0 (lineWith 1 2 1 (lineWith 17 1 2 []))) 15 2
     ∷ checked (lineWith 1 1 0 (lineWith 2 1 1 [])) 0 0
+    ∷ checked (periods 3 3 1000 1001) 6 3
+    ∷ checked (periods 3 4 1000 1001) 0 0
+    ∷ checked (periods 3 3 1 256) 7 3
+    ∷ checked (periods 3 4 1 256) 0 0
     ∷ []
 
 pub groups-hold : AllHold groupCases
 unfolding groupCases AllHold Holds numbers everything
-groups-hold = (refl, (refl, (refl, (refl, (refl, (refl, (refl, (refl, (refl, (refl, tt))))))))))
+groups-hold = (refl, (refl, (refl, (refl, (refl, (refl, (refl, (refl, (refl, (refl, (refl, (refl, (refl, (refl, tt))))))))))))))
