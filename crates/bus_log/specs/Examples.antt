@@ -14,23 +14,31 @@ use Rattle.bus_log.specs.Follow.{followLog, startShown, follow, begin, i
 unfoldable table : List ℕ
 table = 1 ∷ 1 ∷ 5 ∷ 11 ∷ 0 ∷ 100 ∷ 0 ∷ 100 ∷ 2 ∷ 2 ∷ 3 ∷ 11 ∷ 0 ∷ 100 ∷ 10 ∷ 100 ∷ []
 
+-- the same frames of two nodes that start together, the second one beginning late, at offset 110
+unfoldable joint : List ℕ
+joint = 1 ∷ 1 ∷ 5 ∷ 11 ∷ 0 ∷ 100 ∷ 0 ∷ 100 ∷ 2 ∷ 1 ∷ 3 ∷ 11 ∷ 0 ∷ 100 ∷ 110 ∷ 100 ∷ []
+
 abbrev line : ℕ → ℕ → ℕ → ℕ → Line
 line start identifier release length = record { start = start; identifier = identifier; kind = 11; release = release; length = length }
 
 -- how a log is followed
-unfoldable followed : List Line → Followed
-unfolding followLog follow begin isAllowed isDue dueWith isTold toldDue toldStart isSeen startOf dueOf rowHinders hinders isAgainst dueNext dueAfter earliest startsAfter advance entryOf rowOf foundOr isNamed least exists range framesOf frameAt priorityOf largestLength table
-followed log = followLog (framesOf standardLengths table) table log
+unfoldable followed : List ℕ → List Line → Followed
+unfolding followLog follow begin isAllowed isDue dueWith isTold toldDue toldStart isSeen startOf dueOf rowHinders hinders isAgainst dueNext dueAfter earliest startsAfter advance entryOf rowOf foundOr isNamed least exists range framesOf frameAt priorityOf largestLength table joint
+followed t log = followLog (framesOf standardLengths t) t log
 
 -- the shortest beginning that fails, or 0
 unfoldable placeOf : List Line → ℕ
 unfolding followed
-placeOf log = followed log .place
+placeOf log = followed table log .place
+
+unfoldable placeIn : List Line → ℕ
+unfolding followed
+placeIn log = followed joint log .place
 
 -- the start of group j that is shown
 unfoldable shown : List Line → ℕ → ℕ
 unfolding followed startShown
-shown log j = startShown (followed log .progress) j
+shown log j = startShown (followed table log .progress) j
 
 empty : placeOf [] ≡ 0
 unfolding placeOf
@@ -73,3 +81,18 @@ too-long = refl
 unknown : placeOf (line 0 4 0 10 ∷ []) ≡ 1
 unfolding placeOf
 unknown = refl
+
+-- one line tells the start of the whole group: its frame at offset 110 is queued at 120, and again at 220
+one-start : placeIn (line 10 5 10 10 ∷ line 110 5 110 10 ∷ line 120 3 120 10 ∷ line 210 5 210 10 ∷ line 220 3 220 10 ∷ []) ≡ 0
+unfolding placeIn
+one-start = refl
+
+-- queued at 121, its node would have started alone
+own-start : placeIn (line 10 5 10 10 ∷ line 110 5 110 10 ∷ line 121 3 121 10 ∷ []) ≡ 3
+unfolding placeIn
+own-start = refl
+
+-- its first instance is not queued a period earlier
+not-before-offset : placeIn (line 10 5 10 10 ∷ line 20 3 20 10 ∷ []) ≡ 2
+unfolding placeIn
+not-before-offset = refl

@@ -3,7 +3,7 @@
 -- of it may have waited while the bus was free, nor while a frame ranked below it started. `Progress` keeps the earliest first release
 -- that this leaves, so one pass finds the shortest beginning that fails.
 use Prim.Native.Nat.{ℕ, suc, _+_, _-_, max}
-use mathlib.Core.Bool.{Bool, true, false, cond, not, _&&_}
+use mathlib.Core.Bool.{Bool, true, false, cond, not, _&&_, _||_}
 use mathlib.Core.List.{List, [], _∷_, map}
 use lib.Dec.{leb, ltb, eqb}
 use lib.ListN.{length, getD, set, replicate}

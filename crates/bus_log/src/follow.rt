@@ -159,11 +159,24 @@ fn due_of(p: Progress, i: usize) -> u64
 }
 
 // Whether row i hinders the line.
-fn row_hinders(lengths: [[u32; 9]; 2], rows: &[u32], p: Progress, own: Frame, e: Entry, i: usize) -> bool
+fn row_hinders(
+    lengths: [[u32; 9]; 2],
+    rows: &[u32],
+    p: Progress,
+    own: Frame,
+    e: Entry,
+    i: usize,
+) -> bool
     requires { ⌜ (i < 64) × (own .group < 17) × (row (framesOf lengths (now rows)) i .group < 17) × (e .release < 2 ^ 40) ⌝ }
     ensures { λ r. ⌜ r ≡ hinders p own e (row (framesOf lengths (now (rows .entry))) i) (dueOf p i) ⌝ }
 {
-    does_hinder(p, own, e, table_checks::frame(lengths, rows, i), due_of(p, i))
+    does_hinder(
+        p,
+        own,
+        e,
+        table_checks::frame(lengths, rows, i),
+        due_of(p, i),
+    )
 }
 
 // Whether some row does.
@@ -261,7 +274,14 @@ fn due_next(p: Progress, own: Frame, e: Entry, g: Frame, d: u64) -> u64
 }
 
 // What is known of the next release of row i.
-fn due_after(lengths: [[u32; 9]; 2], rows: &[u32], p: Progress, own: Frame, e: Entry, i: usize) -> u64
+fn due_after(
+    lengths: [[u32; 9]; 2],
+    rows: &[u32],
+    p: Progress,
+    own: Frame,
+    e: Entry,
+    i: usize,
+) -> u64
     requires { ⌜ Accepted (now rows) ⌝ }
     requires { ⌜ (i < 64) × (own ≡ row (framesOf lengths (now rows)) (e .frame)) × (own .group < 17) × (e .release < 2 ^ 40) × (e .start < 2 ^ 40) ⌝ }
     ensures { λ r. ⌜ r ≡ dueAfter (framesOf lengths (now (rows .entry))) p e i ⌝ }
@@ -269,7 +289,13 @@ fn due_after(lengths: [[u32; 9]; 2], rows: &[u32], p: Progress, own: Frame, e: E
     if i == e.frame {
         return e.release + own.period as u64;
     }
-    due_next(p, own, e, table_checks::frame(lengths, rows, i), due_of(p, i))
+    due_next(
+        p,
+        own,
+        e,
+        table_checks::frame(lengths, rows, i),
+        due_of(p, i),
+    )
 }
 
 // The groups that have a line.
@@ -328,7 +354,13 @@ pub fn advance(lengths: [[u32; 9]; 2], rows: &[u32], p: Progress, e: Entry) -> P
 }
 
 // The line followed, after n others.
-pub fn follow_line(lengths: [[u32; 9]; 2], rows: &[u32], p: Progress, n: usize, e: Entry) -> Followed
+pub fn follow_line(
+    lengths: [[u32; 9]; 2],
+    rows: &[u32],
+    p: Progress,
+    n: usize,
+    e: Entry,
+) -> Followed
     requires { ⌜ Accepted (now rows) ⌝ }
     requires { ⌜ (n < 2 ^ 40) × (e .release < 2 ^ 40) × (e .start < 2 ^ 40) × (e .length < 2 ^ 40) ⌝ }
     ensures { λ r. ⌜ r ≡ followLine (framesOf lengths (now (rows .entry))) p n e ⌝ }

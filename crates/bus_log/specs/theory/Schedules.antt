@@ -1,20 +1,16 @@
 -- A log that shows a schedule, up to any tick, is accepted: the definition asks for no more than the bus rule.
-use Prim.Native.Nat.{ℕ, zero, suc, _+_, _≤_, _<_}
-use mathlib.Core.Path.{_≡_, refl, sym, ap, ap₂, subst, _∙_}
+use Prim.Native.Nat.{ℕ, _+_, _≤_}
+use mathlib.Core.Path.{refl}
 use mathlib.Core.List.{List, [], _∷_, map}
-use mathlib.Core.Logic.{_⊎_, inl, inr}
 use native.Mathlib.Omega.{arith}
-use native.Mathlib.Decide.{decLt}
-use native.Mathlib.Nat.{le-antisymm}
 use lib.ListN.{length}
 use Rattle.bus_model.specs.Frame.{row}
 use Rattle.bus_model.specs.Release.{release}
-use Rattle.bus_model.specs.Valid.{Valid}
-use Rattle.bus_model.specs.Bus.{Transmission, oneMore, Waiting, Idle, Next, Runs, Schedule}
+use Rattle.bus_model.specs.Bus.{Transmission, oneMore, Idle, Runs, Schedule}
 use Rattle.bus_model.specs.declared.Frame.{Frame}
 use Rattle.table_checks.specs.Columns.{field, identifierColumn, kindColumn}
 use Rattle.bus_log.specs.declared.Line.{Line}
-use Rattle.bus_log.specs.Log.{Shows, ShowsAll, endFrom, IsBeginning, AcceptedLog}
+use Rattle.bus_log.specs.Log.{ShowsAll, endFrom, IsBeginning, AcceptedLog}
 
 -- the line that shows a transmission
 unfoldable pub lineOf : List Frame → List ℕ → (ℕ → ℕ) → Transmission → Line

@@ -1,14 +1,13 @@
 -- One line: the progress after it describes exactly the starts that the progress before it describes and that allow the line.
-use Prim.Native.Nat.{ℕ, zero, suc, _+_, _-_, _*_, _≤_, _<_}
+use Prim.Native.Nat.{ℕ, _+_, _-_, _*_, _≤_, _<_}
 use mathlib.Core.Path.{_≡_, refl, sym, ap, _∙_}
 use mathlib.Core.List.{List}
-use mathlib.Core.Bool.{Bool, true, false, cond, not, _&&_, _||_}
-use mathlib.Core.Logic.{_⊎_, _≢_, inl, inr}
+use mathlib.Core.Bool.{Bool, true, false, cond, _||_}
+use mathlib.Core.Logic.{_≢_}
 use native.Mathlib.Omega.{arith}
-use native.Mathlib.Nat.{mul-comm}
-use native.Mathlib.Decide.{ℕ-discrete, decLe, decLt}
+use native.Mathlib.Decide.{ℕ-discrete, decLe}
 use borrow.Author.Tests.{eqb-true, eq-eqb, ne-eqb, ltb-true, ltb-false, leb-true, lt-ltb, le-ltb, le-leb, not-true}
-use lib.Dec.{T, eqb, ltb, leb}
+use lib.Dec.{T, ltb}
 use lib.ListN.{length}
 use Rattle.arith.specs.Lists.{exists, range}
 use Rattle.arith.specs.laws.Tests.{by-test, and-both}
@@ -20,7 +19,7 @@ use Rattle.bus_model.specs.Bus.{oneMore}
 use Rattle.bus_model.specs.declared.Frame.{Frame}
 use Rattle.bus_log.specs.declared.Entry.{Entry}
 use Rattle.bus_log.specs.declared.Progress.{Progress}
-use Rattle.bus_log.specs.Beginning.{sending, Sends}
+use Rattle.bus_log.specs.Beginning.{Sends}
 use Rattle.bus_log.specs.Follow.{isSeen, startOf, dueOf, toldStart, isTold, toldDue, dueWith, isAgainst, hinders, rowHinders, isDue, isAllowed, earliest, dueNext, dueAfter, advance}
 use Rattle.bus_log.specs.theory.Clear.{Clear, Starts, ClearAt, next-of, starts-of, clear-of, clear-test, test-clear}
 use Rattle.bus_log.specs.theory.Known.{Shape, Known, told, seen, unseen, shape-after, due-after, known}

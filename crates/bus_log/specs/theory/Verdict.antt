@@ -1,8 +1,8 @@
 -- What following a log says of it: whether it is accepted, which starts serve, and its shortest beginning that fails.
-use Prim.Native.Nat.{ℕ, zero, suc, _+_, _-_, _*_, _≤_, _<_}
-use mathlib.Core.Path.{_≡_, refl, sym, ap, subst, _∙_}
+use Prim.Native.Nat.{ℕ, zero, suc, _+_, _-_, _≤_, _<_}
+use mathlib.Core.Path.{_≡_, refl, sym, ap, _∙_}
 use mathlib.Core.List.{List, [], _∷_, map, List·Memᴰ as Mem, List·Memᴰ·head as here, List·Memᴰ·tail as there, List·Memᴰ·not-nil, Memᴰ·map}
-use mathlib.Core.Bool.{Bool, true, false, cond}
+use mathlib.Core.Bool.{true, false, cond}
 use mathlib.Core.Logic.{_⊎_, _↔_, inl, inr}
 use native.Mathlib.Omega.{arith}
 use native.Mathlib.Decide.{ℕ-discrete}
@@ -20,11 +20,11 @@ use Rattle.bus_log.specs.declared.Line.{Line}
 use Rattle.bus_log.specs.declared.Entry.{Entry}
 use Rattle.bus_log.specs.declared.Progress.{Progress}
 use Rattle.bus_log.specs.declared.Followed.{Followed}
-use Rattle.bus_log.specs.Log.{endFrom, lastEnd, IsBeginning, AcceptedLog, ShortestFailing, rowOf, startFrom, shownStart}
-use Rattle.bus_log.specs.Beginning.{Sends, Follows}
+use Rattle.bus_log.specs.Log.{endFrom, IsBeginning, AcceptedLog, ShortestFailing, rowOf, startFrom, shownStart}
+use Rattle.bus_log.specs.Beginning.{Follows}
 use Rattle.bus_log.specs.Follow.{entryOf, entriesOf, isSeen, startOf, dueOf, begin, toldStart, isAllowed, advance, follow, followLog, startShown}
-use Rattle.bus_log.specs.theory.Known.{Shape, seen-same, seen-other, start-same, start-kept}
-use Rattle.bus_log.specs.theory.Step.{RowFits, Fits, RowCounts, Counts, clash, counts-after, allowed-inside}
+use Rattle.bus_log.specs.theory.Known.{seen-same, seen-other, start-same, start-kept}
+use Rattle.bus_log.specs.theory.Step.{Fits, Counts, clash, counts-after, allowed-inside}
 use Rattle.bus_log.specs.theory.Lines.{Stopped, whole, failing, Followable, followable, follow-more, follow-fails}
 use Rattle.bus_log.specs.theory.Entries.{Names, beginning-entries}
 

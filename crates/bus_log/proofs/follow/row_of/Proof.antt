@@ -1,10 +1,8 @@
 -- `bus_log::follow::row_of` meets its contract: the rows left decide.
 use borrow.Author.Needs.{needs}
-use Prim.Native.Nat.{_-_, _≤_, _/_}
-use mathlib.Core.Path.{_≡_, refl, sym, ap, _∙_}
+use Prim.Native.Nat.{_-_, _≤_}
+use mathlib.Core.Path.{_≡_, _∙_}
 use native.Mathlib.Nat.{sub-zero}
-use native.Mathlib.Omega.{arith}
-use lib.ListN.{length}
 use Rattle.arith.specs.Least.{least}
 use Rattle.arith.specs.laws.Least.{least-end}
 use Rattle.bus_log.specs.Log.{isNamed, foundOr, rowOf}
