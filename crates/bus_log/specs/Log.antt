@@ -2,10 +2,11 @@
 -- `t` holds the table's numbers, in which a line's frame is found by identifier and kind, and `fs` its frames.
 use Prim.Native.Nat.{ℕ, _+_, _-_, _/_, _≤_, _<_}
 use mathlib.Core.Path.{_≡_}
-use mathlib.Core.List.{List, [], _∷_}
+use mathlib.Core.List.{List, [], _∷_, map, List·Memᴰ as Mem}
 use mathlib.Core.Bool.{Bool, cond, _&&_}
 use lib.Dec.{eqb}
-use lib.ListN.{length, take}
+use lib.ListN.{length, getD, take}
+use Rattle.arith.specs.Lists.{range}
 use Rattle.arith.specs.Least.{least}
 use Rattle.arith.specs.declared.Found.{Found}
 use Rattle.arith.specs.declared.Found.the-variants.{At, Nothing}
@@ -57,6 +58,30 @@ pub record ShortestFailing (fs : List Frame) (t : List ℕ) (log : List Line) (m
 
 -- ---- the starts that are shown
 
+-- group j has a line: one with identifier and kind of one of its frames
+pub record HasLine (fs : List Frame) (t : List ℕ) (log : List Line) (j : ℕ) : Type 0 where
+  pub line : Line
+  pub listed : Mem line log
+  pub frame : ℕ
+  pub inside : frame < length fs
+  pub identifier : field t frame identifierColumn ≡ line .identifier
+  pub kind : field t frame kindColumn ≡ line .kind
+  pub group : row fs frame .group ≡ j
+
+-- the start of group j among those of groups 1 to 16
+abbrev pub startIn : List ℕ → ℕ → ℕ
+startIn shown j = getD shown (j - 1) 0
+
+-- "The starts of groups 1 to 16 are shown": the log is a beginning with them, and a group that has a line has no other start;
+-- "a group with no line is shown with the last end as its start".
+pub record ShownStarts (fs : List Frame) (t : List ℕ) (log : List Line) (shown : List ℕ) : Type 0 where
+  pub count : length shown ≡ 16
+  pub serve : IsBeginning fs t (startIn shown) log
+  pub only : (starts : ℕ → ℕ) → IsBeginning fs t starts log → (j : ℕ) → HasLine fs t log j → starts j ≡ startIn shown j
+  pub silent : (j : ℕ) → 1 ≤ j → j ≤ 16 → (HasLine fs t log j → ⊥) → startIn shown j ≡ lastEnd log
+
+-- ---- as they are computed
+
 -- the row with the line's identifier and kind, or the number of rows where there is none
 unfoldable pub isNamed : List ℕ → Line → ℕ → Bool
 isNamed t l i = eqb (field t i identifierColumn) (l .identifier) && eqb (field t i kindColumn) (l .kind)
@@ -76,6 +101,9 @@ startFrom fs t e j (l ∷ ls) =
     let rest = startFrom fs t e j ls in
     cond (eqb (g .group) j) (l .release - g .offset) rest
 
--- "a group with no line is shown with the last end as its start"
 unfoldable pub shownStart : List Frame → List ℕ → List Line → ℕ → ℕ
 shownStart fs t log j = startFrom fs t (lastEnd log) j log
+
+-- of groups 1 to 16
+unfoldable pub shownStarts : List Frame → List ℕ → List Line → List ℕ
+shownStarts fs t log = map (shownStart fs t log) (range 1 16)

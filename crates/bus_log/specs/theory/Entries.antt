@@ -38,7 +38,7 @@ module _ (fs : List Frame) (t : List ℕ) (names : Names fs t) where
   named l i y = let (a, b) = and-both _ _ (of-T _ y) in (eqb-true _ _ a, eqb-true _ _ b)
 
   -- It is named so.
-  row-named : (l : Line) → rowOf t l < length fs → (field t (rowOf t l) identifierColumn ≡ l .identifier) × (field t (rowOf t l) kindColumn ≡ l .kind)
+  pub row-named : (l : Line) → rowOf t l < length fs → (field t (rowOf t l) identifierColumn ≡ l .identifier) × (field t (rowOf t l) kindColumn ≡ l .kind)
   unfolding rowOf foundOr
   row-named l h = go (least (isNamed t l) (length t / columns) 0) refl h
     where
@@ -48,7 +48,7 @@ module _ (fs : List Frame) (t : List ℕ) (names : Names fs t) where
       go Nothing e h = absurd (omega (arith, names .count))
 
   -- A row that is named so is the one.
-  named-row : (l : Line) (i : ℕ) → i < length fs → field t i identifierColumn ≡ l .identifier → field t i kindColumn ≡ l .kind → i ≡ rowOf t l
+  pub named-row : (l : Line) (i : ℕ) → i < length fs → field t i identifierColumn ≡ l .identifier → field t i kindColumn ≡ l .kind → i ≡ rowOf t l
   unfolding rowOf isNamed foundOr
   named-row l i h a b =
       let c = names .count in

@@ -1,7 +1,7 @@
 -- An accepted table: no two rows have one identifier and kind, so all that is proved of logs holds of its logs.
 use Prim.Native.Nat.{ℕ, _/_, _≤_, _<_}
 use mathlib.Core.Path.{_≡_, ap₂}
-use mathlib.Core.List.{List, List·Memᴰ as Mem}
+use mathlib.Core.List.{List}
 use mathlib.Core.Logic.{_↔_}
 use native.Mathlib.Omega.{arith}
 use native.Mathlib.Decide.{decLt}
@@ -13,10 +13,11 @@ use Rattle.table_checks.specs.Frames.{priorityOf, frameAt, framesOf}
 use Rattle.table_checks.specs.Checks.{Accepted, Loadable}
 use Rattle.table_checks.specs.laws.Accepted.{length-frames, frame-row, no-row, accepted-size, accepted-limits, accepted-valid}
 use Rattle.bus_log.specs.declared.Line.{Line}
-use Rattle.bus_log.specs.Log.{AcceptedLog, ShortestFailing, IsBeginning, rowOf, shownStart}
-use Rattle.bus_log.specs.Follow.{followLog}
+use Rattle.bus_log.specs.Log.{AcceptedLog, ShortestFailing, ShownStarts, shownStart, shownStarts}
+use Rattle.bus_log.specs.Follow.{followLog, startShown}
 use Rattle.bus_log.specs.theory.Entries.{Names}
 use Rattle.bus_log.specs.theory.Verdict as verdict
+use Rattle.bus_log.specs.theory.Shown.{starts-shown}
 
 pub few-lines : (t : List ℕ) → Accepted t → length t / columns ≤ 64
 few-lines t accepted = omega (arith, accepted-size t accepted .most)
@@ -60,11 +61,9 @@ module _ (ls : List (List ℕ)) (t : List ℕ) (accepted : Accepted t) where
       pub followed-shortest : 0 < followLog (framesOf ls t) t log .place → ShortestFailing (framesOf ls t) t log (followLog (framesOf ls t) t log .place)
       followed-shortest = verdict.place-shortest valid few-rows t row-names log
 
-      -- The starts shown serve, where any do.
-      pub starts-serve : AcceptedLog (framesOf ls t) t log → IsBeginning (framesOf ls t) t (shownStart (framesOf ls t) t log) log
-      starts-serve = verdict.shown-serves valid few-rows t row-names log
+      -- What is computed of the starts is what is to be shown of them.
+      pub followed-shown : followLog (framesOf ls t) t log .place ≡ 0 → ShownStarts (framesOf ls t) t log (shownStarts (framesOf ls t) t log)
+      followed-shown z = starts-shown valid few-rows t row-names log (accepted-followed .1 z)
 
-      -- A group that has a line has no other start.
-      pub starts-only : (starts : ℕ → ℕ) → IsBeginning (framesOf ls t) t starts log → (l : Line) → Mem l log
-          → starts (row (framesOf ls t) (rowOf t l) .group) ≡ shownStart (framesOf ls t) t log (row (framesOf ls t) (rowOf t l) .group)
-      starts-only = verdict.shown-only valid few-rows t row-names log
+      pub shown-known : followLog (framesOf ls t) t log .place ≡ 0 → (j : ℕ) → startShown (followLog (framesOf ls t) t log .progress) j ≡ shownStart (framesOf ls t) t log j
+      shown-known = verdict.shown-is valid few-rows t log

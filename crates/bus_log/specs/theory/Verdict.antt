@@ -238,12 +238,13 @@ module _ {fs : List Frame} (valid : Valid fs) (few : length fs ≤ 64) (t : List
     passed : AcceptedLog fs t log → followLog fs t log .place ≡ 0
     passed accepted = accepted-iff valid few t names log .0 accepted
 
-    -- They serve, where any do.
-    pub shown-serves : AcceptedLog fs t log → IsBeginning fs t (shownStart fs t log) log
-    shown-serves accepted =
-        beginning-fits valid few t names log (passed accepted) (shownStart fs t log) .1 (λ i l.
+    -- They serve, where any do, and so do all that are the same for the groups that have frames.
+    pub serves-same : AcceptedLog fs t log → (starts : ℕ → ℕ) → ((i : ℕ) → i < length fs → starts (row fs i .group) ≡ shownStart fs t log (row fs i .group))
+        → IsBeginning fs t starts log
+    serves-same accepted starts same =
+        beginning-fits valid few t names log (passed accepted) starts .1 (λ i l.
         let fit = fits-starts valid few t names log i l in
-        let e = shown-is log (passed accepted) (row fs i .group) in
+        let e = shown-is log (passed accepted) (row fs i .group) ∙ sym (same i l) in
         record { known = λ s. sym e ∙ fit .known s; late = λ f. rw (← e) (fit .late f) })
 
     -- A group that has a line has no other start.
