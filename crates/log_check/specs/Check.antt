@@ -14,6 +14,9 @@ use Rattle.table_checks.specs.Frames.{framesOf}
 use Rattle.table_checks.specs.Checks.{loadedCheck}
 use Rattle.table_checks.specs.declared.Checked.{Checked}
 use Rattle.table_checks.specs.declared.Checked.the-variants.{Passed, Failed}
+use Rattle.frame_table.specs.Text.{fieldsOf}
+use Rattle.lengths_file.specs.Lengths.{lengthsOf}
+use Rattle.lengths_file.specs.Input.{inputCheck}
 use Rattle.bus_log.specs.declared.Line.{Line}
 use Rattle.bus_log.specs.Log.{shownStarts}
 use Rattle.bus_log.specs.Follow.{followLog}
@@ -85,5 +88,10 @@ unfoldable pub checkedAnswer : Checked → List (List ℕ) → List ℕ → List
 checkedAnswer (Failed f) ls rows text = refused (ofTable f)
 checkedAnswer Passed ls rows text = textAnswer ls rows text
 
+-- for rows in memory
 unfoldable pub logAnswer : List (List ℕ) → List ℕ → List ℕ → LogChecked
 logAnswer ls rows text = checkedAnswer (loadedCheck ls rows) ls rows text
+
+-- for lengths and table as bytes
+unfoldable pub filesAnswer : List ℕ → List ℕ → List ℕ → LogChecked
+filesAnswer lengths table text = checkedAnswer (inputCheck lengths table) (lengthsOf lengths) (fieldsOf table) text

@@ -9,6 +9,9 @@ use Rattle.arith.specs.declared.Found.{Found}
 use Rattle.arith.specs.declared.Found.the-variants.{At, Nothing}
 use Rattle.table_checks.specs.Frames.{framesOf}
 use Rattle.table_checks.specs.Refusal.{Returned, returned}
+use Rattle.frame_table.specs.Text.{fieldsOf}
+use Rattle.lengths_file.specs.Lengths.{lengthsOf}
+use Rattle.lengths_file.specs.Input.{inputReturns}
 use Rattle.bus_log.specs.Log.{shownStarts}
 use Rattle.bus_log.specs.Follow.{followLog}
 use Rattle.log_check.specs.declared.Outcome.{Outcome}
@@ -52,3 +55,7 @@ logReturnsFor check ls rows text =
     (cond (eqb failing 0) (asShown (shownStarts (framesOf ls rows) rows (linesOf text))) (asRefused (returned 19 failing)))
     (asRefused (returned 18 broken))))
     (asRefused check)
+
+-- the same for lengths and table as bytes
+unfoldable pub filesReturns : List ℕ → List ℕ → List ℕ → LogReturned
+filesReturns lengths table text = logReturnsFor (inputReturns lengths table) (lengthsOf lengths) (fieldsOf table) text

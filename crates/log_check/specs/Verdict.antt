@@ -7,7 +7,11 @@ use lib.ListN.{length, getD}
 use Rattle.table_checks.specs.Frames.{framesOf}
 use Rattle.table_checks.specs.Refusal.{failed}
 use Rattle.table_checks.specs.Checks.{loadedCheck}
+use Rattle.table_checks.specs.declared.Checked.{Checked}
 use Rattle.table_checks.specs.declared.Checked.the-variants.{Passed}
+use Rattle.frame_table.specs.Text.{fieldsOf}
+use Rattle.lengths_file.specs.Lengths.{lengthsOf}
+use Rattle.lengths_file.specs.Input.{inputCheck}
 use Rattle.bus_log.specs.declared.Line.{Line}
 use Rattle.bus_log.specs.Log.{ShortestFailing, ShownStarts}
 use Rattle.log_reader.specs.Text.{Stands}
@@ -37,20 +41,25 @@ pub record FirstBroken (text : List ℕ) (place : ℕ) : Type 0 where
   pub broken : (i : ℕ) → i + 1 ≡ place → (l : Line) → Stands text (40 * i) l → ⊥
   pub earlier : (i : ℕ) → i + 1 < place → (l : Line) × Stands text (40 * i) l
 
--- ---- the answer
+-- ---- the answer, where the lengths and the table were checked
 
 -- of a refusal
-unfoldable pub Refuses : List (List ℕ) → List ℕ → List ℕ → Cause → ℕ → Type 0
-Refuses ls rows text (Table cause) place = loadedCheck ls rows ≡ failed cause place
-Refuses ls rows text Notation place = (loadedCheck ls rows ≡ Passed) × (((place ≡ 0) × (Sized (length text) → ⊥)) ⊎ FirstBroken text place)
-Refuses ls rows text Contradiction place =
-    (loadedCheck ls rows ≡ Passed) × Holds text (linesOf text) × ShortestFailing (framesOf ls rows) rows (linesOf text) place
+unfoldable pub Refuses : Checked → List (List ℕ) → List ℕ → List ℕ → Cause → ℕ → Type 0
+Refuses check ls rows text (Table cause) place = check ≡ failed cause place
+Refuses check ls rows text Notation place = (check ≡ Passed) × (((place ≡ 0) × (Sized (length text) → ⊥)) ⊎ FirstBroken text place)
+Refuses check ls rows text Contradiction place =
+    (check ≡ Passed) × Holds text (linesOf text) × ShortestFailing (framesOf ls rows) rows (linesOf text) place
 
 -- of an outcome, beside which the starts are shown
-unfoldable pub Means : List (List ℕ) → List ℕ → List ℕ → List ℕ → Outcome → Type 0
-Means ls rows text starts Accepted =
-    (loadedCheck ls rows ≡ Passed) × Holds text (linesOf text) × ShownStarts (framesOf ls rows) rows (linesOf text) starts
-Means ls rows text starts (Refused f) = Refuses ls rows text (f .cause) (f .place)
+unfoldable pub Means : Checked → List (List ℕ) → List ℕ → List ℕ → List ℕ → Outcome → Type 0
+Means check ls rows text starts Accepted =
+    (check ≡ Passed) × Holds text (linesOf text) × ShownStarts (framesOf ls rows) rows (linesOf text) starts
+Means check ls rows text starts (Refused f) = Refuses check ls rows text (f .cause) (f .place)
 
+-- for rows in memory
 abbrev pub Says : List (List ℕ) → List ℕ → List ℕ → LogChecked → Type 0
-Says ls rows text a = Means ls rows text (a .starts) (a .outcome)
+Says ls rows text a = Means (loadedCheck ls rows) ls rows text (a .starts) (a .outcome)
+
+-- for lengths and table as bytes
+abbrev pub SaysOf : List ℕ → List ℕ → List ℕ → LogChecked → Type 0
+SaysOf lengths table text a = Means (inputCheck lengths table) (lengthsOf lengths) (fieldsOf table) text (a .starts) (a .outcome)

@@ -1,8 +1,10 @@
 // A bus log checked against its table. It takes any input, and checks its lengths and table itself.
+mod files;
 mod follow;
 mod text;
 
 use arith::Found;
+pub use files::check_files;
 use table_checks::Checked;
 ghost use mathlib.Core.Path.{_≡_};
 ghost use Rattle.table_checks.specs.Checks.{Loadable, Accepted};

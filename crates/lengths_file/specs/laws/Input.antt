@@ -49,7 +49,7 @@ module _ (lengths file : List ℕ) {l : Loaded} (is : l ≡ loaded lengths) wher
 
 -- ---- in numbers
 
-input-returned : (lengths file : List ℕ) → checkReturns (inputCheck lengths file) ≡ inputReturns lengths file
+pub input-returned : (lengths file : List ℕ) → checkReturns (inputCheck lengths file) ≡ inputReturns lengths file
 unfolding inputCheck inputReturns
 input-returned lengths file =
     first-returned (lengthsFileCheck lengths) (readCheck file) ∙ ap (λ r. firstReturned r (checkReturns (readCheck file))) (file-returned lengths)

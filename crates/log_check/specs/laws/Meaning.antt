@@ -16,10 +16,9 @@ use Rattle.arith.specs.laws.Tests.{by-test}
 use Rattle.arith.specs.laws.Least.{least-at, least-le}
 use Rattle.arith.specs.laws.Members.{length-range, getD-table, map-same}
 use Rattle.table_checks.specs.Frames.{framesOf}
-use Rattle.table_checks.specs.Checks.{Loadable, Accepted, loadedCheck}
+use Rattle.table_checks.specs.Checks.{Loadable, Accepted}
 use Rattle.table_checks.specs.declared.Checked.{Checked}
 use Rattle.table_checks.specs.declared.Checked.the-variants.{Passed, Failed}
-use Rattle.table_checks.specs.laws.Accepted.{loaded-both}
 use Rattle.bus_log.specs.declared.Line.{Line}
 use Rattle.bus_log.specs.declared.Followed.{Followed}
 use Rattle.bus_log.specs.Log.{shownStarts}
@@ -30,8 +29,9 @@ use Rattle.log_reader.specs.declared.LineRead.{LineRead}
 use Rattle.log_reader.specs.declared.LineRead.the-variants.{Read, Broken, End}
 use Rattle.log_reader.specs.Text.{Stands, lineAt, readAt}
 use Rattle.log_reader.specs.Laws.{read-stands, stands-read, read-line}
-use Rattle.log_check.specs.Check.{acceptedWith, isMissized, isRead, isBroken, firstBroken, linesOf, followedAnswer, lineAnswer, textAnswer, checkedAnswer, logAnswer}
-use Rattle.log_check.specs.Verdict.{Sized, Holds, FirstBroken, Refuses, Means, Says}
+use Rattle.log_check.specs.declared.LogChecked.{LogChecked}
+use Rattle.log_check.specs.Check.{acceptedWith, isMissized, isRead, isBroken, firstBroken, linesOf, followedAnswer, lineAnswer, textAnswer, checkedAnswer}
+use Rattle.log_check.specs.Verdict.{Sized, Holds, FirstBroken, Refuses, Means}
 use Rattle.log_check.specs.laws.Loop.{sized, whole-line}
 
 -- ---- the length
@@ -117,6 +117,10 @@ module _ (text : List ℕ) where
   broken-few most i e = let (low, high, t) = least-at (isBroken text) (length text / 40) 0 i e in omega arith
 
 module _ (ls : List (List ℕ)) (rows text : List ℕ) where
+  -- what an answer says
+  abbrev pub MeansOf : Checked → LogChecked → Type 0
+  MeansOf check a = Means check ls rows text (a .starts) (a .outcome)
+
   pub place-few : Loadable ls → Accepted rows → length text ≤ 64000 → followLog (framesOf ls rows) rows (linesOf text) .place ≤ 1600
   place-few loadable accepted most =
       by-test (eqb (followLog (framesOf ls rows) rows (linesOf text) .place) 0)
@@ -127,37 +131,33 @@ module _ (ls : List (List ℕ)) (rows text : List ℕ) where
 
   -- ---- the answer
 
-  module _ (ok : loadedCheck ls rows ≡ Passed) where
-    followed-says : Holds text (linesOf text) → Says ls rows text (followedAnswer (framesOf ls rows) rows (linesOf text))
+  module _ (check : Checked) (passed : check ≡ Passed) (loadable : Loadable ls) (accepted : Accepted rows) where
+    followed-means : Holds text (linesOf text) → MeansOf check (followedAnswer (framesOf ls rows) rows (linesOf text))
     unfolding followedAnswer Means Refuses
-    followed-says holds =
-        let (loadable, accepted) = loaded-both ls rows ok in
+    followed-means holds =
         by-test (eqb (followLog (framesOf ls rows) rows (linesOf text) .place) 0)
-        (λ t. rw t (ok, holds, followed-shown ls rows accepted loadable (linesOf text) (eqb-true _ _ t)))
+        (λ t. rw t (passed, holds, followed-shown ls rows accepted loadable (linesOf text) (eqb-true _ _ t)))
         (λ f.
         let some = eqb-false (followLog (framesOf ls rows) rows (linesOf text) .place) 0 f in
-        rw f (ok, holds, followed-shortest ls rows accepted loadable (linesOf text) (omega arith)))
+        rw f (passed, holds, followed-shortest ls rows accepted loadable (linesOf text) (omega arith)))
 
-    line-says : isMissized (length text) ≡ false → (found : Found) → firstBroken text ≡ found → Says ls rows text (lineAnswer ls rows text found)
+    line-means : isMissized (length text) ≡ false → (found : Found) → firstBroken text ≡ found → MeansOf check (lineAnswer ls rows text found)
     unfolding lineAnswer Means Refuses
-    line-says f (At i) e = (ok, inr (first-broken text f i e))
-    line-says f Nothing e = followed-says (all-hold text f e)
+    line-means f (At i) e = (passed, inr (first-broken text f i e))
+    line-means f Nothing e = followed-means (all-hold text f e)
 
-    text-says : Says ls rows text (textAnswer ls rows text)
+    text-means : MeansOf check (textAnswer ls rows text)
     unfolding textAnswer Means Refuses
-    text-says =
+    text-means =
         by-test (isMissized (length text))
-        (λ t. rw t (ok, inl (refl, not-sized (length text) t)))
-        (λ f. rw f (line-says f (firstBroken text) refl))
+        (λ t. rw t (passed, inl (refl, not-sized (length text) t)))
+        (λ f. rw f (line-means f (firstBroken text) refl))
 
-  checked-says : (checked : Checked) → loadedCheck ls rows ≡ checked → Says ls rows text (checkedAnswer checked ls rows text)
+  -- Where a check passes only lengths and tables that can be used, the answer says what it is to say.
+  pub answer-means : (check : Checked) → (check ≡ Passed → Loadable ls × Accepted rows) → MeansOf check (checkedAnswer check ls rows text)
   unfolding checkedAnswer Means Refuses
-  checked-says Passed e = text-says e
-  checked-says (Failed r) e = e
-
-  pub answer-says : Says ls rows text (logAnswer ls rows text)
-  unfolding logAnswer
-  answer-says = checked-says (loadedCheck ls rows) refl
+  answer-means Passed good = let (loadable, accepted) = good refl in text-means Passed refl loadable accepted
+  answer-means (Failed r) good = refl
 
 -- ---- the starts as code has them
 

@@ -1,6 +1,6 @@
 -- What an answer returns, in numbers, is what the definition in numbers gives.
 use Prim.Native.Nat.{ℕ, _+_}
-use mathlib.Core.Path.{_≡_, refl, ap, _∙_}
+use mathlib.Core.Path.{_≡_, refl}
 use mathlib.Core.Bool.{false}
 use mathlib.Core.List.{List}
 use borrow.Author.Tests.{ne-eqb}
@@ -12,14 +12,12 @@ use Rattle.arith.specs.declared.Found.the-variants.{At, Nothing}
 use Rattle.arith.specs.laws.Tests.{by-test}
 use Rattle.table_checks.specs.Frames.{framesOf}
 use Rattle.table_checks.specs.Refusal.{checkReturns}
-use Rattle.table_checks.specs.Checks.{loadedCheck}
-use Rattle.table_checks.specs.Returns.{loadedReturns}
 use Rattle.table_checks.specs.declared.Checked.{Checked}
 use Rattle.table_checks.specs.declared.Checked.the-variants.{Passed, Failed}
-use Rattle.table_checks.specs.laws.Returns.{number-some, loaded-returned}
+use Rattle.table_checks.specs.laws.Returns.{number-some}
 use Rattle.bus_log.specs.Follow.{followLog}
 use Rattle.log_check.specs.Refusal.{numberOf}
-use Rattle.log_check.specs.Check.{isMissized, firstBroken, linesOf, followedAnswer, lineAnswer, textAnswer, checkedAnswer, logAnswer}
+use Rattle.log_check.specs.Check.{isMissized, firstBroken, linesOf, followedAnswer, lineAnswer, textAnswer, checkedAnswer}
 use Rattle.log_check.specs.Returns.{outcomeReturns, logReturns, logReturnsFor}
 
 module _ (ls : List (List ℕ)) (rows text : List ℕ) where
@@ -34,11 +32,7 @@ module _ (ls : List (List ℕ)) (rows text : List ℕ) where
   unfolding textAnswer logReturns outcomeReturns logReturnsFor numberOf checkReturns
   text-returns = by-test (isMissized (length text)) (λ t. rw t) (λ f. line-returns (firstBroken text) refl f)
 
-  checked-returns : (checked : Checked) → logReturns (checkedAnswer checked ls rows text) ≡ logReturnsFor (checkReturns checked) ls rows text
+  pub checked-returns : (checked : Checked) → logReturns (checkedAnswer checked ls rows text) ≡ logReturnsFor (checkReturns checked) ls rows text
   unfolding checkedAnswer logReturns outcomeReturns logReturnsFor numberOf checkReturns
   checked-returns Passed = text-returns
   checked-returns (Failed r) = rw (ne-eqb _ 0 (number-some (r .cause)))
-
-  pub answer-returns : logReturns (logAnswer ls rows text) ≡ logReturnsFor (loadedReturns ls rows) ls rows text
-  unfolding logAnswer
-  answer-returns = checked-returns (loadedCheck ls rows) ∙ ap (λ c. logReturnsFor c ls rows text) (loaded-returned ls rows)
