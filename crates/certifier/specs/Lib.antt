@@ -2,5 +2,6 @@
 pub mod Listing
 pub mod Encode
 pub mod FrameEntry
+pub mod LogEntry
 pub mod Steps
 pub mod laws

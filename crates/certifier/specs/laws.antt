@@ -6,3 +6,4 @@ pub mod Answers
 pub mod Before
 pub mod Ungrouped
 pub mod Offsets
+pub mod LogEntry

@@ -1,9 +1,10 @@
 // The operations on frame tables: the precise bound of a row, its judgement, the listing of all rows, and
-// the entries for C, that of the load sheet among them. Each takes any input, and checks its lengths and its table itself. The
-// encode functions give the numbers that the entries answer.
+// the entries for C, those of the load sheet, of a frame's length and of a log among them. Each takes any input, and checks its
+// lengths and its table itself. The encode functions give the numbers that the entries answer.
 mod encode;
 mod frame_entry;
 mod listing;
+mod log_entry;
 
 pub use encode::certifier_judge;
 pub use encode::certifier_list;
@@ -19,6 +20,7 @@ pub use listing::REFUSAL_LINE;
 pub use listing::list;
 pub use listing::list_input;
 pub use listing::write_refusal;
+pub use log_entry::certifier_check_log;
 pub use row_judgement::Bounded;
 pub use row_judgement::Cause;
 pub use row_judgement::Judged;

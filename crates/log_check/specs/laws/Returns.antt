@@ -14,11 +14,20 @@ use Rattle.table_checks.specs.Frames.{framesOf}
 use Rattle.table_checks.specs.Refusal.{checkReturns}
 use Rattle.table_checks.specs.declared.Checked.{Checked}
 use Rattle.table_checks.specs.declared.Checked.the-variants.{Passed, Failed}
-use Rattle.table_checks.specs.laws.Returns.{number-some}
+use Rattle.table_checks.specs.laws.Returns.{number-some as table-number-some}
 use Rattle.bus_log.specs.Follow.{followLog}
+use Rattle.log_check.specs.declared.Cause.{Cause}
+use Rattle.log_check.specs.declared.Cause.the-variants.{Table, Notation, Contradiction}
 use Rattle.log_check.specs.Refusal.{numberOf}
 use Rattle.log_check.specs.Check.{isMissized, firstBroken, linesOf, followedAnswer, lineAnswer, textAnswer, checkedAnswer}
 use Rattle.log_check.specs.Returns.{outcomeReturns, logReturns, logReturnsFor}
+
+-- No cause has the number 0.
+pub number-some : (cause : Cause) → numberOf cause ≡ 0 → ⊥
+unfolding numberOf
+number-some (Table cause) e = table-number-some cause e
+number-some Notation e = omega arith
+number-some Contradiction e = omega arith
 
 module _ (ls : List (List ℕ)) (rows text : List ℕ) where
   line-returns : (found : Found) → firstBroken text ≡ found → isMissized (length text) ≡ false
@@ -35,4 +44,4 @@ module _ (ls : List (List ℕ)) (rows text : List ℕ) where
   pub checked-returns : (checked : Checked) → logReturns (checkedAnswer checked ls rows text) ≡ logReturnsFor (checkReturns checked) ls rows text
   unfolding checkedAnswer logReturns outcomeReturns logReturnsFor numberOf checkReturns
   checked-returns Passed = text-returns
-  checked-returns (Failed r) = rw (ne-eqb _ 0 (number-some (r .cause)))
+  checked-returns (Failed r) = rw (ne-eqb _ 0 (table-number-some (r .cause)))
