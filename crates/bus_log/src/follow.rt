@@ -158,7 +158,7 @@ fn due_of(p: Progress, i: usize) -> u64
     p.due[i]
 }
 
-// Whether row i hinders the line.
+// Whether row i, of whose next release d is known, hinders the line.
 fn row_hinders(
     lengths: [[u32; 9]; 2],
     rows: &[u32],
@@ -166,17 +166,12 @@ fn row_hinders(
     own: Frame,
     e: Entry,
     i: usize,
+    d: u64,
 ) -> bool
-    requires { ⌜ (i < 64) × (own .group < 17) × (row (framesOf lengths (now rows)) i .group < 17) × (e .release < 2 ^ 40) ⌝ }
-    ensures { λ r. ⌜ r ≡ hinders p own e (row (framesOf lengths (now (rows .entry))) i) (dueOf p i) ⌝ }
+    requires { ⌜ (own .group < 17) × (row (framesOf lengths (now rows)) i .group < 17) × (e .release < 2 ^ 40) ⌝ }
+    ensures { λ r. ⌜ r ≡ hinders p own e (row (framesOf lengths (now (rows .entry))) i) d ⌝ }
 {
-    does_hinder(
-        p,
-        own,
-        e,
-        table_checks::frame(lengths, rows, i),
-        due_of(p, i),
-    )
+    does_hinder(p, own, e, table_checks::frame(lengths, rows, i), d)
 }
 
 // Whether some row does.
@@ -185,10 +180,11 @@ fn some_hinders(lengths: [[u32; 9]; 2], rows: &[u32], p: Progress, own: Frame, e
     requires { ⌜ (own ≡ row (framesOf lengths (now rows)) (e .frame)) × (own .group < 17) × (e .release < 2 ^ 40) ⌝ }
     ensures { λ r. ⌜ r ≡ exists (rowHinders (framesOf lengths (now (rows .entry))) p e) (range 0 (length (framesOf lengths (now (rows .entry))))) ⌝ }
 {
+    let due = p.due;
     let n = rows.len() / ROW;
     let mut i = 0;
     while i < n {
-        if row_hinders(lengths, rows, p, own, e, i) {
+        if row_hinders(lengths, rows, p, own, e, i, due[i]) {
             return true;
         }
         i += 1;
@@ -273,7 +269,7 @@ fn due_next(p: Progress, own: Frame, e: Entry, g: Frame, d: u64) -> u64
     earliest_after(p.free, own, e, g, d)
 }
 
-// What is known of the next release of row i.
+// What is known of the next release of row i, of which d was known.
 fn due_after(
     lengths: [[u32; 9]; 2],
     rows: &[u32],
@@ -281,21 +277,16 @@ fn due_after(
     own: Frame,
     e: Entry,
     i: usize,
+    d: u64,
 ) -> u64
     requires { ⌜ Accepted (now rows) ⌝ }
-    requires { ⌜ (i < 64) × (own ≡ row (framesOf lengths (now rows)) (e .frame)) × (own .group < 17) × (e .release < 2 ^ 40) × (e .start < 2 ^ 40) ⌝ }
+    requires { ⌜ (d ≡ dueOf p i) × (own ≡ row (framesOf lengths (now rows)) (e .frame)) × (own .group < 17) × (e .release < 2 ^ 40) × (e .start < 2 ^ 40) ⌝ }
     ensures { λ r. ⌜ r ≡ dueAfter (framesOf lengths (now (rows .entry))) p e i ⌝ }
 {
     if i == e.frame {
         return e.release + own.period as u64;
     }
-    due_next(
-        p,
-        own,
-        e,
-        table_checks::frame(lengths, rows, i),
-        due_of(p, i),
-    )
+    due_next(p, own, e, table_checks::frame(lengths, rows, i), d)
 }
 
 // The groups that have a line.
@@ -329,10 +320,11 @@ fn dues_after(lengths: [[u32; 9]; 2], rows: &[u32], p: Progress, own: Frame, e: 
     requires { ⌜ (own ≡ row (framesOf lengths (now rows)) (e .frame)) × (own .group < 17) × (e .release < 2 ^ 40) × (e .start < 2 ^ 40) ⌝ }
     ensures { λ r. ⌜ r ≡ map (dueAfter (framesOf lengths (now (rows .entry))) p e) (range 0 64) ⌝ }
 {
+    let known = p.due;
     let mut due = [0u64; 64];
     let mut i = 0;
     while i < 64 {
-        due[i] = due_after(lengths, rows, p, own, e, i);
+        due[i] = due_after(lengths, rows, p, own, e, i, known[i]);
         i += 1;
     }
     due

@@ -19,17 +19,16 @@ returns c = rw (eq-eqb _ _ (c .before .before .if1 .taken), ← c .before .befor
 frame-requires : tie.Need-frame-requires
 frame-requires c κs = search needs
 
-due-of-requires : tie.Need-due-of-requires
-due-of-requires c κs = search needs
-
 due-next-requires : tie.Need-due-next-requires
 due-next-requires c κs =
-    let s = c .before .before .before .before .before in
-    (s .pre .1 .2, rw (c .before .frame .ensures) (any-group (s .args .lengths) (s .args .rows .now) (s .pre .0) _), s .pre .1 .3, s .pre .1 .4)
+    let s = c .before .before .before .before in
+    (s .pre .1 .2, rw (c .frame .ensures) (any-group (s .args .lengths) (s .args .rows .now) (s .pre .0) _), s .pre .1 .3, s .pre .1 .4)
 
 returns-2 : tie.Need-returns-2
 unfolding dueAfter
-returns-2 c = rw (ne-eqb _ _ (c .before .before .before .if1 .left), ← c .before .before .before .before .before .before .pre .1 .1, ← c .before .before .frame .ensures, ← c .before .due-of .ensures) (c .due-next .ensures)
+returns-2 c =
+    let s = c .before .before .before .before .before in
+    rw (ne-eqb _ _ (c .before .before .if1 .left), ← s .pre .1 .1, ← c .before .frame .ensures, ← s .pre .1 .0) (c .due-next .ensures)
 
 pub due-after-spec : {M : Type 1} → statement M
 due-after-spec =
@@ -39,6 +38,5 @@ due-after-spec =
     add-result
     returns
     frame-requires
-    due-of-requires
     due-next-requires
     returns-2)

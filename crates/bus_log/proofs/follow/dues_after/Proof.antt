@@ -9,23 +9,30 @@ use Rattle.bus_log.specs.theory.Filled.{fill-more, fill-all}
 use Rattle.arith.specs.Lists.{range}
 use Rattle.arith.specs.laws.Overwriting.{over}
 use Rattle.table_checks.specs.Frames.{framesOf}
-use Rattle.bus_log.specs.Follow.{dueAfter}
+use Rattle.bus_log.specs.Follow.{dueOf, dueAfter}
 use Rattle.bus_log.proofs.follow.dues_after.Statement.{statement}
 use Rattle.bus_log.proofs.follow.dues_after.Tie as tie
 
 abbrev Inv-loop : tie.InvT-loop
-Inv-loop lengths rows p own e due₀ i₀ due i = (due ≡ over (map (dueAfter (framesOf lengths rows) p e) (range 0 64)) i due₀) × (i ≤ 64) × (length due ≡ 64) × (length due₀ ≡ 64)
+Inv-loop lengths rows p own e known due₀ i₀ due i = (due ≡ over (map (dueAfter (framesOf lengths rows) p e) (range 0 64)) i due₀) × (i ≤ 64) × (length due ≡ 64) × (length due₀ ≡ 64)
 
 abbrev μ-loop : tie.MeasureT-loop
-μ-loop lengths rows p own e due₀ i₀ due i = 64 - i
+μ-loop lengths rows p own e known due₀ i₀ due i = 64 - i
 
 loop-holds : tie.Need-loop-holds Inv-loop μ-loop
 loop-holds c = (refl, search needs, refl, refl)
 
+mul-due-after : tie.Need-mul-due-after Inv-loop μ-loop
+mul-due-after c = search needs
+
+array-read-due-after : tie.Need-array-read-due-after Inv-loop μ-loop
+array-read-due-after c = search needs
+
 due-after-requires : tie.Need-due-after-requires Inv-loop μ-loop
+unfolding dueOf
 due-after-requires c κs =
-    let s = c .before .before .before in
-    (s .pre .0, (omega arith, s .pre .1 .0, s .pre .1 .1, s .pre .1 .2, s .pre .1 .3))
+    let s = c .before .before .before .before in
+    (s .pre .0, (refl, s .pre .1 .0, s .pre .1 .1, s .pre .1 .2, s .pre .1 .3))
 
 mul-due : tie.Need-mul-due Inv-loop μ-loop
 mul-due c = search needs
@@ -52,6 +59,8 @@ dues-after-spec =
     Inv-loop
     μ-loop
     loop-holds
+    mul-due-after
+    array-read-due-after
     due-after-requires
     mul-due
     array-write-due

@@ -16,22 +16,31 @@ use Rattle.bus_log.proofs.follow.some_hinders.Statement.{statement}
 use Rattle.bus_log.proofs.follow.some_hinders.Tie as tie
 
 abbrev Inv-loop : tie.InvT-loop
-Inv-loop lengths rows p own e n i₀ i = (exists (λ k. hinders p own e (row (framesOf lengths rows) k) (dueOf p k)) (range i (n - i)) ≡ exists (rowHinders (framesOf lengths rows) p e) (range 0 (length (framesOf lengths rows)))) × (i ≤ n)
+Inv-loop lengths rows p own e due n i₀ i = (exists (λ k. hinders p own e (row (framesOf lengths rows) k) (dueOf p k)) (range i (n - i)) ≡ exists (rowHinders (framesOf lengths rows) p e) (range 0 (length (framesOf lengths rows)))) × (i ≤ n)
 
 abbrev μ-loop : tie.MeasureT-loop
-μ-loop lengths rows p own e n i₀ i = n - i
+μ-loop lengths rows p own e due n i₀ i = n - i
 
 loop-holds : tie.Need-loop-holds Inv-loop μ-loop
 unfolding rowHinders
-loop-holds c = (rw (sub-zero, c .before .pre .1 .0, length-frames), search needs)
+loop-holds c = (rw (sub-zero, c .before .before .pre .1 .0, length-frames), search needs)
+
+mul-row-hinders : tie.Need-mul-row-hinders Inv-loop μ-loop
+mul-row-hinders c = search needs
+
+array-read-row-hinders : tie.Need-array-read-row-hinders Inv-loop μ-loop
+array-read-row-hinders c =
+    let s = c .before .before .before .before in
+    omega (arith, few-lines (s .args .rows .now) (s .pre .0))
 
 row-hinders-requires : tie.Need-row-hinders-requires Inv-loop μ-loop
 row-hinders-requires c κs =
-    let s = c .before .before .before in
+    let s = c .before .before .before .before in
     let rows = s .args .rows .now in
-    (omega (arith, few-lines rows (s .pre .0)), s .pre .1 .1, row-group (s .args .lengths) rows (s .pre .0) (c .before .loop .i) (omega arith), s .pre .1 .2)
+    (s .pre .1 .1, row-group (s .args .lengths) rows (s .pre .0) (c .before .loop .i) (omega arith), s .pre .1 .2)
 
 returns : tie.Need-returns Inv-loop μ-loop
+unfolding dueOf
 returns c = exists-stop _ _ _ _ (c .before .before .loop-test .taken) (c .before .row-hinders .ensures) (c .if1 .taken) ∙ c .before .before .before .loop .inv .0
 
 add-i : tie.Need-add-i Inv-loop μ-loop
@@ -41,6 +50,7 @@ loop-less : tie.Need-loop-less Inv-loop μ-loop
 loop-less c = search needs
 
 loop-again : tie.Need-loop-again Inv-loop μ-loop
+unfolding dueOf
 loop-again c = (exists-go _ _ _ _ (c .before .before .loop-test .taken) (c .before .row-hinders .ensures) (c .if1 .left) ∙ c .before .before .before .loop .inv .0, search needs)
 
 returns-2 : tie.Need-returns-2 Inv-loop μ-loop
@@ -53,6 +63,8 @@ some-hinders-spec =
     Inv-loop
     μ-loop
     loop-holds
+    mul-row-hinders
+    array-read-row-hinders
     row-hinders-requires
     returns
     add-i
