@@ -3,3 +3,4 @@ pub mod Loop
 pub mod Meaning
 pub mod Returns
 pub mod Answer
+pub mod Small

@@ -104,6 +104,10 @@ read-iff text at l = (read-stands text at l, stands-read text at l)
 
 -- ---- the numbers of a line that was read are small
 
+-- A length has four digits.
+pub length-most : (text : List ℕ) (at : ℕ) (l : Line) → Stands text at l → l .length < 10 ^ 4
+length-most text at l s = let room = s .whole in column-most text at (at + 35) 4 (l .length) (omega arith) (s .length)
+
 pub record Small (l : Line) : Type 0 where
   pub start : l .start < 2 ^ 40
   pub release : l .release < 2 ^ 40
