@@ -8,3 +8,9 @@ abbrev pub Within : Stream → ℕ → Type 0
 Within (Whole n) size = n ≤ size
 Within (Longer n) size = Unit {0}
 Within Unreadable size = Unit {0}
+
+-- what was read of a stream is
+abbrev pub Held : Stream → ℕ → Type 0
+Held (Whole n) size = n ≤ size
+Held (Longer n) size = n ≤ size
+Held Unreadable size = Unit {0}

@@ -1,11 +1,12 @@
-// What the programs share: lengths and table on standard input, an operation's answer on standard output, and complaints on standard
-// error. An input of any length is judged by its true length, though no more is held of it than an accepted one can have.
+// What the programs share: lengths and table on standard input, a file that an argument names, an operation's answer on standard output,
+// and complaints on standard error. An input of any length is judged by its true length, though no more is held of it than an accepted one
+// can have.
 use frame_table::Answer;
 use table_checks::Checked;
 use table_checks::Refusal;
 ghost use lib.ListN.{length};
 ghost use Rattle.io.specs.Counts.{Counts};
-ghost use Rattle.console.specs.Steps.{Within};
+ghost use Rattle.console.specs.Steps.{Held, Within};
 
 // More than the lengths and the longest accepted table.
 pub const BUFFER: usize = 4096;
@@ -14,7 +15,7 @@ pub const BUFFER: usize = 4096;
 // number that no run uses up.
 const TURNS: u64 = 1 << 62;
 
-// The input that a program works on: the lengths, and behind them the table.
+// The input that a program works on: the lengths, and behind them the table; or a file.
 pub struct Input {
     // Whether there is one. Where it is longer than any, or cannot be read, this was said.
     pub held: bool,
@@ -22,7 +23,7 @@ pub struct Input {
     pub size: usize,
 }
 
-// What reading standard input came to.
+// What reading a stream came to.
 enum Stream {
     // The whole of it, of so many bytes.
     Whole(usize),
@@ -59,10 +60,43 @@ pub fn read_input(program: &[u8], buffer: &mut [u8]) -> Input
 fn read(buffer: &mut [u8]) -> Stream
     ensures { λ r. ⌜ Within r (length (now (buffer .exit))) ⌝ }
 {
+    let stream = fill(0, buffer);
+    match stream {
+        Stream::Whole(size) => Stream::Whole(size),
+        Stream::Longer(size) => read_rest(size),
+        Stream::Unreadable => Stream::Unreadable,
+    }
+}
+
+// Reads the file at a path, of which no more is held than the buffer holds. Where it cannot be opened, its descriptor is none that can be
+// read.
+pub fn read_file(program: &[u8], path: &[u8], buffer: &mut [u8]) -> Input
+    ensures { λ r. ⌜ Counts (r .size) (now (buffer .exit)) ⌝ }
+{
+    let fd = os::open_read(path);
+    let stream = fill(fd, buffer);
+    libc::close(fd);
+    match stream {
+        Stream::Whole(size) => Input { held: true, size },
+        Stream::Longer(size) => Input { held: true, size },
+        Stream::Unreadable => {
+            complain(program, b": the file cannot be read\n");
+            Input {
+                held: false,
+                size: 0,
+            }
+        }
+    }
+}
+
+// Reads a stream to its end, or until the buffer is full.
+fn fill(fd: i32, buffer: &mut [u8]) -> Stream
+    ensures { λ r. ⌜ Held r (length (now (buffer .exit))) ⌝ }
+{
     let end = buffer.len();
     let mut done = 0;
     while done < end {
-        let got = libc::read(0, &mut buffer[done..end]);
+        let got = libc::read(fd, &mut buffer[done..end]);
         if got < 0 {
             return Stream::Unreadable;
         }
@@ -72,7 +106,7 @@ fn read(buffer: &mut [u8]) -> Stream
         }
         done += count;
     }
-    read_rest(done)
+    Stream::Longer(done)
 }
 
 // Reads what is left of standard input after so many bytes, and counts it.

@@ -3,9 +3,13 @@
 use console::BUFFER;
 use frame_length_command::Reply;
 
+// A line more than the longest log.
+const LOG: usize = 64_040;
+
 enum Command {
     LoadSheet,
     FrameLength,
+    CheckLog,
     Unknown,
 }
 
@@ -14,6 +18,7 @@ fn main() {
     match command {
         Command::LoadSheet => load_sheet(),
         Command::FrameLength => frame_length(),
+        Command::CheckLog => check_log(),
         Command::Unknown => explain(),
     }
 }
@@ -26,6 +31,9 @@ fn read_command() -> Command {
     if is_called(b"frame-length", 3) {
         return Command::FrameLength;
     }
+    if is_called(b"check-log", 1) {
+        return Command::CheckLog;
+    }
     Command::Unknown
 }
 
@@ -33,7 +41,7 @@ fn read_command() -> Command {
 fn explain() {
     io::write_all(
         2,
-        b"usage: vinguaru COMMAND\nINPUT is a file of lengths, 92 bytes, and behind it that of a table.\ncommands:\n  load-sheet < INPUT                 each node's bus load, and the greatest of them\n  frame-length KIND IDENTIFIER HEX   the exact length of a frame on the wire; HEX are its payload's bytes, - for none\n",
+        b"usage: vinguaru COMMAND\nINPUT is a file of lengths, 92 bytes, and behind it that of a table.\ncommands:\n  load-sheet < INPUT                 each node's bus load, and the greatest of them\n  frame-length KIND IDENTIFIER HEX   the exact length of a frame on the wire; HEX are its payload's bytes, - for none\n  check-log LOGFILE < INPUT          the groups' starts with which a bus log is the beginning of a schedule\n",
     );
 }
 
@@ -94,4 +102,25 @@ fn frame_length() {
         Reply::Malformed => explain(),
         Reply::Answered(answer) => console::print_answer(b"vinguaru", answer, &line),
     }
+}
+
+// Prints the starts of the groups that explain the log, or the log's refusal. A longer log is turned back by its length alone.
+fn check_log() {
+    let mut path = io::buffer();
+    let n = os::arg(2, &mut path);
+    let mut log = [0u8; LOG];
+    let file = console::read_file(b"vinguaru", &path[..n], &mut log);
+    if !file.held {
+        return;
+    }
+    let length = file.size;
+    let mut bytes = [0u8; BUFFER];
+    let input = console::read_input(b"vinguaru", &mut bytes);
+    if !input.held {
+        return;
+    }
+    let size = input.size;
+    let mut text = [0u8; log_command::LONGEST];
+    let answer = log_command::write_input(&bytes[..size], &log[..length], &mut text);
+    console::print_answer(b"vinguaru", answer, &text);
 }

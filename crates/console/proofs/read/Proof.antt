@@ -1,101 +1,75 @@
--- `console::read` meets its contract: each turn reads a part of what is left of the buffer.
+-- `console::read` meets its contract: what the buffer does not hold is counted.
 use borrow.Author.Needs.{needs}
-use Prim.Native.Nat.{_-_, _≤_}
-use mathlib.Core.Path.{_≡_, subst}
+use Prim.Native.Nat.{ℕ, _≤_}
+use mathlib.Core.Path.{subst}
+use mathlib.Core.List.{List}
 use native.Mathlib.Omega.{arith}
 use lib.ListN.{length}
-use Rattle.console.specs.Steps.{Within}
+use Rattle.console.specs.declared.Stream.{Stream}
+use Rattle.console.specs.declared.Stream.the-variants.{Whole, Longer, Unreadable}
+use Rattle.console.specs.Steps.{Held, Within}
 use Rattle.console.proofs.read.Statement.{statement}
 use Rattle.console.proofs.read.Tie as tie
 
-abbrev Inv-loop : tie.InvT-loop
-Inv-loop buffer₀ end done₀ buffer done = (end ≡ length buffer) × (done ≤ end)
+-- in a longer buffer too
+within-more : (s : Stream) (n m : ℕ) → n ≤ m → Within s n → Within s m
+within-more (Whole k) n m h w = omega arith
+within-more (Longer k) n m h w = tt
+within-more Unreadable n m h w = tt
 
-abbrev μ-loop : tie.MeasureT-loop
-μ-loop buffer₀ end done₀ buffer done = end - done
+fill-requires : tie.Need-fill-requires
+fill-requires c κs = search needs
 
-loop-holds : tie.Need-loop-holds Inv-loop μ-loop
-loop-holds c = search needs
+enum-known-stream : tie.Need-enum-known-stream
+enum-known-stream c = search needs
 
-sub-read : tie.Need-sub-read Inv-loop μ-loop
-sub-read c = search needs
+enum-known-stream-2 : tie.Need-enum-known-stream-2
+enum-known-stream-2 c = search needs
 
-part-read-start : tie.Need-part-read-start Inv-loop μ-loop
-part-read-start c = search needs
-
-part-read-end : tie.Need-part-read-end Inv-loop μ-loop
-part-read-end c = search needs
-
-read-requires : tie.Need-read-requires Inv-loop μ-loop
-read-requires c κs = search needs
-
-same-length : tie.Need-same-length Inv-loop μ-loop
-same-length c = search needs
-
-returns : tie.Need-returns Inv-loop μ-loop
-returns c = search needs
-
-sub-count : tie.Need-sub-count Inv-loop μ-loop
-sub-count c = search needs
-
-part-count-start : tie.Need-part-count-start Inv-loop μ-loop
-part-count-start c = search needs
-
-part-count-end : tie.Need-part-count-end Inv-loop μ-loop
-part-count-end c = search needs
-
-count-requires : tie.Need-count-requires Inv-loop μ-loop
-count-requires c κs = search needs
-
-same-length-2 : tie.Need-same-length-2 Inv-loop μ-loop
-same-length-2 c = search needs
-
-returns-2 : tie.Need-returns-2 Inv-loop μ-loop
-returns-2 c = search needs
-
-add-done : tie.Need-add-done Inv-loop μ-loop
-add-done c = search needs
-
-loop-less : tie.Need-loop-less Inv-loop μ-loop
-loop-less c = search needs
-
-loop-again : tie.Need-loop-again Inv-loop μ-loop
-loop-again c = search needs
-
-read-rest-requires : tie.Need-read-rest-requires Inv-loop μ-loop
+read-rest-requires : tie.Need-read-rest-requires
 read-rest-requires c κs = search needs
 
-same-length-3 : tie.Need-same-length-3 Inv-loop μ-loop
+enum-told : tie.Need-enum-told
+enum-told c = search needs
+
+same-length : tie.Need-same-length
+same-length c = search needs
+
+returns : tie.Need-returns
+returns c =
+    let fill = c .before .before .before .before .before .fill in
+    let buffer : List ℕ = fill .last .1 .0 in
+    subst (λ (s : Stream). Held s (length buffer)) (c .before .stream .given .1) (fill .ensures)
+
+same-length-2 : tie.Need-same-length-2
+same-length-2 c = search needs
+
+returns-2 : tie.Need-returns-2
+returns-2 c =
+    let fill = c .before .before .before .before .before .before .fill in
+    let buffer : List ℕ = fill .last .1 .0 in
+    within-more (c .read-rest .result) _ (length buffer)
+    (subst (λ (s : Stream). Held s (length buffer)) (c .before .before .stream2 .given .1) (fill .ensures))
+    (c .read-rest .ensures)
+
+same-length-3 : tie.Need-same-length-3
 same-length-3 c = search needs
 
-returns-3 : tie.Need-returns-3 Inv-loop μ-loop
-returns-3 c =
-    let l = c .before .before .loop in
-    let full : l .done ≡ length (l .buffer) = omega (arith, l .inv .0, l .inv .1, c .before .loop-test .left) in
-    subst (Within (c .read-rest .result)) full (c .read-rest .ensures)
+returns-3 : tie.Need-returns-3
+returns-3 c = search needs
 
 pub read-spec : {M : Type 1} → statement M
 read-spec =
     tie.close
     (tie.spec
-    Inv-loop
-    μ-loop
-    loop-holds
-    sub-read
-    part-read-start
-    part-read-end
-    read-requires
+    fill-requires
+    enum-known-stream
+    enum-known-stream-2
+    read-rest-requires
+    enum-told
     same-length
     returns
-    sub-count
-    part-count-start
-    part-count-end
-    count-requires
     same-length-2
     returns-2
-    add-done
-    loop-less
-    loop-again
-    read-rest-requires
     same-length-3
     returns-3)
