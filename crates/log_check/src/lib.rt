@@ -81,7 +81,7 @@ pub fn check_log(lengths: [[u32; 9]; 2], rows: &[u32], text: &[u8]) -> LogChecke
 }
 
 // Checks a log whose lengths and table are accepted.
-pub fn check_text(lengths: [[u32; 9]; 2], rows: &[u32], text: &[u8]) -> LogChecked
+fn check_text(lengths: [[u32; 9]; 2], rows: &[u32], text: &[u8]) -> LogChecked
     requires { ⌜ Loadable lengths × Accepted (now rows) ⌝ }
     ensures { λ r. ⌜ r ≡ textAnswer lengths (now (rows .entry)) (now (text .entry)) ⌝ }
 {

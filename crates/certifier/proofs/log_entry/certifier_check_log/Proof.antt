@@ -1,6 +1,6 @@
 -- `certifier::log_entry::certifier_check_log` meets its contract: the numbers of the check are stored.
 use borrow.Author.Needs.{needs}
-use mathlib.Core.Path.{_≡_, ap, _∙_}
+use mathlib.Core.Path.{_∙_}
 use Rattle.arith.specs.laws.Signed.{kept}
 use Rattle.certifier.proofs.log_entry.certifier_check_log.Statement.{statement}
 use Rattle.certifier.proofs.log_entry.certifier_check_log.Tie as tie

@@ -1,6 +1,6 @@
 -- `certifier::log_entry::store` meets its contract.
 use borrow.Author.Needs.{needs}
-use mathlib.Core.Path.{_≡_, _∙_}
+use mathlib.Core.Path.{_∙_}
 use Rattle.arith.specs.laws.Signed.{kept}
 use Rattle.certifier.specs.laws.LogEntry.{stored-not, stored-shown}
 use Rattle.certifier.proofs.log_entry.store.Statement.{statement}

@@ -1,6 +1,6 @@
 -- `certifier::log_entry::store_starts` meets its contract: in a shorter area nothing is stored.
 use borrow.Author.Needs.{needs}
-use mathlib.Core.Path.{_≡_, sym, _∙_}
+use mathlib.Core.Path.{_∙_}
 use Rattle.arith.specs.laws.Signed.{kept}
 use Rattle.log_check.specs.Refusal.{numberOf}
 use Rattle.table_checks.specs.Refusal.{numberOf as tableNumberOf}
