@@ -1,5 +1,6 @@
 /*
- * The picker bus certifier for C: judges the claims of a frame table, lists them, and writes its load sheet.
+ * The picker bus certifier for C: judges the claims of a frame table, lists them, writes its load sheet, and checks bus logs
+ * against it.
  *
  * Lengths are a file of two lines, kind 11 and then kind 29, each of nine numbers in columns 5 wide and a line feed: the
  * largest length in ticks of a frame with 0 to 8 payload bytes. They are CERTIFIER_LENGTHS bytes.
@@ -9,7 +10,7 @@
  *
  * Memory: a call reads `lengths_len` bytes from `lengths` and `table_len` bytes from `table` and keeps nothing; a pointer
  * may be null only if its length is 0. Where an output area is lent, a call writes its result at the start of it and
- * leaves every byte behind that; where it is turned back, it leaves them all. The area must not overlap what is read, and
+ * leaves all that stands behind; where it is turned back, it leaves the whole area. The area must not overlap what is read, and
  * may be null only if its length is 0. A call allocates nothing and needs less than 64 KiB of stack.
  * Threads: there is no state between calls, so any number of threads may call at once.
  */
@@ -63,6 +64,21 @@ int64_t certifier_load_sheet(const uint8_t *lengths, size_t lengths_len, const u
 #define CERTIFIER_LOAD_SHEET_MOST 494
 
 /*
+ * Checks a bus log against the table. A log is a file of up to 1600 lines, each of start (11), identifier (10), kind (3),
+ * queueing (11) and length (4) and a line feed. It is accepted exactly if the groups can have started so that it is the
+ * beginning of a schedule, up to its last end. Then these starts, of groups 1 to CERTIFIER_GROUPS, are written to the
+ * numbers that `starts` points at, of which there are `starts_len`: a group that has a line can have started then alone,
+ * and a group with no line is given the last end, 0 in an empty log. Answers how many numbers were written, or, where the
+ * call is turned back, minus (number * 10000 + place); the place is 1600 at the most.
+ */
+int64_t certifier_check_log(const uint8_t *lengths, size_t lengths_len, const uint8_t *table, size_t table_len,
+                            const uint8_t *log, size_t log_len, uint64_t *starts, size_t starts_len);
+
+/* The groups, and the bytes of the longest log. */
+#define CERTIFIER_GROUPS 16
+#define CERTIFIER_LOG_MOST 64000
+
+/*
  * The exact length in ticks of the data frame with this kind (11 or 29 identifier bits), identifier and payload, from
  * its start bit through the 3-bit space after it, or, where the call is turned back, minus (number * 10000 + place).
  * It reads `payload_len` bytes from `payload`, which may be null only if the length is 0.
@@ -94,7 +110,11 @@ enum certifier_refusal {
     CERTIFIER_LENGTHS_FILE = 13, /* 0: the lengths are not 92 bytes in their notation */
     CERTIFIER_LENGTH_LIMITS = 14,/* the lengths' line: a number outside 47..400, or smaller than the one before it */
     CERTIFIER_SECOND_GROUP = 15, /* the line: its node stands in another group on an earlier line */
-    CERTIFIER_NOT_A_FRAME = 16   /* 0; of certifier_frame_length only: a kind, identifier or payload outside its limits */
+    CERTIFIER_NOT_A_FRAME = 16,  /* 0; of certifier_frame_length only: a kind, identifier or payload outside its limits */
+    CERTIFIER_LOG_NOTATION = 18, /* of certifier_check_log only: the log's length is no multiple of 40 or beyond 64000: 0;
+                                    a line breaks the notation, or a start or queueing is beyond 9999999999: the line */
+    CERTIFIER_LOG_CONTRADICTION = 19 /* of certifier_check_log only: no starts make the log the beginning of a schedule:
+                                        the lines of the shortest beginning that fails */
 };
 
 /* Whether the call was turned back. */

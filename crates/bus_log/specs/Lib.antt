@@ -2,5 +2,5 @@
 pub mod Log
 pub mod Beginning
 pub mod Follow
-pub mod Examples
+pub mod Cases
 pub mod theory
