@@ -67,7 +67,9 @@ pub fn of_table(refusal: table_checks::Refusal) -> Refusal
     }
 }
 
-// Checks a log against its table, by the lengths loaded.
+// Checks a log against its table, by the lengths loaded. An accepted log is the beginning of a schedule with the starts that are
+// shown, and a group that has a line has no other start; where it is refused by Contradiction, no starts make its first lines, as many as
+// the place says, such a beginning, and for every fewer some do.
 pub fn check_log(lengths: [[u32; 9]; 2], rows: &[u32], text: &[u8]) -> LogChecked
     ensures { λ r. ⌜ r ≡ logAnswer lengths (now (rows .entry)) (now (text .entry)) ⌝ }
     ensures says { λ r. ⌜ Says lengths (now (rows .entry)) (now (text .entry)) r ⌝ }
