@@ -85,6 +85,20 @@ int64_t certifier_check_log(const uint8_t *lengths, size_t lengths_len, const ui
  */
 int64_t certifier_frame_length(uint32_t kind, uint32_t identifier, const uint8_t *payload, size_t payload_len);
 
+/*
+ * Writes the sheet of a log to `out`: a first line with the greatest number of busy ticks in `width` consecutive ticks
+ * between 0 and the log's last end (11), and the first tick of the earliest such stretch (11); then a line a row, in table
+ * order: identifier (10), instances seen (5), greatest response seen (11) and sum of responses (15), zeros for a frame that
+ * the log does not have; each line ends in a line feed. Answers how many bytes were written, 23 + 42 * rows, or, where the
+ * call is turned back, minus (number * 10000 + place). It reads `log_len` bytes from `log`, which may be null only if the
+ * length is 0.
+ */
+int64_t certifier_busiest(const uint8_t *lengths, size_t lengths_len, const uint8_t *table, size_t table_len,
+                          const uint8_t *log, size_t log_len, uint64_t width, uint8_t *out, size_t out_len);
+
+/* The bytes of the longest sheet of a log. */
+#define CERTIFIER_BUSIEST_MOST 2711
+
 /* What a claim is found to be. In the first two cases the frame is certified: it is never late. */
 enum certifier_verdict {
     CERTIFIER_BY_APPROXIMATE_BOUND = 1,
@@ -111,10 +125,11 @@ enum certifier_refusal {
     CERTIFIER_LENGTH_LIMITS = 14,/* the lengths' line: a number outside 47..400, or smaller than the one before it */
     CERTIFIER_SECOND_GROUP = 15, /* the line: its node stands in another group on an earlier line */
     CERTIFIER_NOT_A_FRAME = 16,  /* 0; of certifier_frame_length only: a kind, identifier or payload outside its limits */
-    CERTIFIER_LOG_NOTATION = 18, /* of certifier_check_log only: the log's length is no multiple of 40 or beyond 64000: 0;
+    CERTIFIER_LOG_NOTATION = 18, /* of calls with a log only: the log's length is no multiple of 40 or beyond 64000: 0;
                                     a line breaks the notation, or a start or queueing is beyond 9999999999: the line */
-    CERTIFIER_LOG_CONTRADICTION = 19 /* of certifier_check_log only: no starts make the log the beginning of a schedule:
+    CERTIFIER_LOG_CONTRADICTION = 19, /* of calls with a log only: no starts make the log the beginning of a schedule:
                                         the lines of the shortest beginning that fails */
+    CERTIFIER_NO_WIDTH = 20      /* 0; of certifier_busiest only: the width is 0 or exceeds the log's last end */
 };
 
 /* Whether the call was turned back. */

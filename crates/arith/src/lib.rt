@@ -33,6 +33,12 @@ pub fn greater(a: u32, b: u32) -> u32
     if a < b { b } else { a }
 }
 
+pub fn greater_wide(a: u64, b: u64) -> u64
+    ensures { λ r. ⌜ r ≡ max a b ⌝ }
+{
+    if a < b { b } else { a }
+}
+
 // The greatest common divisor, by Euclid's algorithm.
 pub fn gcd(a: u64, b: u64) -> u64
     ensures { λ r. ⌜ r ≡ gcd a b ⌝ }

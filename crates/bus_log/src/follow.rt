@@ -21,7 +21,7 @@ ghost use Rattle.bus_log.specs.Log.{isNamed, rowOf};
 ghost use Rattle.bus_log.specs.Follow.{entryOf, begin, followLine, startShown, isSeen, startOf, dueOf, toldStart, isTold, toldDue, dueWith, isAgainst, hinders, rowHinders, isDue, isAllowed, earliest, dueNext, dueAfter, startsAfter, advance};
 
 // Whether row i has the line's identifier and kind.
-fn is_named(rows: &[u32], l: Line, i: usize) -> bool
+pub fn is_named(rows: &[u32], l: Line, i: usize) -> bool
     requires { ⌜ columns * i + columns ≤ length (now rows) ⌝ }
     ensures { λ r. ⌜ r ≡ isNamed (now (rows .entry)) l i ⌝ }
 {

@@ -5,6 +5,7 @@ mod follow;
 pub use follow::begin;
 pub use follow::entry_of;
 pub use follow::follow_line;
+pub use follow::is_named;
 pub use follow::start_shown;
 
 // A line of a log.

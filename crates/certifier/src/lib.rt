@@ -1,11 +1,13 @@
 // The operations on frame tables: the precise bound of a row, its judgement, the listing of all rows, and
 // the entries for C, those of the load sheet, of a frame's length and of a log among them. Each takes any input, and checks its
 // lengths and its table itself. The encode functions give the numbers that the entries answer.
+mod busiest_entry;
 mod encode;
 mod frame_entry;
 mod listing;
 mod log_entry;
 
+pub use busiest_entry::certifier_busiest;
 pub use encode::certifier_judge;
 pub use encode::certifier_list;
 pub use encode::certifier_load_sheet;

@@ -1,7 +1,9 @@
 // Does what the command says that is the program's first argument; lengths and a frame table stand on standard input. Another command is a
 // variant of Command, a line in `read_command`, an arm in `main` with a function of its own, and a line of the usage text.
 use console::BUFFER;
+use console::Input;
 use frame_length_command::Reply;
+ghost use Rattle.io.specs.Counts.{Counts};
 
 // A line more than the longest log.
 const LOG: usize = 64_040;
@@ -10,6 +12,7 @@ enum Command {
     LoadSheet,
     FrameLength,
     CheckLog,
+    Busiest,
     Unknown,
 }
 
@@ -19,6 +22,7 @@ fn main() {
         Command::LoadSheet => load_sheet(),
         Command::FrameLength => frame_length(),
         Command::CheckLog => check_log(),
+        Command::Busiest => busiest(),
         Command::Unknown => explain(),
     }
 }
@@ -34,6 +38,9 @@ fn read_command() -> Command {
     if is_called(b"check-log", 1) {
         return Command::CheckLog;
     }
+    if is_called(b"busiest", 2) {
+        return Command::Busiest;
+    }
     Command::Unknown
 }
 
@@ -41,7 +48,7 @@ fn read_command() -> Command {
 fn explain() {
     io::write_all(
         2,
-        b"usage: vinguaru COMMAND\nINPUT is a file of lengths, 92 bytes, and behind it that of a table.\ncommands:\n  load-sheet < INPUT                 each node's bus load, and the greatest of them\n  frame-length KIND IDENTIFIER HEX   the exact length of a frame on the wire; HEX are its payload's bytes, - for none\n  check-log LOGFILE < INPUT          the groups' starts with which a bus log is the beginning of a schedule\n",
+        b"usage: vinguaru COMMAND\nINPUT is a file of lengths, 92 bytes, and behind it that of a table.\ncommands:\n  load-sheet < INPUT                 each node's bus load, and the greatest of them\n  frame-length KIND IDENTIFIER HEX   the exact length of a frame on the wire; HEX are its payload's bytes, - for none\n  check-log LOGFILE < INPUT          the groups' starts with which a bus log is the beginning of a schedule\n  busiest LOGFILE WIDTH < INPUT      the busiest stretch of so many ticks of a bus log, and what it shows of each row\n",
     );
 }
 
@@ -106,10 +113,8 @@ fn frame_length() {
 
 // Prints the starts of the groups that explain the log, or the log's refusal. A longer log is turned back by its length alone.
 fn check_log() {
-    let mut path = io::buffer();
-    let n = os::arg(2, &mut path);
     let mut log = [0u8; LOG];
-    let file = console::read_file(b"vinguaru", &path[..n], &mut log);
+    let file = read_log(&mut log);
     if !file.held {
         return;
     }
@@ -123,4 +128,44 @@ fn check_log() {
     let mut text = [0u8; log_command::LONGEST];
     let answer = log_command::write_input(&bytes[..size], &log[..length], &mut text);
     console::print_answer(b"vinguaru", answer, &text);
+}
+
+// Prints the busiest stretch of the log and what it shows of each row, or the log's refusal.
+fn busiest() {
+    let mut width = io::buffer();
+    let w = os::arg(3, &mut width);
+    let mut log = [0u8; LOG];
+    let file = read_log(&mut log);
+    if !file.held {
+        return;
+    }
+    let length = file.size;
+    let mut bytes = [0u8; BUFFER];
+    let input = console::read_input(b"vinguaru", &mut bytes);
+    if !input.held {
+        return;
+    }
+    let size = input.size;
+    let mut text = [0u8; busiest_command::LONGEST];
+    let reply = busiest_command::write_input(
+        &bytes[..size],
+        &log[..length],
+        &width[..w],
+        &mut text,
+    );
+    match reply {
+        busiest_command::Reply::Malformed => explain(),
+        busiest_command::Reply::Answered(answer) => {
+            console::print_answer(b"vinguaru", answer, &text)
+        }
+    }
+}
+
+// Reads the log in the file that the argument behind the command names.
+fn read_log(log: &mut [u8]) -> Input
+    ensures { λ r. ⌜ Counts (r .size) (now (log .exit)) ⌝ }
+{
+    let mut path = io::buffer();
+    let n = os::arg(2, &mut path);
+    console::read_file(b"vinguaru", &path[..n], log)
 }

@@ -1,0 +1,41 @@
+-- The command busiest: its width, and what it prints (document 02, request 11).
+use Prim.Native.Nat.{ℕ}
+use mathlib.Core.Bool.{cond}
+use mathlib.Core.List.{List}
+use lib.Dec.{eqb}
+use Rattle.decimal.specs.declared.Column.{Column}
+use Rattle.decimal.specs.declared.Column.the-variants.{Value, Broken}
+use Rattle.decimal.specs.Decimal.{readColumn}
+use Rattle.table_checks.specs.declared.Checked.the-variants.{Passed}
+use Rattle.frame_table.specs.Text.{fieldsOf}
+use Rattle.frame_table.specs.Table.{Answered as Returned, answerFor, areaAfter}
+use Rattle.log_check.specs.Check.{linesOf}
+use Rattle.log_load.specs.Sheet.{sheetOf}
+use Rattle.log_load.specs.Returns.{fileReturns}
+use Rattle.certifier.specs.Listing.{refusalLine}
+use Rattle.busiest_command.specs.declared.Reply.{Reply}
+use Rattle.busiest_command.specs.declared.Reply.the-variants.{Malformed, Answered}
+
+-- the sheet, or number and place of a refusal
+unfoldable pub textOf : Returned → List ℕ → List ℕ
+textOf r sheet = cond (eqb (r .number) 0) sheet (refusalLine (r .number) (r .place))
+
+-- the text for a width w, in an area that holds `old`
+unfoldable pub textFor : List ℕ → List ℕ → List ℕ → ℕ → List ℕ → List ℕ
+textFor lengths table log w old = textOf (fileReturns lengths table log w old) (sheetOf (fieldsOf table) (linesOf log) w)
+
+-- the width is a number in the notation of a table's column
+abbrev pub replyTo : Column → List ℕ → List ℕ → List ℕ → List ℕ → Reply
+replyTo (Value w) lengths table log old = Answered (answerFor Passed (textFor lengths table log w old) old)
+replyTo Broken lengths table log old = Malformed
+
+abbrev pub replyFor : List ℕ → List ℕ → List ℕ → List ℕ → List ℕ → Reply
+replyFor lengths table log width old = replyTo (readColumn width) lengths table log old
+
+-- the area afterwards
+abbrev pub areaTo : Column → List ℕ → List ℕ → List ℕ → List ℕ → List ℕ
+areaTo (Value w) lengths table log old = areaAfter (answerFor Passed (textFor lengths table log w old) old) (textFor lengths table log w old) old
+areaTo Broken lengths table log old = old
+
+abbrev pub areaLeft : List ℕ → List ℕ → List ℕ → List ℕ → List ℕ → List ℕ
+areaLeft lengths table log width old = areaTo (readColumn width) lengths table log old

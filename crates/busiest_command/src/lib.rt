@@ -1,0 +1,67 @@
+// The command busiest: the width as it is typed, and the sheet of a log, or its refusal, as they are printed.
+use decimal::Column;
+use frame_table::Answer;
+use frame_table::no_room;
+use log_load::Refusal;
+ghost use mathlib.Core.Path.{_≡_};
+ghost use Rattle.table_checks.specs.declared.Checked.the-variants.{Passed};
+ghost use Rattle.frame_table.specs.Table.{answerFor, areaAfter};
+ghost use Rattle.lengths_file.specs.Input.{lengthsPart, tablePart};
+ghost use Rattle.log_load.specs.Refusal.{numberOf};
+ghost use Rattle.certifier.specs.Listing.{refusalLine};
+ghost use Rattle.busiest_command.specs.Command.{textFor, replyFor, areaLeft};
+
+// The characters of the longest text, and of the line of a refusal.
+pub const LONGEST: usize = log_load::LONGEST;
+
+const REFUSAL_LINE: usize = 10;
+
+const LINE_FEED: u8 = 10;
+
+// What the command comes to.
+pub enum Reply {
+    // The width breaks its notation.
+    Malformed,
+    // What writing the text answers.
+    Answered(Answer),
+}
+
+// Writes the sheet of a log, or the refusal, for the width that an argument names. Lengths and table stand in the input: its first 92
+// bytes are the file of the lengths, and the rest is that of the table.
+pub fn write_input(input: &[u8], log: &[u8], width: &[u8], out: &mut [u8]) -> Reply
+    ensures { λ r. ⌜ r ≡ replyFor (lengthsPart (now (input .entry))) (tablePart (now (input .entry))) (now (log .entry)) (now (width .entry)) (now (out .entry)) ⌝ }
+    ensures { λ _. ⌜ now (out .exit) ≡ areaLeft (lengthsPart (now (input .entry))) (tablePart (now (input .entry))) (now (log .entry)) (now (width .entry)) (now (out .entry)) ⌝ }
+{
+    let read = decimal::read(width);
+    let Column::Value(w) = read else {
+        return Reply::Malformed;
+    };
+    Reply::Answered(write_text(input, log, w, out))
+}
+
+// Writes the sheet for a width, or the refusal.
+fn write_text(input: &[u8], log: &[u8], width: u64, out: &mut [u8]) -> Answer
+    ensures { λ r. ⌜ r ≡ answerFor Passed (textFor (lengthsPart (now (input .entry))) (tablePart (now (input .entry))) (now (log .entry)) width (now (out .entry))) (now (out .entry)) ⌝ }
+    ensures { λ r. ⌜ now (out .exit) ≡ areaAfter r (textFor (lengthsPart (now (input .entry))) (tablePart (now (input .entry))) (now (log .entry)) width (now (out .entry))) (now (out .entry)) ⌝ }
+{
+    let answer = log_load::busiest_input(input, log, width, out);
+    match answer {
+        log_load::Answer::Refused(refusal) => write_refusal(refusal, out),
+        log_load::Answer::Done(n) => Answer::Done(n),
+    }
+}
+
+// Writes the line of a refusal: number (3) and place (6), and a line feed.
+fn write_refusal(refusal: Refusal, out: &mut [u8]) -> Answer
+    ensures { λ r. ⌜ r ≡ answerFor Passed (refusalLine (numberOf (refusal .cause)) (refusal .place)) (now (out .entry)) ⌝ }
+    ensures { λ r. ⌜ now (out .exit) ≡ areaAfter r (refusalLine (numberOf (refusal .cause)) (refusal .place)) (now (out .entry)) ⌝ }
+{
+    if out.len() < REFUSAL_LINE {
+        return no_room();
+    }
+    let cause = refusal.cause;
+    decimal::write(&mut out[0..3], log_load::number(cause) as u64);
+    decimal::write(&mut out[3..9], refusal.place as u64);
+    out[REFUSAL_LINE - 1] = LINE_FEED;
+    Answer::Done(REFUSAL_LINE)
+}

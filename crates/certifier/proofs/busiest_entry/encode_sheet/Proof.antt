@@ -1,0 +1,47 @@
+-- The count is small and is read as signed as it stands; a refusal is encoded by its own function.
+use Prim.Native.Nat.{_≤_}
+use mathlib.Core.Path.{_∙_}
+use native.Mathlib.Omega.{arith}
+use borrow.Author.Needs.{needs}
+use borrow.Author.Tests.{ne-eqb}
+use Rattle.arith.specs.laws.Signed.{toZ-pos, kept}
+use Rattle.log_load.specs.Returns.{answerReturns}
+use Rattle.log_load.specs.theory.Returns.{cause-some}
+use Rattle.certifier.specs.LogEntry.{encodeAnswered}
+use Rattle.certifier.proofs.busiest_entry.encode_sheet.Statement.{statement}
+use Rattle.certifier.proofs.busiest_entry.encode_sheet.Tie as tie
+
+enum-known-answer : tie.Need-enum-known-answer
+enum-known-answer c = search needs
+
+-- the count is small
+small : (c : tie.After-known-told) → c .before .answer .given .0 .0 ≤ 2711
+small c = c .before .before .before .pre _ (c .before .answer .given .1)
+
+cast-result : tie.Need-cast-result
+cast-result c = record { sfits = omega (arith, small c) }
+
+enum-known-answer-2 : tie.Need-enum-known-answer-2
+enum-known-answer-2 c = search needs
+
+encode-sheet-refusal-requires : tie.Need-encode-sheet-refusal-requires
+encode-sheet-refusal-requires c κs = search needs
+
+returns : tie.Need-returns
+unfolding encodeAnswered answerReturns
+returns c = rw (c .before .answer .given .1) (toZ-pos _ (omega (arith, small c)))
+
+returns-2 : tie.Need-returns-2
+unfolding encodeAnswered answerReturns
+returns-2 c = rw (c .before .before .answer2 .given .1, ne-eqb _ 0 (cause-some (c .before .before .answer2 .given .0 .0 .cause))) (kept _ (c .encode-sheet-refusal .ok) ∙ c .encode-sheet-refusal .ensures)
+
+pub encode-sheet-spec : {M : Type 1} → statement M
+encode-sheet-spec =
+    tie.close
+    (tie.spec
+    enum-known-answer
+    cast-result
+    enum-known-answer-2
+    encode-sheet-refusal-requires
+    returns
+    returns-2)

@@ -1,0 +1,82 @@
+-- `log_load::sheet::write_rows` meets its contract: after i turns the first i lines are written.
+use mathlib.Core.Path.{_≡_, refl}
+use Prim.Native.Nat.{_-_, _*_, _≤_}
+use native.Mathlib.Omega.{arith}
+use borrow.Author.Needs.{needs}
+use lib.ListN.{length, length-take, length-drop}
+use Rattle.arith.specs.laws.Overwriting.{over}
+use Rattle.arith.specs.laws.Lines.{line-over, lines-over}
+use Rattle.log_check.specs.Check.{linesOf}
+use Rattle.log_load.specs.Sheet.{linesFrom}
+use Rattle.log_load.specs.theory.Sheet.{row-lines, none-left}
+use Rattle.log_load.proofs.sheet.write_rows.Statement.{statement}
+use Rattle.log_load.proofs.sheet.write_rows.Tie as tie
+
+abbrev Inv-loop : tie.InvT-loop
+Inv-loop rows text n out₀ i₀ out i = (out ≡ over (linesFrom rows (linesOf text) n 0) (42 * i) out₀) × (i ≤ n) × (length out ≡ length out₀)
+
+abbrev μ-loop : tie.MeasureT-loop
+μ-loop rows text n out₀ i₀ out i = n - i
+
+loop-holds : tie.Need-loop-holds Inv-loop μ-loop
+loop-holds c = (refl, search needs, refl)
+
+mul-from : tie.Need-mul-from Inv-loop μ-loop
+mul-from c = search needs
+
+add-to : tie.Need-add-to Inv-loop μ-loop
+add-to c = search needs
+
+sub-write-row : tie.Need-sub-write-row Inv-loop μ-loop
+sub-write-row c = search needs
+
+part-write-row-start : tie.Need-part-write-row-start Inv-loop μ-loop
+part-write-row-start c = search needs
+
+part-write-row-end : tie.Need-part-write-row-end Inv-loop μ-loop
+part-write-row-end c = search needs
+
+write-row-requires : tie.Need-write-row-requires Inv-loop μ-loop
+write-row-requires c κs =
+    let start = c .before .before .before .before .before .before in
+    ((omega (arith, c .before .loop-test .taken, start .pre .0), simp (length-take, length-drop) (omega (arith, c .before .before .loop .inv, c .before .loop-test .taken, start .pre .0))), start .pre .1)
+
+add-i : tie.Need-add-i Inv-loop μ-loop
+add-i c = search needs
+
+loop-less : tie.Need-loop-less Inv-loop μ-loop
+loop-less c = search needs
+
+loop-again : tie.Need-loop-again Inv-loop μ-loop
+loop-again c =
+    let start = c .before .before .before .before .before .before .before .before .before in
+    let lines = row-lines (start .args .rows .now) (linesOf (start .args .text .now)) in
+    (line-over lines _ _ _ _ (c .before .before .before .before .before .loop .inv .0) _ (c .before .before .before .before .loop-test .taken) (c .before .before .write-row .ensures), search needs, search needs)
+
+same-length : tie.Need-same-length Inv-loop μ-loop
+same-length c = search needs
+
+returns : tie.Need-returns Inv-loop μ-loop
+returns c =
+    let start = c .before .before .before .before .before in
+    let lines = row-lines (start .args .rows .now) (linesOf (start .args .text .now)) in
+    none-left _ _ _ _ (lines-over lines _ _ _ _ (c .before .loop .inv .0) (c .before .loop .inv .1) (c .loop-test .left)) (start .pre .0 .2)
+
+pub write-rows-spec : {M : Type 1} → statement M
+write-rows-spec =
+    tie.close
+    (tie.spec
+    Inv-loop
+    μ-loop
+    loop-holds
+    mul-from
+    add-to
+    sub-write-row
+    part-write-row-start
+    part-write-row-end
+    write-row-requires
+    add-i
+    loop-less
+    loop-again
+    same-length
+    returns)
