@@ -79,6 +79,18 @@ int64_t certifier_check_log(const uint8_t *lengths, size_t lengths_len, const ui
 #define CERTIFIER_LOG_MOST 64000
 
 /*
+ * Simulates the bus from a seed, not 0, and writes a log of `lines` lines, 1 to 1600, to `out`: for each transmission start
+ * (11), identifier (10), kind (3), queueing (11) and length (4) and a line feed. Starts and lengths are drawn; the same
+ * lengths, table, seed and number of lines give the same log, and the log of fewer lines is its beginning.
+ * Answers how many bytes were written, 40 * lines, or, where the call is turned back, minus (number * 10000 + place).
+ */
+int64_t certifier_simulate(const uint8_t *lengths, size_t lengths_len, const uint8_t *table, size_t table_len, uint32_t seed,
+                           uint64_t lines, uint8_t *out, size_t out_len);
+
+/* The bytes of the longest simulated log. */
+#define CERTIFIER_SIMULATED_MOST 64000
+
+/*
  * The exact length in ticks of the data frame with this kind (11 or 29 identifier bits), identifier and payload, from
  * its start bit through the 3-bit space after it, or, where the call is turned back, minus (number * 10000 + place).
  * It reads `payload_len` bytes from `payload`, which may be null only if the length is 0.
@@ -129,7 +141,9 @@ enum certifier_refusal {
                                     a line breaks the notation, or a start or queueing is beyond 9999999999: the line */
     CERTIFIER_LOG_CONTRADICTION = 19, /* of calls with a log only: no starts make the log the beginning of a schedule:
                                         the lines of the shortest beginning that fails */
-    CERTIFIER_NO_WIDTH = 20      /* 0; of certifier_busiest only: the width is 0 or exceeds the log's last end */
+    CERTIFIER_NO_WIDTH = 20,     /* 0; of certifier_busiest only: the width is 0 or exceeds the log's last end */
+    CERTIFIER_ZERO_SEED = 21,    /* 0; of certifier_simulate only */
+    CERTIFIER_LINE_COUNT = 22    /* 0; of certifier_simulate only: the lines wanted are outside 1..1600 */
 };
 
 /* Whether the call was turned back. */

@@ -1,7 +1,7 @@
 // The command busiest: the width as it is typed, and the sheet of a log, or its refusal, as they are printed.
+use certifier::write_refusal_line;
 use decimal::Column;
 use frame_table::Answer;
-use frame_table::no_room;
 use log_load::Refusal;
 ghost use mathlib.Core.Path.{_≡_};
 ghost use Rattle.table_checks.specs.declared.Checked.the-variants.{Passed};
@@ -11,12 +11,8 @@ ghost use Rattle.log_load.specs.Refusal.{numberOf};
 ghost use Rattle.certifier.specs.Listing.{refusalLine};
 ghost use Rattle.busiest_command.specs.Command.{textFor, replyFor, areaLeft};
 
-// The characters of the longest text, and of the line of a refusal.
+// The characters of the longest text.
 pub const LONGEST: usize = log_load::LONGEST;
-
-const REFUSAL_LINE: usize = 10;
-
-const LINE_FEED: u8 = 10;
 
 // What the command comes to.
 pub enum Reply {
@@ -56,12 +52,6 @@ fn write_refusal(refusal: Refusal, out: &mut [u8]) -> Answer
     ensures { λ r. ⌜ r ≡ answerFor Passed (refusalLine (numberOf (refusal .cause)) (refusal .place)) (now (out .entry)) ⌝ }
     ensures { λ r. ⌜ now (out .exit) ≡ areaAfter r (refusalLine (numberOf (refusal .cause)) (refusal .place)) (now (out .entry)) ⌝ }
 {
-    if out.len() < REFUSAL_LINE {
-        return no_room();
-    }
     let cause = refusal.cause;
-    decimal::write(&mut out[0..3], log_load::number(cause) as u64);
-    decimal::write(&mut out[3..9], refusal.place as u64);
-    out[REFUSAL_LINE - 1] = LINE_FEED;
-    Answer::Done(REFUSAL_LINE)
+    write_refusal_line(log_load::number(cause), refusal.place, out)
 }

@@ -4,4 +4,5 @@ pub mod Encode
 pub mod FrameEntry
 pub mod LogEntry
 pub mod Steps
+pub mod SimulateEntry
 pub mod laws

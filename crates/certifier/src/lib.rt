@@ -1,11 +1,12 @@
 // The operations on frame tables: the precise bound of a row, its judgement, the listing of all rows, and
-// the entries for C, those of the load sheet, of a frame's length and of a log among them. Each takes any input, and checks its
-// lengths and its table itself. The encode functions give the numbers that the entries answer.
+// the entries for C, those of the load sheet, of a frame's length, of a log and of a simulation among them. Each takes any input, and
+// checks its lengths and its table itself. The encode functions give the numbers that the entries answer.
 mod busiest_entry;
 mod encode;
 mod frame_entry;
 mod listing;
 mod log_entry;
+mod simulate_entry;
 
 pub use busiest_entry::certifier_busiest;
 pub use encode::certifier_judge;
@@ -22,6 +23,7 @@ pub use listing::REFUSAL_LINE;
 pub use listing::list;
 pub use listing::list_input;
 pub use listing::write_refusal;
+pub use listing::write_refusal_line;
 pub use log_entry::certifier_check_log;
 pub use row_judgement::Bounded;
 pub use row_judgement::Cause;
@@ -32,3 +34,4 @@ pub use row_judgement::number;
 pub use row_judgement::of_table;
 pub use row_judgement::precise_bound;
 pub use row_judgement::verdict;
+pub use simulate_entry::certifier_simulate;

@@ -128,12 +128,20 @@ pub fn write_refusal(refusal: Refusal, out: &mut [u8]) -> Answer
     ensures { λ r. ⌜ now (out .exit) ≡ areaAfter r (refusalLine (numberOf (refusal .cause)) (refusal .place)) (now (out .entry)) ⌝ }
     ensures in_numbers { λ r. ⌜ answerReturns r ≡ returnsFor (returned 0 0) (refusalLine (numberOf (refusal .cause)) (refusal .place)) (now (out .entry)) ⌝ }
 {
+    let cause = refusal.cause;
+    write_refusal_line(row_judgement::number(cause), refusal.place, out)
+}
+
+// The same by number and place.
+pub fn write_refusal_line(number: u32, place: u32, out: &mut [u8]) -> Answer
+    ensures { λ r. ⌜ r ≡ answerFor Passed (refusalLine number place) (now (out .entry)) ⌝ }
+    ensures { λ r. ⌜ now (out .exit) ≡ areaAfter r (refusalLine number place) (now (out .entry)) ⌝ }
+{
     if out.len() < REFUSAL_LINE {
         return no_room();
     }
-    let cause = refusal.cause;
-    decimal::write(&mut out[0..3], row_judgement::number(cause) as u64);
-    decimal::write(&mut out[3..9], refusal.place as u64);
+    decimal::write(&mut out[0..3], number as u64);
+    decimal::write(&mut out[3..9], place as u64);
     out[REFUSAL_LINE - 1] = LINE_FEED;
     Answer::Done(REFUSAL_LINE)
 }

@@ -1,4 +1,5 @@
 // The command check-log: the starts of groups 1 to 16 with which a log is the beginning of a schedule, or its refusal, as they are printed.
+use certifier::write_refusal_line;
 use frame_table::Answer;
 use frame_table::no_room;
 use log_check::GROUPS;
@@ -21,8 +22,6 @@ ghost use Rattle.log_command.specs.Command.{startLine, linesFrom, starts
 const LINE: usize = 15;
 
 pub const LONGEST: usize = 240;
-
-const REFUSAL_LINE: usize = 10;
 
 const LINE_FEED: u8 = 10;
 
@@ -65,14 +64,8 @@ fn write_refusal(refusal: Refusal, out: &mut [u8]) -> Answer
     ensures { λ r. ⌜ r ≡ answerFor Passed (refusalLine (numberOf (refusal .cause)) (refusal .place)) (now (out .entry)) ⌝ }
     ensures { λ r. ⌜ now (out .exit) ≡ areaAfter r (refusalLine (numberOf (refusal .cause)) (refusal .place)) (now (out .entry)) ⌝ }
 {
-    if out.len() < REFUSAL_LINE {
-        return no_room();
-    }
     let cause = refusal.cause;
-    decimal::write(&mut out[0..3], log_check::number(cause) as u64);
-    decimal::write(&mut out[3..9], refusal.place as u64);
-    out[REFUSAL_LINE - 1] = LINE_FEED;
-    Answer::Done(REFUSAL_LINE)
+    write_refusal_line(log_check::number(cause), refusal.place, out)
 }
 
 // Writes the starts.

@@ -13,6 +13,7 @@ enum Command {
     FrameLength,
     CheckLog,
     Busiest,
+    Simulate,
     Unknown,
 }
 
@@ -23,6 +24,7 @@ fn main() {
         Command::FrameLength => frame_length(),
         Command::CheckLog => check_log(),
         Command::Busiest => busiest(),
+        Command::Simulate => simulate(),
         Command::Unknown => explain(),
     }
 }
@@ -41,6 +43,9 @@ fn read_command() -> Command {
     if is_called(b"busiest", 2) {
         return Command::Busiest;
     }
+    if is_called(b"simulate", 2) {
+        return Command::Simulate;
+    }
     Command::Unknown
 }
 
@@ -48,7 +53,7 @@ fn read_command() -> Command {
 fn explain() {
     io::write_all(
         2,
-        b"usage: vinguaru COMMAND\nINPUT is a file of lengths, 92 bytes, and behind it that of a table.\ncommands:\n  load-sheet < INPUT                 each node's bus load, and the greatest of them\n  frame-length KIND IDENTIFIER HEX   the exact length of a frame on the wire; HEX are its payload's bytes, - for none\n  check-log LOGFILE < INPUT          the groups' starts with which a bus log is the beginning of a schedule\n  busiest LOGFILE WIDTH < INPUT      the busiest stretch of so many ticks of a bus log, and what it shows of each row\n",
+        b"usage: vinguaru COMMAND\nINPUT is a file of lengths, 92 bytes, and behind it that of a table.\ncommands:\n  load-sheet < INPUT                 each node's bus load, and the greatest of them\n  frame-length KIND IDENTIFIER HEX   the exact length of a frame on the wire; HEX are its payload's bytes, - for none\n  check-log LOGFILE < INPUT          the groups' starts with which a bus log is the beginning of a schedule\n  busiest LOGFILE WIDTH < INPUT      the busiest stretch of so many ticks of a bus log, and what it shows of each row\n  simulate SEED LINES < INPUT        a log of so many lines, drawn from a seed by the bus rule\n",
     );
 }
 
@@ -168,4 +173,26 @@ fn read_log(log: &mut [u8]) -> Input
     let mut path = io::buffer();
     let n = os::arg(2, &mut path);
     console::read_file(b"vinguaru", &path[..n], log)
+}
+
+// Prints a log that is drawn from the seed, or its refusal.
+fn simulate() {
+    let mut seed = io::buffer();
+    let s = os::arg(2, &mut seed);
+    let mut lines = io::buffer();
+    let n = os::arg(3, &mut lines);
+    let mut bytes = [0u8; BUFFER];
+    let input = console::read_input(b"vinguaru", &mut bytes);
+    if !input.held {
+        return;
+    }
+    let size = input.size;
+    let mut log = [0u8; simulator::LONGEST];
+    let reply = simulate_command::write_log(&seed[..s], &lines[..n], &bytes[..size], &mut log);
+    match reply {
+        simulate_command::Reply::Malformed => explain(),
+        simulate_command::Reply::Answered(answer) => {
+            console::print_answer(b"vinguaru", answer, &log)
+        }
+    }
 }

@@ -1,93 +1,23 @@
--- `busiest_command::write_refusal` meets its contract: the two columns and the line feed are written where they have room, and else the area is left.
-use mathlib.Core.Path.{refl}
+-- `busiest_command::write_refusal` meets its contract: number and place are those of the refusal.
 use borrow.Author.Needs.{needs}
-use lib.ListN.{length-set}
-use Rattle.table_checks.specs.declared.Checked.the-variants.{Passed}
-use Rattle.frame_table.specs.laws.Areas.{area-short, area-written}
-use Rattle.log_load.specs.Refusal.{numberOf}
-use Rattle.certifier.specs.Listing.{refusalLine}
-use Rattle.certifier.specs.laws.Listing.{length-refusal, refusal-written}
 use Rattle.busiest_command.proofs.write_refusal.Statement.{statement}
 use Rattle.busiest_command.proofs.write_refusal.Tie as tie
-
-no-room-requires : tie.Need-no-room-requires
-no-room-requires c κs = search needs
-
-returns : tie.Need-returns
-returns c = area-short Passed _ _ _ _ (length-refusal _ _) refl (c .before .if1 .taken) (c .no-room .ensures)
-
-sub-write : tie.Need-sub-write
-sub-write c = search needs
-
-part-write-start : tie.Need-part-write-start
-part-write-start c = search needs
-
-part-write-end : tie.Need-part-write-end
-part-write-end c = search needs
 
 number-requires : tie.Need-number-requires
 number-requires c κs = search needs
 
-cast-write : tie.Need-cast-write
-cast-write c = search needs
-
-write-requires : tie.Need-write-requires
-write-requires c κs = search needs
-
-sub-write-2 : tie.Need-sub-write-2
-sub-write-2 c = search needs
-
-part-write-start-2 : tie.Need-part-write-start-2
-part-write-start-2 c = search needs
-
-part-write-end-2 : tie.Need-part-write-end-2
-part-write-end-2 c = search needs
-
-cast-write-2 : tie.Need-cast-write-2
-cast-write-2 c = search needs
-
-write-requires-2 : tie.Need-write-requires-2
-write-requires-2 c κs = search needs
-
-sub-out : tie.Need-sub-out
-sub-out c = search needs
-
-slice-write-out : tie.Need-slice-write-out
-slice-write-out c = search needs
+write-refusal-line-requires : tie.Need-write-refusal-line-requires
+write-refusal-line-requires c κs = search needs
 
 same-length : tie.Need-same-length
-same-length c = simp length-set (search needs)
+same-length c = search needs
 
-returns-2 : tie.Need-returns-2
-returns-2 c =
-    let at-write2 = c .before .before in
-    let at-write = at-write2 .before .before .before .before .before in
-    let at-if1 = at-write .before .before .before in
-    let start = at-if1 .before .before in
-    let out = start .args .out .now in
-    let number = numberOf (start .args .refusal .cause) in
-    let place = start .args .refusal .place in
-    area-written Passed (refusalLine number place) out _ _ (length-refusal number place) refl (at-if1 .if1 .left)
-    (refusal-written number _ place out _ _ (at-if1 .if1 .left) (at-write .before .number .ensures) (at-write .write .ensures) (at-write2 .write2 .ensures))
+returns : tie.Need-returns
+returns c =
+    let at-line = c .before .before in
+    let at-number = at-line .before .before in
+    rw (← at-number .number .ensures) (at-line .write-refusal-line .ensures)
 
 pub write-refusal-spec : {M : Type 1} → statement M
 write-refusal-spec =
-    tie.close
-    (tie.spec
-    no-room-requires
-    returns
-    sub-write
-    part-write-start
-    part-write-end
-    number-requires
-    cast-write
-    write-requires
-    sub-write-2
-    part-write-start-2
-    part-write-end-2
-    cast-write-2
-    write-requires-2
-    sub-out
-    slice-write-out
-    same-length
-    returns-2)
+    tie.close (tie.spec number-requires write-refusal-line-requires same-length returns)

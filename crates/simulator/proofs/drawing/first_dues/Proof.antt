@@ -1,0 +1,58 @@
+-- `simulator::drawing::first_dues` meets its contract: after i turns the first i are written.
+use Prim.Native.Nat.{_-_, _≤_}
+use mathlib.Core.Path.{_≡_, refl, _∙_}
+use borrow.Author.Needs.{needs}
+use mathlib.Core.List.{map}
+use lib.ListN.{length, length-set}
+use Rattle.table_checks.specs.Frames.{framesOf}
+use Rattle.bus_log.specs.theory.Filled.{fill-more, fill-all}
+use Rattle.arith.specs.Lists.{range}
+use Rattle.arith.specs.laws.Overwriting.{over}
+use Rattle.simulator.specs.Starts.{firstDue}
+use Rattle.simulator.proofs.drawing.first_dues.Statement.{statement}
+use Rattle.simulator.proofs.drawing.first_dues.Tie as tie
+
+abbrev Inv-loop : tie.InvT-loop
+Inv-loop lengths rows d due₀ i₀ due i = (due ≡ over (map (firstDue (framesOf lengths rows) d) (range 0 64)) i due₀) × (i ≤ 64) × (length due ≡ 64) × (length due₀ ≡ 64)
+
+abbrev μ-loop : tie.MeasureT-loop
+μ-loop lengths rows d due₀ i₀ due i = 64 - i
+
+loop-holds : tie.Need-loop-holds Inv-loop μ-loop
+loop-holds c = (refl, search needs, refl, refl)
+
+first-due-requires : tie.Need-first-due-requires Inv-loop μ-loop
+first-due-requires c κs = c .before .before .before .pre
+
+mul-due : tie.Need-mul-due Inv-loop μ-loop
+mul-due c = search needs
+
+array-write-due : tie.Need-array-write-due Inv-loop μ-loop
+array-write-due c = search needs
+
+add-i : tie.Need-add-i Inv-loop μ-loop
+add-i c = search needs
+
+loop-less : tie.Need-loop-less Inv-loop μ-loop
+loop-less c = search needs
+
+loop-again : tie.Need-loop-again Inv-loop μ-loop
+loop-again c = let l = c .before .before .loop in (fill-more _ 64 _ _ refl _ _ (l .inv .0) (c .before .loop-test .taken) (c .first-due .ensures), search needs, length-set (l .due) _ _ ∙ l .inv .2, refl)
+
+returns : tie.Need-returns Inv-loop μ-loop
+returns c = fill-all _ 64 _ _ refl _ (c .before .loop .inv .0) (c .before .loop .inv .1) (c .loop-test .left)
+
+pub first-dues-spec : {M : Type 1} → statement M
+first-dues-spec =
+    tie.close
+    (tie.spec
+    Inv-loop
+    μ-loop
+    loop-holds
+    first-due-requires
+    mul-due
+    array-write-due
+    add-i
+    loop-less
+    loop-again
+    returns)
