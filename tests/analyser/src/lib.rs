@@ -2,6 +2,7 @@
 
 pub mod before;
 pub mod bounds;
+pub mod bus;
 pub mod cases;
 #[cfg(test)]
 mod examples;
@@ -20,8 +21,13 @@ mod lengths_examples;
 pub mod listing;
 pub mod literal;
 pub mod literal_bus;
+pub mod literal_log;
 pub mod literal_table;
 pub mod load_sheet;
+pub mod log;
+pub mod log_check;
+pub mod log_damage;
+pub mod log_self_check;
 pub mod random;
 pub mod self_check;
 pub mod simulator;

@@ -2,7 +2,7 @@
 
 use analyser::{
     cases, frame_length, frame_length_cases, judge_cases, judgement, lengths, listing, load_sheet,
-    self_check, table_cases,
+    log_check, self_check, table_cases,
 };
 use std::io::{self, Read, Write};
 use std::process::ExitCode;
@@ -13,6 +13,7 @@ const USAGE: &str = "usage:
   analyser judge ROW < lengths and table
   analyser precise ROW < lengths and table
   analyser frame-length KIND IDENTIFIER HEX
+  analyser check-log LOGFILE < lengths and table
   analyser self-check SEED COUNT
   analyser table-cases stdin|stdout
   analyser judge-cases stdin|stdout
@@ -51,6 +52,9 @@ fn run(words: &[&str]) -> io::Result<bool> {
         ["frame-length", kind, identifier, hex] => {
             let line = frame_length::line(kind, identifier, hex);
             print(line.ok_or_else(|| io::Error::other(USAGE))?.as_bytes())
+        }
+        ["check-log", file] => {
+            print(log_check::check_log(&input()?, &std::fs::read(file)?).as_bytes())
         }
         ["self-check", seed, count] => Ok(self_check::self_check(number(seed)?, number(count)?)),
         ["table-cases", "stdin"] => print(&cases::stdin(&table_cases::all())),

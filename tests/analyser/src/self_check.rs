@@ -1,11 +1,12 @@
 //! Small random tables through the fast, the pruned and the tick-by-tick path; files of lengths
-//! through two readers; and damaged tables through the checks and a list of all that is wrong.
+//! through two readers; damaged tables through the checks and a list of all that is wrong; and logs.
 
 use crate::bounds::View;
 use crate::judgement::{judge_row, Limits};
 use crate::lengths::{self, LengthTable, STANDARD};
 use crate::literal;
 use crate::literal_table::{faults_of_file, faults_of_words, refusal};
+use crate::log_self_check;
 use crate::random::{clustered, dense, own_lengths, set_claim, stretched, Random};
 use crate::table::{
     self, Refusal, Row, FIELDS, GROUP, GROUPS, IDENTIFIER, NODE, OFFSET, PAYLOAD, PERIOD,
@@ -56,7 +57,9 @@ pub fn self_check(seed: u64, count: u64) -> bool {
         compare_checks(&mut random, rows, &mut tally);
     }
     tally.print();
-    tally.differences == 0
+    let logs = log_self_check::self_check(seed, 2 * count);
+    logs.print();
+    tally.differences + logs.differences == 0
 }
 
 fn small_table(random: &mut Random, lengths: &LengthTable) -> Vec<Row> {
