@@ -3,6 +3,7 @@
 pub mod before;
 pub mod bounds;
 pub mod bus;
+pub mod busiest;
 pub mod cases;
 #[cfg(test)]
 mod examples;
@@ -28,7 +29,9 @@ pub mod log;
 pub mod log_check;
 pub mod log_damage;
 pub mod log_self_check;
+pub mod million;
 pub mod random;
+pub mod replay;
 pub mod self_check;
 pub mod simulator;
 pub mod table;

@@ -117,3 +117,63 @@ fn is_schedule(
     };
     list.len() == lines.len() && list.iter().zip(lines).all(same)
 }
+
+/// The most busy ticks of a stretch, and the first tick of the first that has so many: every tick of
+/// every stretch is looked at.
+pub fn busiest(lines: &[Line], width: u64) -> (u64, u64) {
+    let until = lines.last().map_or(0, |line| line[0] + line[4]);
+    let is_busy = |tick: u64| lines.iter().any(|line| line[0] <= tick && tick < line[0] + line[4]);
+    let busy: Vec<bool> = (0..until).map(is_busy).collect();
+    let mut found = (0, 0);
+    for first in (0..=until - width).rev() {
+        let stretch = &busy[first as usize..(first + width) as usize];
+        let count = stretch.iter().filter(|busy| **busy).count() as u64;
+        if count >= found.0 {
+            found = (count, first);
+        }
+    }
+    found
+}
+
+/// The lines of a sheet behind its first one, each row's transmissions gathered by themselves.
+pub fn responses(rows: &[Row], lines: &[Line]) -> String {
+    let mut sheet = String::new();
+    for row in rows {
+        let of_row = lines.iter().filter(|line| is_of(row, line));
+        let mut responses: Vec<u64> = of_row.map(|line| line[0] + line[4] - line[3]).collect();
+        responses.sort_unstable();
+        let greatest = responses.last().unwrap_or(&0);
+        let sum: u64 = responses.iter().sum();
+        sheet += &format!("{:>10}{:>5}{greatest:>11}{sum:>15}\n", row[2], responses.len());
+    }
+    sheet
+}
+
+/// The log that a seed gives, of all transmissions that start before a tick: the generator by
+/// arithmetic of 32 bits, hyperperiods by trying, and the bus rule tick by tick.
+pub fn simulated(lengths: &LengthTable, rows: &[Row], seed: u32, until: u64) -> Vec<Line> {
+    let mut held = seed;
+    let mut draw = move || {
+        held ^= held << 13;
+        held ^= held >> 17;
+        held ^= held << 5;
+        u64::from(held)
+    };
+    let mut starts = [0; 16];
+    for group in groups(rows) {
+        let of_group = || rows.iter().filter(|row| row[1] as usize == group);
+        let is_common = |ticks: &u64| of_group().all(|row| ticks % u64::from(row[5]) == 0);
+        starts[group - 1] = draw() % (1..).find(is_common).expect("a hyperperiod");
+    }
+    let mut length = |row: &Row| {
+        let largest = lengths[usize::from(row[3] == 29)][row[4] as usize];
+        1 + draw() % u64::from(largest)
+    };
+    let list = literal_bus::schedule(rows, &starts, until, &mut length);
+    let line = |sent: Transmission| {
+        let [_, group, identifier, kind, _, period, offset, _] = rows[sent.row].map(u64::from);
+        let queued = starts[group as usize - 1] + offset + sent.instance * period;
+        [sent.start, identifier, kind, queued, sent.length]
+    };
+    list.into_iter().map(line).collect()
+}

@@ -1,8 +1,8 @@
 //! The analyser's commands.
 
 use analyser::{
-    cases, frame_length, frame_length_cases, judge_cases, judgement, lengths, listing, load_sheet,
-    log_check, self_check, table_cases,
+    busiest, cases, frame_length, frame_length_cases, judge_cases, judgement, lengths, listing,
+    load_sheet, log_check, million, replay, self_check, table_cases,
 };
 use std::io::{self, Read, Write};
 use std::process::ExitCode;
@@ -14,6 +14,9 @@ const USAGE: &str = "usage:
   analyser precise ROW < lengths and table
   analyser frame-length KIND IDENTIFIER HEX
   analyser check-log LOGFILE < lengths and table
+  analyser busiest LOGFILE WIDTH < lengths and table
+  analyser simulate SEED LINES < lengths and table
+  analyser million
   analyser self-check SEED COUNT
   analyser table-cases stdin|stdout
   analyser judge-cases stdin|stdout
@@ -56,6 +59,14 @@ fn run(words: &[&str]) -> io::Result<bool> {
         ["check-log", file] => {
             print(log_check::check_log(&input()?, &std::fs::read(file)?).as_bytes())
         }
+        ["busiest", file, width] => {
+            let (input, log) = (input()?, std::fs::read(file)?);
+            print(busiest::busiest(&input, &log, number(width)?).as_bytes())
+        }
+        ["simulate", seed, lines] => {
+            print(&replay::simulate(&input()?, number(seed)?, number(lines)?))
+        }
+        ["million"] => print(format!("{:016x}\n", million::own_fingerprint()).as_bytes()),
         ["self-check", seed, count] => Ok(self_check::self_check(number(seed)?, number(count)?)),
         ["table-cases", "stdin"] => print(&cases::stdin(&table_cases::all())),
         ["table-cases", "stdout"] => print(&cases::stdout(&table_cases::all())),
