@@ -2,7 +2,7 @@
 
 use analyser::{
     busiest, cases, frame_length, frame_length_cases, judge_cases, judgement, lengths, listing,
-    load_sheet, log_check, million, replay, self_check, table_cases,
+    load_sheet, log_cases, log_check, million, replay, self_check, table_cases,
 };
 use std::io::{self, Read, Write};
 use std::process::ExitCode;
@@ -20,7 +20,8 @@ const USAGE: &str = "usage:
   analyser self-check SEED COUNT
   analyser table-cases stdin|stdout
   analyser judge-cases stdin|stdout
-  analyser frame-length-cases stdin|stdout";
+  analyser frame-length-cases stdin|stdout
+  analyser log-cases stdin|stdout";
 
 fn main() -> ExitCode {
     let words: Vec<String> = std::env::args().skip(1).collect();
@@ -78,6 +79,8 @@ fn run(words: &[&str]) -> io::Result<bool> {
         ["frame-length-cases", "stdout"] => {
             print(&frame_length_cases::stdout(&frame_length_cases::all()))
         }
+        ["log-cases", "stdin"] => print(&log_cases::stdin(&log_cases::all())),
+        ["log-cases", "stdout"] => print(&log_cases::stdout(&log_cases::all())),
         _ => Err(io::Error::other(USAGE)),
     }
 }
