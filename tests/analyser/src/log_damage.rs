@@ -144,11 +144,19 @@ fn turn(random: &mut Random, _: Of, lines: &mut Vec<Line>) {
     lines[at..at + 2].copy_from_slice(&[first, second]);
 }
 
-/// The queueings of a group earlier or later: with an earlier start it may have waited before.
+/// The queueings of a group earlier or later; mostly so much earlier that its first line was queued when
+/// or just before an earlier line started, which then may be wrong.
 fn shift_group(random: &mut Random, of: Of, lines: &mut Vec<Line>) {
     let group = group_of(of, &random.pick(lines));
-    let ticks = random.pick(&[1, 2, 5, 20, 60, 200, 1000]);
-    let earlier = random.percent(75);
+    let first = lines.iter().position(|line| group_of(of, line) == group).unwrap_or(0);
+    let mut ticks = random.pick(&[1, 2, 5, 20, 60, 200, 1000]);
+    let mut earlier = random.percent(70);
+    if first > 0 && random.percent(60) {
+        let before = lines[random.below(first as u64) as usize][START];
+        let wanted = before.saturating_sub(random.pick(&[0, 0, 1, 2]));
+        ticks = lines[first][QUEUEING].saturating_sub(wanted);
+        earlier = true;
+    }
     for line in lines.iter_mut().filter(|line| group_of(of, line) == group) {
         let queueing = &mut line[QUEUEING];
         *queueing = if earlier { queueing.saturating_sub(ticks) } else { *queueing + ticks };

@@ -203,7 +203,7 @@ fn written(size: Result<usize, Refusal>) -> i64 {
 }
 
 /// Puts a result into the area: how many elements it has; an area too short comes last.
-fn copied<T: Copy>(result: Result<Vec<T>, Refusal>, area: &mut [T]) -> i64 {
+pub fn copied<T: Copy>(result: Result<Vec<T>, Refusal>, area: &mut [T]) -> i64 {
     written(result.and_then(|result| copy_into(&result, area).map(|()| result.len())))
 }
 
@@ -248,7 +248,7 @@ fn with_area<L: Element, I: Element, O: Element>(
     Ok(answer)
 }
 
-fn same_answer(answer: i64, wanted: i64) -> Result<(), String> {
+pub fn same_answer(answer: i64, wanted: i64) -> Result<(), String> {
     if answer == wanted {
         Ok(())
     } else {
@@ -256,7 +256,7 @@ fn same_answer(answer: i64, wanted: i64) -> Result<(), String> {
     }
 }
 
-fn unchanged<T: Element>(name: &str, lent: &Lent<T>) -> Result<(), String> {
+pub fn unchanged<T: Element>(name: &str, lent: &Lent<T>) -> Result<(), String> {
     if lent.is_unchanged() {
         Ok(())
     } else if lent.guards_hold() {
@@ -266,7 +266,7 @@ fn unchanged<T: Element>(name: &str, lent: &Lent<T>) -> Result<(), String> {
     }
 }
 
-fn same_area<T: Element>(found: &[T], wanted: &[T]) -> Result<(), String> {
+pub fn same_area<T: Element>(found: &[T], wanted: &[T]) -> Result<(), String> {
     let Some(at) = (0..wanted.len()).find(|at| found[*at] != wanted[*at]) else {
         return Ok(());
     };

@@ -234,7 +234,7 @@ fn row_number(random: &mut Random, row: u64, lines: u64) -> u64 {
 }
 
 /// Mostly at least what is needed; otherwise one short, none or anything below.
-fn area(random: &mut Random, need: usize) -> usize {
+pub fn area(random: &mut Random, need: usize) -> usize {
     match random.below(10) {
         0 => 0,
         1 => need.saturating_sub(1),

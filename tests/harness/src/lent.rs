@@ -2,7 +2,7 @@
 
 use analyser::random::Random;
 
-/// What can be lent: bytes and words.
+/// What can be lent: bytes, words and long words.
 pub trait Element: Copy + PartialEq + Into<u64> {
     fn any(random: &mut Random) -> Self;
 }
@@ -16,6 +16,12 @@ impl Element for u8 {
 impl Element for u32 {
     fn any(random: &mut Random) -> u32 {
         random.word() as u32
+    }
+}
+
+impl Element for u64 {
+    fn any(random: &mut Random) -> u64 {
+        random.word()
     }
 }
 

@@ -33,6 +33,37 @@ extern "C" {
         out: *mut u8,
         out_len: usize,
     ) -> i64;
+    fn certifier_check_log(
+        lengths: *const u8,
+        lengths_len: usize,
+        table: *const u8,
+        len: usize,
+        log: *const u8,
+        log_len: usize,
+        starts: *mut u64,
+        starts_len: usize,
+    ) -> i64;
+    fn certifier_busiest(
+        lengths: *const u8,
+        lengths_len: usize,
+        table: *const u8,
+        len: usize,
+        log: *const u8,
+        log_len: usize,
+        width: u64,
+        out: *mut u8,
+        out_len: usize,
+    ) -> i64;
+    fn certifier_simulate(
+        lengths: *const u8,
+        lengths_len: usize,
+        table: *const u8,
+        len: usize,
+        seed: u32,
+        lines: u64,
+        out: *mut u8,
+        out_len: usize,
+    ) -> i64;
     fn certifier_frame_length(kind: u32, identifier: u32, payload: *const u8, len: usize) -> i64;
     fn test_read(file: *const u8, len: usize, rows: *mut u32, rows_len: usize) -> i64;
     fn test_check(rows: *const u32, rows_len: usize) -> i64;
@@ -82,6 +113,33 @@ pub fn load_sheet(lengths: &mut Lent<u8>, file: &mut Lent<u8>, out: &mut Lent<u8
     let [(loaded, size), (table, len)] = [area_or_null(lengths), area_or_null(file)];
     let (area, room) = area_or_null(out);
     unsafe { certifier_load_sheet(loaded, size, table, len, area, room) }
+}
+
+/// The files that a call about a log is given.
+pub struct Files {
+    pub lengths: Lent<u8>,
+    pub table: Lent<u8>,
+    pub log: Lent<u8>,
+}
+
+pub fn check_log(files: &mut Files, starts: &mut Lent<u64>) -> i64 {
+    let (loaded, size) = area_or_null(&mut files.lengths);
+    let [(table, len), (log, log_len)] = [&mut files.table, &mut files.log].map(area_or_null);
+    let (area, room) = area_or_null(starts);
+    unsafe { certifier_check_log(loaded, size, table, len, log, log_len, area, room) }
+}
+
+pub fn busiest(files: &mut Files, width: u64, out: &mut Lent<u8>) -> i64 {
+    let (loaded, size) = area_or_null(&mut files.lengths);
+    let [(table, len), (log, log_len)] = [&mut files.table, &mut files.log].map(area_or_null);
+    let (area, room) = area_or_null(out);
+    unsafe { certifier_busiest(loaded, size, table, len, log, log_len, width, area, room) }
+}
+
+pub fn simulate(files: &mut Files, seed: u32, lines: u64, out: &mut Lent<u8>) -> i64 {
+    let [(loaded, size), (table, len)] = [&mut files.lengths, &mut files.table].map(area_or_null);
+    let (area, room) = area_or_null(out);
+    unsafe { certifier_simulate(loaded, size, table, len, seed, lines, area, room) }
 }
 
 pub fn frame_length(kind: u32, identifier: u32, payload: &mut Lent<u8>) -> i64 {

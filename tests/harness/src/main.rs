@@ -14,6 +14,10 @@ mod lengths;
 mod lent;
 mod library;
 mod limits;
+mod log_call;
+mod log_inputs;
+mod log_tally;
+mod logs;
 mod orders;
 mod repeats;
 mod runs;
@@ -35,6 +39,8 @@ const USAGE: &str = "usage:
   harness replay-before SEED NUMBER [--save FILE]
   harness simulate SEED COUNT
   harness frame-lengths SEED COUNT
+  harness logs SEED COUNT [--save FILE]
+  harness replay-logs SEED NUMBER [--save FILE]
   harness bench
   harness repeats
   harness slow SEED MINUTES [--save FILE]
@@ -70,6 +76,10 @@ fn run(words: &[&str]) -> io::Result<bool> {
         }
         ["simulate", seed, count] => Ok(simulate::simulate(number(seed)?, number(count)?)),
         ["frame-lengths", seed, count] => Ok(frame_lengths::run(number(seed)?, number(count)?)),
+        ["logs", seed, count, rest @ ..] => logs::run(number(seed)?, number(count)?, save(rest)?),
+        ["replay-logs", seed, input, rest @ ..] => {
+            logs::replay(number(seed)?, number(input)?, save(rest)?)
+        }
         ["bench"] => bench::bench(),
         ["repeats"] => Ok(repeats::repeats()),
         ["slow", seed, minutes, rest @ ..] => {
