@@ -36,6 +36,9 @@ pub const DAMAGES: [(&str, Damage); 15] = [
     ("length and later starts", stretch_line),
 ];
 
+/// The way in which a group's queueings are shifted.
+pub const GROUP_SHIFTED: usize = 10;
+
 /// Damages a log in one way.
 pub fn damage(random: &mut Random, of: Of, lines: &mut Vec<Line>, way: usize) {
     if lines.is_empty() {
@@ -144,19 +147,33 @@ fn turn(random: &mut Random, _: Of, lines: &mut Vec<Line>) {
     lines[at..at + 2].copy_from_slice(&[first, second]);
 }
 
-/// The queueings of a group earlier or later; mostly so much earlier that its first line was queued when
-/// or just before an earlier line started, which then may be wrong.
+/// The queueings of a group earlier or later. Mostly it is so much earlier that its first line was queued
+/// when an earlier line started, or just before: that one may then be wrong, though the first line itself,
+/// which starts where another ends, is not.
 fn shift_group(random: &mut Random, of: Of, lines: &mut Vec<Line>) {
-    let group = group_of(of, &random.pick(lines));
-    let first = lines.iter().position(|line| group_of(of, line) == group).unwrap_or(0);
-    let mut ticks = random.pick(&[1, 2, 5, 20, 60, 200, 1000]);
-    let mut earlier = random.percent(70);
-    if first > 0 && random.percent(60) {
-        let before = lines[random.below(first as u64) as usize][START];
-        let wanted = before.saturating_sub(random.pick(&[0, 0, 1, 2]));
-        ticks = lines[first][QUEUEING].saturating_sub(wanted);
-        earlier = true;
+    let waited = |at: &usize| {
+        let is_of = |line: &Line| group_of(of, line) == group_of(of, &lines[*at]);
+        lines[*at][START] == end(&lines[at - 1]) && !lines[..*at].iter().any(is_of)
+    };
+    let firsts: Vec<usize> = (1..lines.len()).filter(waited).collect();
+    if firsts.is_empty() || random.percent(25) {
+        let group = group_of(of, &random.pick(lines));
+        return move_group(random, of, lines, group);
     }
+    let first = random.pick(&firsts);
+    let before = lines[random.below(first as u64) as usize][START];
+    let wanted = before.saturating_sub(random.pick(&[0, 0, 1, 2]));
+    let ticks = lines[first][QUEUEING].saturating_sub(wanted);
+    let group = group_of(of, &lines[first]);
+    for line in lines.iter_mut().filter(|line| group_of(of, line) == group) {
+        line[QUEUEING] = line[QUEUEING].saturating_sub(ticks);
+    }
+}
+
+/// All queueings of a group earlier or later.
+fn move_group(random: &mut Random, of: Of, lines: &mut [Line], group: Option<u32>) {
+    let ticks = random.pick(&[1, 2, 5, 20, 60, 200, 1000]);
+    let earlier = random.percent(75);
     for line in lines.iter_mut().filter(|line| group_of(of, line) == group) {
         let queueing = &mut line[QUEUEING];
         *queueing = if earlier { queueing.saturating_sub(ticks) } else { *queueing + ticks };

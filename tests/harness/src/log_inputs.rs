@@ -9,10 +9,12 @@ use analyser::lengths::{length, LengthTable};
 use analyser::log::{
     self, end, last_end, Line, FIELDS, LAST_TICK, LINE, MOST_LINES, START, WIDTHS,
 };
-use analyser::log_damage::{self, Of, DAMAGES};
+use analyser::log_damage::{self, Of, DAMAGES, GROUP_SHIFTED};
 use analyser::random::{clustered, dense, stretched, Random};
 use analyser::simulator::Starts;
-use analyser::table::{self, group_hyperperiod, Row, GROUP, OFFSET, PAYLOAD, PERIOD};
+use analyser::table::{
+    self, group_hyperperiod, Row, GROUP, IDENTIFIER, KIND, OFFSET, PAYLOAD, PERIOD,
+};
 
 /// What a log is, beside the damages to its values.
 pub const AS_SIMULATED: usize = DAMAGES.len();
@@ -42,6 +44,7 @@ pub fn draw(random: &mut Random) -> (LogCall, usize) {
         30..=35 => OTHER_TABLE,
         36..=47 => NOTATION,
         48..=53 => SIZE,
+        54..=65 => GROUP_SHIFTED,
         _ => random.below(DAMAGES.len() as u64) as usize,
     };
     let of = Of { lengths: &lengths, rows: &rows };
@@ -79,7 +82,7 @@ fn need(task: Task, rows: usize) -> usize {
 fn in_front(random: &mut Random, lengths: &LengthTable, mut rows: Vec<Row>) -> (Vec<u8>, Vec<u8>) {
     let in_lengths = if random.percent(6) { random.between(1, 2) } else { 0 };
     let given = Given::damaged(random, lengths, in_lengths);
-    let in_table = if random.percent(12) { random.between(1, 3) } else { 0 };
+    let in_table = if random.percent(18) { random.between(1, 3) } else { 0 };
     let in_rows = random.below(in_table + 1);
     (0..in_rows).for_each(|_| damage::damage_rows(random, &mut rows));
     let mut table = damage::file_of(&rows);
@@ -92,16 +95,28 @@ fn some_table(random: &mut Random, lengths: &LengthTable) -> Vec<Row> {
     loop {
         let groups = random.pick(&[1, 2, 2, 3, 4, 6, 16]);
         let most = random.pick(&[1, 2, 4]);
-        let rows = match random.below(10) {
+        let mut rows = match random.below(10) {
             0..=4 => clustered(random, lengths, groups, most, (40, 300)),
             5..=6 => dense(random, lengths, 8),
             7 => stretched(random, groups, 6, 250),
             8 => stretched(random, groups, 6, 5000),
             _ => stretched(random, groups.min(3), 9, 1),
         };
+        if random.percent(20) {
+            share_identifier(random, &mut rows);
+        }
         if table::check(&rows.concat()).is_ok() {
             return rows;
         }
+    }
+}
+
+/// Gives a long frame the identifier of a short one.
+fn share_identifier(random: &mut Random, rows: &mut [Row]) {
+    let of_kind = |kind| (0..rows.len()).filter(|at| rows[*at][KIND] == kind).collect();
+    let [short, long]: [Vec<usize>; 2] = [11, 29].map(of_kind);
+    if !short.is_empty() && !long.is_empty() {
+        rows[random.pick(&long)][IDENTIFIER] = rows[random.pick(&short)][IDENTIFIER];
     }
 }
 

@@ -17,7 +17,7 @@ use std::io;
 use std::panic::catch_unwind;
 
 /// A run of so many inputs must come to every outcome.
-const ENOUGH: u64 = 3000;
+const ENOUGH: u64 = 10_000;
 
 /// So many differences are printed.
 const MOST_PRINTED: u64 = 10;
