@@ -38,29 +38,12 @@ pub fn name(shape: usize) -> &'static str {
 pub fn draw(random: &mut Random) -> (LogCall, usize) {
     let lengths = lengths::draw(random);
     let mut rows = some_table(random, &lengths);
-    let mut lines = some_log(random, &lengths, &rows);
-    let shape = match random.below(100) {
-        0..=29 => AS_SIMULATED,
-        30..=35 => OTHER_TABLE,
-        36..=47 => NOTATION,
-        48..=53 => SIZE,
-        54..=65 => GROUP_SHIFTED,
-        _ => random.below(DAMAGES.len() as u64) as usize,
-    };
-    let of = Of { lengths: &lengths, rows: &rows };
-    if shape < DAMAGES.len() {
-        log_damage::damage(random, of, &mut lines, shape);
-    }
-    if random.percent(6) {
-        let way = random.below(DAMAGES.len() as u64) as usize;
-        log_damage::damage(random, of, &mut lines, way);
-    }
-    if shape == OTHER_TABLE {
-        change_table(random, &mut rows);
-    }
+    let shape = some_shape(random);
+    let lines = shaped_log(random, Of { lengths: &lengths, rows: &rows }, shape);
     let task = task(random, &lines);
     let mut log = log::file_of(&lines);
     match shape {
+        OTHER_TABLE => change_table(random, &mut rows),
         NOTATION => (0..random.between(1, 2)).for_each(|_| break_notation(random, &mut log)),
         SIZE => change_size(random, &mut log),
         _ => (),
@@ -68,6 +51,30 @@ pub fn draw(random: &mut Random) -> (LogCall, usize) {
     let size = area(random, need(task, rows.len()));
     let (lengths, table) = in_front(random, &lengths, rows);
     (LogCall { lengths, table, log, task, size }, shape)
+}
+
+fn some_shape(random: &mut Random) -> usize {
+    match random.below(100) {
+        0..=29 => AS_SIMULATED,
+        30..=35 => OTHER_TABLE,
+        36..=47 => NOTATION,
+        48..=53 => SIZE,
+        54..=65 => GROUP_SHIFTED,
+        _ => random.below(DAMAGES.len() as u64) as usize,
+    }
+}
+
+/// A log with the values of its shape; now and then they are damaged in one more way.
+fn shaped_log(random: &mut Random, of: Of, shape: usize) -> Vec<Line> {
+    let mut lines = some_log(random, of.lengths, of.rows);
+    if shape < DAMAGES.len() {
+        log_damage::damage(random, of, &mut lines, shape);
+    }
+    if random.percent(6) {
+        let way = random.below(DAMAGES.len() as u64) as usize;
+        log_damage::damage(random, of, &mut lines, way);
+    }
+    lines
 }
 
 fn need(task: Task, rows: usize) -> usize {

@@ -7,12 +7,12 @@ use crate::library::{self, Files};
 use crate::log_call::{Left, LogCall, Task, FIRST, SEEN, STARTS};
 use crate::log_inputs::{draw, width};
 use crate::log_tally::LogTally;
-use analyser::log::{self, last_end, LINE};
+use analyser::log::{self, last_end, Line, LINE};
 use analyser::log_check::row_of;
 use analyser::million;
 use analyser::random::Random;
 use analyser::replay::{draw_starts, Generator};
-use analyser::table::{self, GROUP};
+use analyser::table::{self, Row, GROUP};
 use std::io;
 use std::panic::catch_unwind;
 
@@ -105,8 +105,8 @@ fn compare(random: &mut Random, call: &LogCall) -> Result<i64, String> {
     Ok(answer)
 }
 
-/// A simulated log is accepted, with the starts that were drawn where a group has a line; and it has
-/// its stretches.
+/// A simulated log is accepted, with the starts that were drawn where a group has a line; and it has its
+/// stretches, the whole of which is busy for the sum of its lengths.
 fn check_simulated(
     random: &mut Random,
     call: &LogCall,
@@ -115,40 +115,37 @@ fn check_simulated(
 ) -> Result<(), String> {
     let rows = table::parse(&call.table).expect("an accepted table");
     let lines = log::parse(&log).expect("a log in its notation");
-    let again = |task, size, log: &[u8]| LogCall {
-        lengths: call.lengths.clone(),
-        table: call.table.clone(),
-        log: log.to_vec(),
-        task,
-        size,
-    };
-    let (answer, Left::Starts(starts)) = again(Task::Check, STARTS, &log).compare(random)? else {
-        return Err("no starts".into());
-    };
-    if answer != STARTS as i64 {
-        return Err(format!("the simulated log is answered by {answer}"));
+    let (lengths, table) = (call.lengths.clone(), call.table.clone());
+    let mut asked = LogCall { lengths, table, log, task: Task::Check, size: STARTS };
+    let accepted = asked.compare(random)?;
+    if !matches!(accepted, (16, Left::Starts(starts)) if starts == shown(&rows, &lines, seed)) {
+        return Err("the simulated log is not shown with the starts drawn".into());
     }
-    let drawn = draw_starts(&rows, &mut Generator::new(seed));
-    for (at, group) in (0..STARTS).zip(1..) {
-        let is_of = |row: usize| rows[row][GROUP] == group;
-        let has_line = lines.iter().any(|line| row_of(&rows, line).is_some_and(is_of));
-        let wanted = if has_line { drawn[at] } else { last_end(&lines) };
-        if starts[at] != wanted {
-            return Err(format!("group {group} of the simulated log starts at {wanted}"));
-        }
-    }
-    let width = width(random, &lines);
-    again(Task::Busiest(width), FIRST + SEEN * rows.len(), &log).compare(random)?;
-    let whole = again(Task::Busiest(last_end(&lines)), FIRST + SEEN * rows.len(), &log);
-    let (_, Left::Bytes(sheet)) = whole.compare(random)? else {
-        return Err("no sheet".into());
-    };
+    asked.size = FIRST + SEEN * rows.len();
+    asked.task = Task::Busiest(width(random, &lines));
+    asked.compare(random)?;
+    asked.task = Task::Busiest(last_end(&lines));
     let busy: u64 = lines.iter().map(|line| line[log::LENGTH]).sum();
     let first = format!("{busy:>11}{:>11}\n", 0);
-    if !sheet.starts_with(first.as_bytes()) {
-        return Err("the busy ticks of the whole log are not the sum of its lengths".into());
+    match asked.compare(random)? {
+        (_, Left::Bytes(sheet)) if sheet.starts_with(first.as_bytes()) => Ok(()),
+        _ => Err("the busy ticks of the whole log are not the sum of its lengths".into()),
     }
-    Ok(())
+}
+
+/// The starts that a seed draws, and for each group without a line the last end.
+fn shown(rows: &[Row], lines: &[Line], seed: u32) -> Vec<u64> {
+    let drawn = draw_starts(rows, &mut Generator::new(seed));
+    let start = |(group, drawn): (u32, u64)| {
+        let is_of = |row: usize| rows[row][GROUP] == group;
+        let has_line = lines.iter().any(|line| row_of(rows, line).is_some_and(is_of));
+        if has_line {
+            drawn
+        } else {
+            last_end(lines)
+        }
+    };
+    (1..).zip(drawn).map(start).collect()
 }
 
 /// The logs of a million draws have the fingerprint that is stored.
