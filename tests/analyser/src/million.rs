@@ -26,10 +26,10 @@ pub const ROWS: [Row; 8] = [
     [12, 11, 6 << 18, 29, 8, 2331, 2331, 500],
 ];
 
-/// The 64-bit FNV-1a of the logs' bytes, one log behind the other. It came from a program in C that
-/// shares nothing with this analyser: 32-bit words for the generator, hyperperiods worked out by hand
-/// (1000, 100000, 2331 and 900), and one tick after the other over a list of waiting instances. This
-/// analyser gives the same.
+/// The 64-bit FNV-1a of the logs' bytes, one log behind the other. It was computed by this analyser, and
+/// once more by a program in C, written for this and not kept, that shares nothing with it: 32-bit words
+/// for the generator, hyperperiods worked out by hand (1000, 100000, 2331 and 900), and one tick after
+/// the other over a list of waiting instances.
 pub const FINGERPRINT: u64 = 0x16c3_42e6_dba7_8df6;
 
 /// Fowler, Noll and Vo's fingerprint of bytes.
