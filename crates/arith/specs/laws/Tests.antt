@@ -2,9 +2,9 @@
 -- `cond` is the library's choice by a test, its first value where the test passes.
 use Prim.Native.Nat.{ℕ, _≤_}
 use mathlib.Core.Path.{_≡_, refl}
-use mathlib.Core.Bool.{Bool, true, false, cond, _&&_}
+use mathlib.Core.Bool.{Bool, true, false, not, cond, _&&_}
 use native.Mathlib.Omega.{arith}
-use lib.Dec.{T}
+use lib.Dec.{T, eqb, eqb-refl, eqb→eq}
 
 -- A case for each answer of a test.
 pub by-test {ℓ} : {A : Type ℓ} (t : Bool) → (t ≡ true → A) → (t ≡ false → A) → A
@@ -48,3 +48,21 @@ pub cond-le : (b c : Bool) (m n : ℕ) → (T b → T c × (m ≤ n)) → cond b
 cond-le true true m n h = h tt .1
 cond-le true false m n h = absurd (h tt .0)
 cond-le false c m n h = omega arith
+
+-- ---- tests of numbers
+
+-- A number that is not another passes the test for that,
+pub differs : (i j : ℕ) → ¬ (i ≡ j) → T (not (eqb i j))
+differs i j other = go (eqb i j) refl
+  where
+    go : (b : Bool) → eqb i j ≡ b → T (not b)
+    go true e = absurd (other (eqb→eq i j (rw e tt)))
+    go false e = tt
+
+-- and fails it for itself.
+pub itself : (j : ℕ) → not (eqb j j) ≡ false
+itself j = go (eqb j j) (eqb-refl j)
+  where
+    go : (b : Bool) → T b → not b ≡ false
+    go true t = refl
+    go false t = absurd t

@@ -1,6 +1,5 @@
 -- The bounds found group by group: one group after the other takes each of its alignments, and the greatest response counts.
--- A branch may be left out where its scenario with the open groups at `Any` has no greater response than one already found, or where
--- none has in which one of these groups takes an alignment.
+-- A branch may be left out where its scenario with the open groups at `Any` has no greater response than one already found.
 use Prim.Native.Nat.{ℕ, zero, suc, _+_, _-_, _≤_, _<_}
 use mathlib.Core.Path.{_≡_, refl, sym, ap, _∙_}
 use mathlib.Core.List.{List, [], _∷_, map, List·Memᴰ as Mem, List·Memᴰ·head as here, List·Memᴰ·tail as there, List·Memᴰ·not-nil, List·Memᴰ·cases-cons, List·Memᴰ·eq-of-singleton, Memᴰ·map}
@@ -15,7 +14,7 @@ use lib.Dec.{T, ltb, eqb, eqb-refl, eqb→eq}
 use lib.ListN.{length, set, replicate, length-set, getD-replicate}
 use lib.Seq.{getD-set-same, getD-set-other, ext-getD}
 use Rattle.arith.specs.Lists.{greatest, exists, range}
-use Rattle.arith.specs.laws.Members.{exists-mem, of-exists, mem-range, of-range, of-map}
+use Rattle.arith.specs.laws.Members.{mem-range, of-range, of-map, named-mem, of-named}
 use Rattle.arith.specs.laws.Sums.{le-greatest, greatest-le}
 use Rattle.bus_model.specs.Frame.{row}
 use Rattle.bus_model.specs.Valid.{ValidFrame, Valid}
@@ -23,7 +22,7 @@ use Rattle.bus_model.specs.Bounds.{groups, alignments, orEmpty, choiceOf
 use Rattle.bus_model.specs.theory.Frames.{group-listed}
 use Rattle.bus_model.specs.theory.Work.{Allows, RefinedBy}
 use Rattle.bus_model.specs.theory.Response.{response-refine}
-use Rattle.bus_model.specs.theory.Scenarios.{scenario-is, mem-scenarios, of-scenarios, scenarios-length, fixed-choice, allows-self}
+use Rattle.bus_model.specs.theory.Scenarios.{scenario-is, scenariosOf, mem-choices, of-choices, choices-length, allows-self}
 use Rattle.arith.specs.declared.Found.the-variants.{At}
 use Rattle.bus_model.specs.declared.Frame.{Frame}
 use Rattle.bus_model.specs.declared.Choice.{Choice}
@@ -82,51 +81,38 @@ module _ (fs : List Frame) (k : Frame) where
   leaf-keeps P step [] holds e = rw e holds
   leaf-keeps P step (j ∷ js) {cs} holds (a, m, l) = leaf-keeps P step js (step j js cs a m holds) l
 
--- ---- they are the scenarios of a bound
+-- ---- they are the scenarios with one of some choices for each group
 
--- js lists the groups that `fixes` names
-pub record Names (fixes : ℕ → Bool) (js : List ℕ) : Type 0 where
+-- The choices in the lists are those of cs, but for the groups js, whose lists have each of their alignments.
+pub record Opens (fs : List Frame) (k : Frame) (lists : ℕ → List Choice) (js : List ℕ) (cs : List Choice) : Type 0 where
+  pub long : length cs ≡ groups
   pub group : (j : ℕ) → Mem j js → Mem j (range 1 groups)
-  pub named : (j : ℕ) → Mem j js → T (fixes j)
-  pub all : (j : ℕ) → Mem j (range 1 groups) → T (fixes j) → Mem j js
+  pub all : (j : ℕ) → Mem j js → lists j ≡ map Fixed (orEmpty (alignments fs k j))
+  pub rest : (i : ℕ) → Mem i (range 1 groups) → Mem i js ⊎ (lists i ≡ choiceOf cs i ∷ [])
 
--- Any groups are those that a search for them names.
-pub listed-named : (js : List ℕ) → ((j : ℕ) → Mem j js → Mem j (range 1 groups)) → Names (λ j. exists (eqb j) js) js
-listed-named js group =
-    record {
-      group = group;
-      named = λ j m. exists-mem (eqb j) m (eqb-refl j);
-      all = λ j l t. let (i, m, u) = of-exists (eqb j) js t in rw (eqb→eq j i u) m;
-    }
-
-module _ (fs : List Frame) (k : Frame) (fixes : ℕ → Bool) where
-  -- the choices of cs are those of a scenario, but for the groups js, which are still to take theirs
+module _ (fs : List Frame) (k : Frame) (lists : ℕ → List Choice) where
+  -- the choices of cs are in the lists, but for the groups js, which are still to take theirs
   record Partly (js : List ℕ) (cs : List Choice) : Type 0 where
     long : length cs ≡ groups
     group : (j : ℕ) → Mem j js → Mem j (range 1 groups)
-    named : (j : ℕ) → Mem j js → T (fixes j)
-    rest : (i : ℕ) → Mem i (range 1 groups) → Mem i js ⊎ Mem (choiceOf cs i) (choices fs k (fixes i) i)
+    all : (j : ℕ) → Mem j js → lists j ≡ map Fixed (orEmpty (alignments fs k j))
+    rest : (i : ℕ) → Mem i (range 1 groups) → Mem i js ⊎ Mem (choiceOf cs i) (lists i)
 
   -- one more group takes its alignment
   partly-more : (j : ℕ) (js : List ℕ) (cs : List Choice) (a : ℕ) → Mem a (orEmpty (alignments fs k j)) → Partly (j ∷ js) cs → Partly js (set cs (j - 1) (Fixed a))
-  unfolding choices
   partly-more j js cs a m p =
       record {
         long = length-set cs (j - 1) (Fixed a) ∙ p .long;
         group = λ i l. p .group i (there l);
-        named = λ i l. p .named i (there l);
+        all = λ i l. p .all i (there l);
         rest = λ i l. elim (ℕ-discrete i j) [
-          | yes e ↦ inr (rw (e, set-same cs (p .group j (here refl)) a (p .long)) (taken (fixes j) (p .named j (here refl))))
+          | yes e ↦ inr (rw (e, set-same cs (p .group j (here refl)) a (p .long), p .all j (here refl)) (Memᴰ·map Fixed m))
           | no other ↦ elim (p .rest i l) [
             | inl later ↦ elim (List·Memᴰ·cases-cons later) [ inl e ↦ absurd (other e) | inr n ↦ inl n ]
             | inr now ↦ inr (rw (set-other cs (p .group j (here refl)) a l other) now)
           ]
         ];
       }
-    where
-      taken : (b : Bool) → T b → Mem (Fixed a) (choices fs k b j)
-      taken true t = Memᴰ·map Fixed m
-      taken false t = absurd t
 
   -- Where two lists of choices agree but for the groups js, and the second fixes these, the first becomes the second.
   becomes : (js : List ℕ) (cs cs′ : List Choice) → length cs ≡ groups → length cs′ ≡ groups → ((j : ℕ) → Mem j js → Mem j (range 1 groups))
@@ -148,41 +134,78 @@ module _ (fs : List Frame) (k : Frame) (fixes : ℕ → Bool) where
             ]),
       )
 
-  module _ (js : List ℕ) (names : Names fixes js) where
+  module _ (js : List ℕ) (cs : List Choice) (opens : Opens fs k lists js cs) where
     -- no group has taken one yet
-    partly-none : Partly js free
-    unfolding choices
-    partly-none = record { long = refl; group = names .group; named = names .named; rest = λ i l. go i l (fixes i) refl }
-      where
-        go : (i : ℕ) → Mem i (range 1 groups) → (b : Bool) → fixes i ≡ b → Mem i js ⊎ Mem (choiceOf free i) (choices fs k b i)
-        go i l true e = inl (names .all i l (rw e tt))
-        go i l false e = let (low, high) = of-range 1 groups l in inr (here (getD-replicate groups (i - 1) Any Any (omega arith)))
+    partly-none : Partly js cs
+    partly-none =
+        record {
+          long = opens .long;
+          group = opens .group;
+          all = opens .all;
+          rest = λ i l. elim (opens .rest i l) [ inl m ↦ inl m | inr e ↦ inr (rw e (here refl)) ];
+        }
 
     -- so all have in the end
-    leaf-listed : {cs : List Choice} → Leaf fs k js free cs → Mem cs (scenarios fs k fixes)
-    leaf-listed {cs} leaf =
+    leaf-taken : {cs′ : List Choice} → Leaf fs k js cs cs′ → Mem cs′ (scenariosOf lists)
+    leaf-taken {cs′} leaf =
         let whole = leaf-keeps fs k Partly partly-more js partly-none leaf in
-        rw (scenario-is cs (whole .long)) at (mem-scenarios fs k fixes (choiceOf cs) (λ i l. elim (whole .rest i l) [ inl m ↦ absurd (List·Memᴰ·not-nil m) | inr m ↦ m ]))
+        rw (scenario-is cs′ (whole .long)) at (mem-choices lists (choiceOf cs′) (λ i l. elim (whole .rest i l) [ inl m ↦ absurd (List·Memᴰ·not-nil m) | inr m ↦ m ]))
 
     -- every scenario is one of those at the end
-    listed-leaf : {cs : List Choice} → Mem cs (scenarios fs k fixes) → Leaf fs k js free cs
-    unfolding choices
-    listed-leaf {cs} m =
-        becomes js free cs refl (scenarios-length fs k fixes m) (names .group)
-        (λ j l. fixed-choice fs k j (fixes j) (names .named j l) (of-scenarios fs k fixes m j (names .group j l)))
-        (λ i l none. go i l none (fixes i) refl (of-scenarios fs k fixes m i l))
-      where
-        go : (i : ℕ) → Mem i (range 1 groups) → ¬ Mem i js → (b : Bool) → fixes i ≡ b → Mem (choiceOf cs i) (choices fs k b i) → choiceOf free i ≡ choiceOf cs i
-        go i l none true e n = absurd (none (names .all i l (rw e tt)))
-        go i l none false e n = let (low, high) = of-range 1 groups l in getD-replicate groups (i - 1) Any Any (omega arith) ∙ sym (List·Memᴰ·eq-of-singleton n)
+    taken-leaf : {cs′ : List Choice} → Mem cs′ (scenariosOf lists) → Leaf fs k js cs cs′
+    taken-leaf {cs′} m =
+        becomes js cs cs′ (opens .long) (choices-length lists m) (opens .group)
+        (λ j l. of-map Fixed (orEmpty (alignments fs k j)) (rw (opens .all j l) at (of-choices lists m j (opens .group j l))))
+        (λ i l none. elim (opens .rest i l) [ inl n ↦ absurd (none n) | inr e ↦ sym (List·Memᴰ·eq-of-singleton (rw e at (of-choices lists m i l))) ])
 
-    -- Group by group the bound is found.
-    pub refined-bound : refined fs k js free ≡ boundOf fs k fixes
-    unfolding boundOf
-    refined-bound =
-        let most = refined-le fs k js free (λ cs leaf. le-greatest (scenarioResponse fs k) (leaf-listed leaf)) in
-        let least = greatest-le (scenarios fs k fixes) (λ cs m. leaf-le fs k js free cs (listed-leaf m)) in
+    -- Group by group their greatest response is found.
+    pub refined-choices : refined fs k js cs ≡ greatest (scenarioResponse fs k) (scenariosOf lists)
+    refined-choices =
+        let most = refined-le fs k js cs (λ cs′ leaf. le-greatest (scenarioResponse fs k) (leaf-taken leaf)) in
+        let least = greatest-le (scenariosOf lists) (λ cs′ m. leaf-le fs k js cs cs′ (taken-leaf m)) in
         omega arith
+
+-- ---- and the scenarios of a bound
+
+-- js lists the groups that `fixes` names
+pub record Names (fixes : ℕ → Bool) (js : List ℕ) : Type 0 where
+  pub group : (j : ℕ) → Mem j js → Mem j (range 1 groups)
+  pub named : (j : ℕ) → Mem j js → T (fixes j)
+  pub all : (j : ℕ) → Mem j (range 1 groups) → T (fixes j) → Mem j js
+
+-- Any groups are those that a search for them names.
+pub listed-named : (js : List ℕ) → ((j : ℕ) → Mem j js → Mem j (range 1 groups)) → Names (λ j. exists (eqb j) js) js
+listed-named js group = record { group = group; named = λ j m. named-mem m; all = λ j l t. of-named js t }
+
+module _ (fs : List Frame) (k : Frame) (fixes : ℕ → Bool) (js : List ℕ) (names : Names fixes js) where
+  -- Where no group is fixed, these are to take theirs.
+  named-opens : Opens fs k (λ j. choices fs k (fixes j) j) js free
+  unfolding choices
+  named-opens = record { long = refl; group = names .group; all = λ j m. taken j (fixes j) (names .named j m); rest = λ i l. go i l (fixes i) refl }
+    where
+      taken : (j : ℕ) (b : Bool) → T b → choices fs k b j ≡ map Fixed (orEmpty (alignments fs k j))
+      taken j true t = refl
+      taken j false t = absurd t
+
+      go : (i : ℕ) → Mem i (range 1 groups) → (b : Bool) → fixes i ≡ b → Mem i js ⊎ (choices fs k b i ≡ choiceOf free i ∷ [])
+      go i l true e = inl (names .all i l (rw e tt))
+      go i l false e =
+          let (low, high) = of-range 1 groups l in
+          inr (ap (λ (c : Choice). c ∷ []) (sym (getD-replicate groups (i - 1) Any Any (omega arith))))
+
+  -- The scenarios at the end are those of the bound.
+  leaf-listed : {cs : List Choice} → Leaf fs k js free cs → Mem cs (scenarios fs k fixes)
+  unfolding scenarios
+  leaf-listed = leaf-taken fs k (λ j. choices fs k (fixes j) j) js free named-opens
+
+  listed-leaf : {cs : List Choice} → Mem cs (scenarios fs k fixes) → Leaf fs k js free cs
+  unfolding scenarios
+  listed-leaf = taken-leaf fs k (λ j. choices fs k (fixes j) j) js free named-opens
+
+  -- Group by group the bound is found.
+  pub refined-bound : refined fs k js free ≡ boundOf fs k fixes
+  unfolding boundOf scenarios
+  refined-bound = refined-choices fs k (λ j. choices fs k (fixes j) j) js free named-opens
 
 -- ---- the order in which groups are fixed
 
@@ -352,12 +375,20 @@ module _ (fs : List Frame) (k : Frame) (cs cs′ : List Choice) (refines : Refin
 
   module _ {j : ℕ} (listed : Mem j (range 1 groups)) {a : ℕ} where
     -- It still does with an alignment more, of a group that cs leaves open.
-    refines-more : length cs′ ≡ groups → choiceOf cs j ≡ Any → Mem a (orEmpty (alignments fs k j)) → RefinedBy fs k cs (set cs′ (j - 1) (Fixed a))
+    pub refines-more : length cs′ ≡ groups → choiceOf cs j ≡ Any → Mem a (orEmpty (alignments fs k j)) → RefinedBy fs k cs (set cs′ (j - 1) (Fixed a))
     unfolding Allows
     refines-more long left m i l =
         elim (ℕ-discrete i j) [
           | yes e ↦ rw (e, set-same cs′ listed a long, left) m
           | no other ↦ rw (set-other cs′ listed a l other) (refines i l)
+        ]
+
+    -- Where it has that alignment, it refines cs with that alignment too.
+    pub refines-taken : length cs ≡ groups → choiceOf cs′ j ≡ Fixed a → RefinedBy fs k (set cs (j - 1) (Fixed a)) cs′
+    refines-taken long taken i l =
+        elim (ℕ-discrete i j) [
+          | yes e ↦ rw (e, set-same cs listed a long, taken) (allows-self (alignments fs k j) (Fixed a))
+          | no other ↦ rw (set-other cs listed a l other) (refines i l)
         ]
 
 -- A scenario refines itself,
@@ -368,6 +399,12 @@ refines-self fs k cs j l = allows-self (alignments fs k j) (choiceOf cs j)
 pub refines-group : (fs : List Frame) (k : Frame) (cs : List Choice) {j : ℕ} → Mem j (range 1 groups) → {a : ℕ} → length cs ≡ groups → choiceOf cs j ≡ Any
     → Mem a (orEmpty (alignments fs k j)) → RefinedBy fs k cs (set cs (j - 1) (Fixed a))
 refines-group fs k cs listed = refines-more fs k cs cs (refines-self fs k cs) listed
+
+-- The groups js are open in cs.
+pub record StillOpen (js : List ℕ) (cs : List Choice) : Type 0 where
+  pub long : length cs ≡ groups
+  pub group : (j : ℕ) → Mem j js → Mem j (range 1 groups)
+  pub left : (j : ℕ) → Mem j js → choiceOf cs j ≡ Any
 
 module _ {fs : List Frame} (valid : Valid fs) {k : ℕ} (inside : k < length fs) where
   abbrev f : Frame
@@ -395,23 +432,28 @@ module _ {fs : List Frame} (valid : Valid fs) {k : ℕ} (inside : k < length fs)
         refines = refines-more fs f cs cs′ (p .refines) (p .group j (here refl)) (p .long) (p .left j (here refl)) m;
       }
 
+  -- A scenario fixes the frame's own group and has a window; the groups js are still open.
+  module _ {js : List ℕ} {cs : List Choice} (still : StillOpen js cs) (own : (a : ℕ) × (choiceOf cs (f .group) ≡ Fixed a)) (l : ℕ) (window : busyWindow fs f cs ≡ At l) where
+    -- nothing is refined yet
+    unrefined : Finer cs js cs
+    unrefined = record { long = still .long; group = still .group; left = still .left; refines = refines-self fs f cs }
+
+    -- The branch may be left out where that has no greater response than what is found.
+    pub open-pruned : refined fs f js cs ≤ scenarioResponse fs f cs
+    open-pruned =
+        refined-le fs f js cs (λ cs′ leaf. response-below cs cs′ (leaf-keeps fs f (Finer cs) (finer-more cs) js unrefined leaf .refines) (own .1) window)
+
   -- A search has come to a level after the first, and its scenario has a window.
   module _ {i : ℕ} {cs : List Choice} (level : Level f i cs) (some : 0 < i) (stop : ℕ) (within : stop ≤ groups) (l : ℕ) (window : busyWindow fs f cs ≡ At l) where
-    self : ValidFrame f
-    self = valid .frame k inside
-
-    -- nothing is refined yet
-    unrefined : Finer cs (levels f i stop) cs
-    unrefined =
+    -- the groups of the levels left are open
+    level-open : StillOpen (levels f i stop) cs
+    level-open =
         record {
           long = level .long;
-          group = λ j m. let (n, low, high, e) = of-levels f i stop m in rw e (level-group f self n (omega arith));
+          group = λ j m. let (n, low, high, e) = of-levels f i stop m in rw e (level-group f (valid .frame k inside) n (omega arith));
           left = λ j m. let (n, low, high, e) = of-levels f i stop m in rw e (level .left n low (omega arith));
-          refines = refines-self fs f cs;
         }
 
     -- The branch may be left out where that has no greater response than what is found.
     pub pruned : refined fs f (levels f i stop) cs ≤ scenarioResponse fs f cs
-    pruned =
-        refined-le fs f (levels f i stop) cs (λ cs′ leaf.
-        response-below cs cs′ (leaf-keeps fs f (Finer cs) (finer-more cs) (levels f i stop) unrefined leaf .refines) (level .own some .1) window)
+    pruned = open-pruned level-open (level .own some) l window

@@ -9,7 +9,7 @@ use native.Mathlib.Nat.{le-trans}
 use lib.Dec.{T}
 use lib.ListN.{length, length-map, getD}
 use lib.Seq.{ext-getD}
-use Rattle.arith.specs.Lists.{range, greatest}
+use Rattle.arith.specs.Lists.{range, greatest, combinations}
 use Rattle.arith.specs.laws.Members.{of-range, getD-table, of-map, mem-combinations, of-combinations}
 use Rattle.arith.specs.laws.Sums.{le-greatest, greatest-le}
 use Rattle.arith.specs.laws.Combinations.{length-combinations, length-combination}
@@ -63,24 +63,40 @@ unfolding Allows
 allows-self als (Fixed a) = refl
 allows-self als Any = tt
 
-module _ (fs : List Frame) (k : Frame) (fixes : ℕ → Bool) where
+-- the scenarios with one of some choices for each group
+abbrev pub scenariosOf : (ℕ → List Choice) → List (List Choice)
+scenariosOf lists = combinations (map lists (range 1 groups))
+
+module _ (lists : ℕ → List Choice) where
   -- A scenario with a choice for each group is one of them.
-  pub mem-scenarios : (c : ℕ → Choice) → ((j : ℕ) → Mem j (range 1 groups) → Mem (c j) (choices fs k (fixes j) j)) → Mem (scenario c) (scenarios fs k fixes)
-  unfolding scenarios
-  mem-scenarios c m = mem-combinations c (λ j. choices fs k (fixes j) j) (range 1 groups) m
+  pub mem-choices : (c : ℕ → Choice) → ((j : ℕ) → Mem j (range 1 groups) → Mem (c j) (lists j)) → Mem (scenario c) (scenariosOf lists)
+  mem-choices c m = mem-combinations c lists (range 1 groups) m
 
   -- Each of them has a choice for each group.
-  pub of-scenarios : {cs : List Choice} → Mem cs (scenarios fs k fixes) → (j : ℕ) → Mem j (range 1 groups) → Mem (choiceOf cs j) (choices fs k (fixes j) j)
-  unfolding scenarios
-  of-scenarios {cs} m j l =
+  pub of-choices : {cs : List Choice} → Mem cs (scenariosOf lists) → (j : ℕ) → Mem j (range 1 groups) → Mem (choiceOf cs j) (lists j)
+  of-choices {cs} m j l =
       let (low, high) = of-range 1 groups l in
       let same : 1 + (j - 1) ≡ j = omega arith in
-      rw same at (of-combinations (λ i. choices fs k (fixes i) i) 1 groups Any m (j - 1) (omega arith))
+      rw same at (of-combinations lists 1 groups Any m (j - 1) (omega arith))
 
   -- Each of them is a list of so many.
+  pub choices-length : {cs : List Choice} → Mem cs (scenariosOf lists) → length cs ≡ groups
+  unfolding range
+  choices-length m = length-combination _ m
+
+-- The same of those in which the groups that `fixes` names are fixed.
+module _ (fs : List Frame) (k : Frame) (fixes : ℕ → Bool) where
+  pub mem-scenarios : (c : ℕ → Choice) → ((j : ℕ) → Mem j (range 1 groups) → Mem (c j) (choices fs k (fixes j) j)) → Mem (scenario c) (scenarios fs k fixes)
+  unfolding scenarios
+  mem-scenarios = mem-choices (λ j. choices fs k (fixes j) j)
+
+  pub of-scenarios : {cs : List Choice} → Mem cs (scenarios fs k fixes) → (j : ℕ) → Mem j (range 1 groups) → Mem (choiceOf cs j) (choices fs k (fixes j) j)
+  unfolding scenarios
+  of-scenarios = of-choices (λ j. choices fs k (fixes j) j)
+
   pub scenarios-length : {cs : List Choice} → Mem cs (scenarios fs k fixes) → length cs ≡ groups
-  unfolding scenarios range
-  scenarios-length m = length-combination _ m
+  unfolding scenarios
+  scenarios-length = choices-length (λ j. choices fs k (fixes j) j)
 
 -- The scenario count is the number of the precise bound's scenarios.
 pub count-scenarios : (fs : List Frame) (k : Frame) → length (scenarios fs k everyGroup) ≡ scenarioCount fs k
