@@ -1,2 +1,4 @@
--- The bounds themselves are defined in bus_model; here stands what is proved of them for this code.
+-- What the code of this crate works with. The bounds themselves are defined in bus_model.
+pub mod Search
+pub mod Find
 pub mod laws

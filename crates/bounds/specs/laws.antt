@@ -1,2 +1,2 @@
--- What is proved of the definitions, for the proofs of the code.
-pub mod Levels
+-- What is proved of these definitions, for the proofs of the code.
+pub mod Search

@@ -1,14 +1,13 @@
 // How many scenarios there are.
 use alignment_walk::count_alignments;
-use bus_model::Frame;
-use workload::GROUP_ROWS;
 use workload::GROUPS;
-use workload::common_multiple;
+use workload::Target;
+use workload::hyperperiod_of;
+use workload::part_of;
 ghost use mathlib.Core.Path.{_≡_};
 ghost use Prim.Native.Nat.{_*_, _≤_, min};
 ghost use Rattle.bus_model.specs.Bounds.{scenarioCount};
-ghost use Rattle.workload.specs.Stored.{stored};
-ghost use Rattle.workload.specs.ByGroup.{ByGroup, FineTable};
+ghost use Rattle.workload.specs.Prepared.{tableOf, Prepared};
 
 // No more scenarios are looked at.
 pub const SCENARIO_LIMIT: u32 = 65_536;
@@ -28,16 +27,9 @@ fn cut_product(a: u32, b: u32) -> u32
 
 // The number of scenarios, cut at one more than the limit. Where that is reached, the other groups, each of which has one alignment at the
 // least, count no more.
-pub fn scenario_count(
-    frames: &[u32],
-    members: &[u8],
-    counts: &[usize],
-    ends: &[u32],
-    k: Frame,
-) -> u32
-    requires { ⌜ FineTable (stored (now frames)) ⌝ }
-    requires { ⌜ ByGroup (stored (now frames)) k (now members) (now counts) (now ends) ⌝ }
-    ensures { λ r. ⌜ r ≡ min 65537 (scenarioCount (stored (now (frames .entry))) k) ⌝ }
+pub fn scenario_count(rows: &[u32], prepared: &[u32], target: Target) -> u32
+    requires { ⌜ Prepared (now rows) (now prepared) (target .frame) ⌝ }
+    ensures { λ r. ⌜ r ≡ min 65537 (scenarioCount (tableOf (now (rows .entry)) (now (prepared .entry))) (target .frame)) ⌝ }
 {
     let mut product: u32 = 1;
     let mut j = 0;
@@ -45,10 +37,8 @@ pub fn scenario_count(
         if SCENARIO_LIMIT < product {
             return product;
         }
-        let from = GROUP_ROWS * j;
-        let to = from + counts[j];
-        let end = common_multiple(frames, k, (j + 1) as u32, true);
-        let count = count_alignments(frames, &members[from..to], end);
+        let part = part_of(prepared, j);
+        let count = count_alignments(rows, prepared, part, hyperperiod_of(prepared, j));
         product = cut_product(product, count);
         j += 1;
     }

@@ -1,10 +1,19 @@
-// The bounds of a frame's response time over all scenarios, computed over the frames of an accepted table.
-mod approximate_bound;
+// The bounds of a frame's response time over all scenarios, computed over an accepted table.
+mod alignments;
 mod count;
-mod levels;
-mod precise_bound;
+mod deciding;
+mod refine;
+mod windows;
 
-pub use approximate_bound::approximate;
-pub use count::SCENARIO_LIMIT;
-pub use count::scenario_count;
-pub use precise_bound::precise;
+pub use deciding::find;
+
+// The bound that decides about a claim.
+pub enum Bound {
+    // For some alignment of the frame's own group the approximate bound has no busy window.
+    NoWindow,
+    // The approximate bound, which the claim meets.
+    Approximate(u32),
+    // The approximate bound, where the scenarios are too many for the precise one.
+    TooMany(u32),
+    Precise(u32),
+}

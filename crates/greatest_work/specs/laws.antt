@@ -1,3 +1,3 @@
 -- What is proved of these definitions, for the proofs of the code.
-pub mod Kept
+pub mod Memory
 pub mod Guesses

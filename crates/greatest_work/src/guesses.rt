@@ -4,43 +4,32 @@ use crate::stairs::GUESSES;
 use alignment_walk::next_alignment;
 use arith::Found;
 use bus_model::Choice;
-use bus_model::Frame;
-use workload::GROUP_ROWS;
 use workload::GROUPS;
+use workload::Target;
+use workload::cycle_of;
+use workload::part_of;
 ghost use mathlib.Core.Path.{_≡_};
 ghost use mathlib.Core.List.{List·Memᴰ as Mem};
 ghost use Prim.Native.Nat.{ℕ, _+_, _<_};
 ghost use Rattle.bus_model.specs.declared.Choice.the-variants.{Fixed};
 ghost use Rattle.bus_model.specs.Bounds.{alignments, orEmpty};
 ghost use Rattle.bus_model.specs.theory.Work.{Allows, RefinedBy};
-ghost use Rattle.workload.specs.Stored.{stored};
-ghost use Rattle.workload.specs.ByGroup.{FineTable, ByGroup};
-ghost use Rattle.workload.specs.Laid.{AllFixed};
-ghost use Rattle.greatest_work.specs.Kept.{Kept};
+ghost use Rattle.workload.specs.Prepared.{tableOf};
+ghost use Rattle.workload.specs.Placed.{AllFixed};
+ghost use Rattle.greatest_work.specs.Ready.{Ready};
 
-// The alignment kept for group j + 1, or its first where none is kept yet.
-fn guess(
-    frames: &[u32],
-    members: &[u8],
-    counts: &[usize],
-    ends: &[u32],
-    k: Frame,
-    j: usize,
-    sums: &[u64],
-) -> u32
-    requires { ⌜ FineTable (stored (now frames)) ⌝ }
-    requires { ⌜ ByGroup (stored (now frames)) k (now members) (now counts) (now ends) ⌝ }
+// The alignment remembered for group j + 1, or its first where none is yet.
+fn guess(rows: &[u32], prepared: &[u32], target: Target, j: usize, memory: &[u64]) -> u32
+    requires { ⌜ Ready (now rows) (now prepared) target (now memory) ⌝ }
     requires { ⌜ j < 16 ⌝ }
-    requires { ⌜ Kept (stored (now frames)) k (now sums) ⌝ }
-    ensures { λ r. ⌜ Mem r (orEmpty (alignments (stored (now (frames .entry))) k (j + 1))) ⌝ }
+    ensures { λ r. ⌜ Mem r (orEmpty (alignments (tableOf (now (rows .entry)) (now (prepared .entry))) (target .frame) (j + 1))) ⌝ }
 {
-    let kept = sums[GUESSES + j];
-    if 0 < kept {
-        return (kept - 1) as u32;
+    let last = memory[GUESSES + j];
+    if 0 < last {
+        return (last - 1) as u32;
     }
-    let from = GROUP_ROWS * j;
-    let to = from + counts[j];
-    let found = next_alignment(frames, &members[from..to], 0, ends[j]);
+    let part = part_of(prepared, j);
+    let found = next_alignment(rows, prepared, part, 0, cycle_of(prepared, j));
     match found {
         Found::At(a) => a,
         Found::Nothing => 0,
@@ -49,49 +38,41 @@ fn guess(
 
 // A fixed choice as it is, and that alignment in place of `Any`.
 fn guessed_choice(
-    frames: &[u32],
-    members: &[u8],
-    counts: &[usize],
-    ends: &[u32],
-    k: Frame,
+    rows: &[u32],
+    prepared: &[u32],
+    target: Target,
     j: usize,
     choice: Choice,
-    sums: &[u64],
+    memory: &[u64],
 ) -> Choice
-    requires { ⌜ FineTable (stored (now frames)) ⌝ }
-    requires { ⌜ ByGroup (stored (now frames)) k (now members) (now counts) (now ends) ⌝ }
+    requires { ⌜ Ready (now rows) (now prepared) target (now memory) ⌝ }
     requires { ⌜ j < 16 ⌝ }
-    requires { ⌜ Kept (stored (now frames)) k (now sums) ⌝ }
-    ensures { λ r. ⌜ Allows (alignments (stored (now (frames .entry))) k (j + 1)) choice r ⌝ }
+    ensures { λ r. ⌜ Allows (alignments (tableOf (now (rows .entry)) (now (prepared .entry))) (target .frame) (j + 1)) choice r ⌝ }
     ensures fixed { λ r. ⌜ ((a : ℕ) × (r ≡ Fixed a)) ⌝ }
 {
     match choice {
         Choice::Fixed(a) => Choice::Fixed(a),
-        Choice::Any => Choice::Fixed(guess(frames, members, counts, ends, k, j, sums)),
+        Choice::Any => Choice::Fixed(guess(rows, prepared, target, j, memory)),
     }
 }
 
 // The scenario with those alignments in place of `Any`.
 pub fn guessed(
-    frames: &[u32],
-    members: &[u8],
-    counts: &[usize],
-    ends: &[u32],
-    k: Frame,
+    rows: &[u32],
+    prepared: &[u32],
+    target: Target,
     choices: [Choice; 16],
-    sums: &[u64],
+    memory: &[u64],
 ) -> [Choice; 16]
-    requires { ⌜ FineTable (stored (now frames)) ⌝ }
-    requires { ⌜ ByGroup (stored (now frames)) k (now members) (now counts) (now ends) ⌝ }
-    requires { ⌜ Kept (stored (now frames)) k (now sums) ⌝ }
-    ensures { λ r. ⌜ RefinedBy (stored (now (frames .entry))) k choices r ⌝ }
+    requires { ⌜ Ready (now rows) (now prepared) target (now memory) ⌝ }
+    ensures { λ r. ⌜ RefinedBy (tableOf (now (rows .entry)) (now (prepared .entry))) (target .frame) choices r ⌝ }
     ensures fixed { λ r. ⌜ AllFixed r ⌝ }
 {
     let mut fixed = choices;
     let mut j = 0;
     while j < GROUPS {
         let choice = choices[j];
-        fixed[j] = guessed_choice(frames, members, counts, ends, k, j, choice, sums);
+        fixed[j] = guessed_choice(rows, prepared, target, j, choice, memory);
         j += 1;
     }
     fixed

@@ -1,8 +1,8 @@
-// The greatest work that a group's alignments give, kept in stairs, and guesses of the alignment that gives it.
+// The greatest work that a group's alignments give, remembered in stairs, and guesses of the alignment that gives it.
+mod greatest;
 mod guesses;
-mod kept;
 mod stairs;
 
+pub use greatest::whole_work;
 pub use guesses::guessed;
-pub use kept::whole_work;
-pub use stairs::SUMS;
+pub use stairs::MEMORY;

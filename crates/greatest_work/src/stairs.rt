@@ -5,10 +5,10 @@ ghost use mathlib.Core.Path.{_≡_};
 ghost use Prim.Native.Nat.{ℕ, _≤_, _<_, min, max};
 ghost use lib.ListN.{length};
 ghost use Rattle.arith.specs.declared.Found.the-variants.{At};
-ghost use Rattle.greatest_work.specs.Kept.{packed, isOn, isOf, widened, Told, KeptWith};
+ghost use Rattle.greatest_work.specs.Memory.{packed, isOn, isOf, widened, Told, RememberedWith};
 
-// So many numbers are kept: stairs, and an alignment for each group.
-pub const SUMS: usize = 2064;
+// So many numbers are remembered: stairs, and an alignment for each group.
+pub const MEMORY: usize = 2064;
 
 // There the alignments start.
 pub const GUESSES: usize = 2048;
@@ -24,13 +24,13 @@ const FRAME_SETS: usize = 8;
 
 const UNIT: u64 = 1_048_576;
 
-// The place for a length of a group, whose frames are `count`, behind those of the groups before it: the lengths below `end`, after which
-// they look the same, are cut into as many parts. Nothing is promised of it, since a stair says itself what it holds of.
-pub fn set_of(before: usize, count: usize, n: u32, end: u32) -> usize
-    requires { ⌜ (before ≤ 1024) × (count ≤ 64) × (n ≤ 1000001) × (1 ≤ end) ⌝ }
+// The place for a length of a group, whose frames are `count`, behind those of the groups before it: the lengths below its cycle are cut
+// into as many parts. Nothing is promised of it, since a stair says itself what it holds of.
+pub fn set_of(before: usize, count: usize, n: u32, cycle: u32) -> usize
+    requires { ⌜ (before ≤ 1024) × (count ≤ 64) × (n ≤ 1000001) × (1 ≤ cycle) ⌝ }
     ensures { λ r. ⌜ r < 512 ⌝ }
 {
-    let at = n as usize * (FRAME_SETS * count) / end as usize;
+    let at = n as usize * (FRAME_SETS * count) / cycle as usize;
     (FRAME_SETS * before + at) % SETS
 }
 
@@ -78,13 +78,13 @@ fn widen(v: u64, n: u32) -> u64
 }
 
 // The greatest work of group j + 1 in the first n ticks, if a stair tells it.
-pub fn told(sums: &[u64], set: usize, j: usize, n: u32) -> Found
-    requires { ⌜ (length (now sums) ≡ 2064) × (set < 512) ⌝ }
-    ensures { λ r. ⌜ ((w : ℕ) → r ≡ At w → Told (now (sums .entry)) j n w) ⌝ }
+pub fn lookup(memory: &[u64], set: usize, j: usize, n: u32) -> Found
+    requires { ⌜ (length (now memory) ≡ 2064) × (set < 512) ⌝ }
+    ensures { λ r. ⌜ ((w : ℕ) → r ≡ At w → Told (now (memory .entry)) j n w) ⌝ }
 {
     let mut i = 0;
     while i < WAYS {
-        let v = sums[WAYS * set + i];
+        let v = memory[WAYS * set + i];
         if is_on(v, j, n) {
             return Found::At((v % UNIT) as u32);
         }
@@ -95,13 +95,13 @@ pub fn told(sums: &[u64], set: usize, j: usize, n: u32) -> Found
 
 // The place for a stair of group j + 1 with this work: where one stands or none yet, or else the last. Lengths are asked for rising, over
 // and over: so the others stay, where those that were used least lately would go just before they are asked for.
-fn place_for(sums: &[u64], set: usize, j: usize, work: u64) -> usize
-    requires { ⌜ (length (now sums) ≡ 2064) × (set < 512) ⌝ }
+fn place_for(memory: &[u64], set: usize, j: usize, work: u64) -> usize
+    requires { ⌜ (length (now memory) ≡ 2064) × (set < 512) ⌝ }
     ensures { λ r. ⌜ r < 2048 ⌝ }
 {
     let mut i = 0;
     while i < WAYS {
-        let v = sums[WAYS * set + i];
+        let v = memory[WAYS * set + i];
         if v == 0 || is_of(v, j, work) {
             return WAYS * set + i;
         }
@@ -110,19 +110,19 @@ fn place_for(sums: &[u64], set: usize, j: usize, work: u64) -> usize
     WAYS * set + WAYS - 1
 }
 
-// Keeps the greatest work of group j + 1 in the first n ticks: a stair of the same work is widened, or else there is a new one.
-pub fn keep(sums: &mut [u64], set: usize, j: usize, n: u32, work: u64)
-    requires { ⌜ (length (now sums) ≡ 2064) × (set < 512) × (j < 16) × (n < 1048576) ⌝ }
-    ensures { λ _. ⌜ KeptWith j n work (now (sums .entry)) (now (sums .exit)) ⌝ }
+// Remembers the greatest work of group j + 1 in the first n ticks: a stair of the same work is widened, or else there is a new one.
+pub fn insert(memory: &mut [u64], set: usize, j: usize, n: u32, work: u64)
+    requires { ⌜ (length (now memory) ≡ 2064) × (set < 512) × (j < 16) × (n < 1048576) ⌝ }
+    ensures { λ _. ⌜ RememberedWith j n work (now (memory .entry)) (now (memory .exit)) ⌝ }
 {
     if UNIT <= work {
         return;
     }
-    let p = place_for(sums, set, j, work);
-    let v = sums[p];
+    let p = place_for(memory, set, j, work);
+    let v = memory[p];
     if is_of(v, j, work) {
-        sums[p] = widen(v, n);
+        memory[p] = widen(v, n);
     } else {
-        sums[p] = pack(j as u64, n as u64, n as u64, work);
+        memory[p] = pack(j as u64, n as u64, n as u64, work);
     }
 }

@@ -1,11 +1,13 @@
-// The response times of a frame in a scenario, computed over the frames of an accepted table.
+// The response times of a frame in a scenario: the searches for its busy window and for the starts of its instances, and which of these
+// need not be made.
+mod reach;
 mod response;
-mod unserved;
+mod search;
+mod within;
 
-pub use response::busy_window;
-pub use response::raised;
-pub use unserved::ROOM;
-pub use unserved::Unserved;
-pub use unserved::all_left;
-pub use unserved::sweep;
-pub use unserved::with_none;
+pub use reach::PATIENCE;
+pub use reach::reach_before;
+pub use reach::sweep;
+pub use response::max_with_scenario;
+pub use search::busy_window;
+pub use search::is_open;

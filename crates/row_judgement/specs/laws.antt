@@ -1,5 +1,4 @@
 -- What is proved of these definitions.
-pub mod Stored
 pub mod Judged
 pub mod Returns
 pub mod Ungrouped

@@ -1,7 +1,7 @@
 // The judgement of a row of a frame table, and its precise bound. Both take any input, and check their lengths and table themselves;
 // judge_row takes accepted ones, for the listing, which judges all its rows.
 mod bound;
-mod frames;
+mod decide;
 mod judgement;
 
 pub use bound::precise_bound;

@@ -1,5 +1,5 @@
 -- What is proved of these definitions, for the proofs of the code.
-pub mod Stored
+pub mod Prepared
 pub mod Fine
 pub mod Groups
-pub mod Laid
+pub mod Placed

@@ -1,27 +1,44 @@
-// The work that the frames ahead of one bring at fixed alignments, over the frames of an accepted table: group by group, or laid out for
-// a search.
+// The work that the frames ahead of one bring at fixed alignments. What is needed of an accepted table beside its rows is prepared once
+// for each judged row; a search places the frames that load a scenario before it begins.
 mod blocking;
 mod groups;
-mod laid;
-mod stored;
+mod placed;
+mod prepared;
 mod work;
 
 pub use blocking::frame_blocking;
-pub use groups::GROUP_ROWS;
-pub use groups::GROUPS;
-pub use groups::MEMBERS;
-pub use groups::by_group;
-pub use groups::common_multiple;
-pub use laid::laid_work;
-pub use laid::lay_out;
-pub use stored::FRAME;
-pub use stored::FRAMES;
-pub use stored::frame_at;
-pub use stored::inverse_at;
-pub use stored::put;
+use bus_model::Frame;
+pub use placed::PLACED;
+pub use placed::PLACES;
+pub use placed::place;
+pub use placed::placed_work;
+pub use prepared::AREA;
+pub use prepared::GROUP_ROWS;
+pub use prepared::GROUPS;
+pub use prepared::Row;
+pub use prepared::count_of;
+pub use prepared::cycle_of;
+pub use prepared::first_of;
+pub use prepared::hyperperiod_of;
+pub use prepared::part_of;
+pub use prepared::prepare;
+pub use prepared::row_at;
 pub use work::distance_from;
 pub use work::frame_demand;
 pub use work::index;
+pub use work::phase_of;
 pub use work::quotient;
 pub use work::releases_before;
 pub use work::work_in;
+
+// The frame that is judged, with its blocking.
+pub struct Target {
+    pub frame: Frame,
+    pub blocked: u32,
+}
+
+// What is looked for in a scenario: its busy window, or the start of an instance.
+pub enum Search {
+    Window,
+    Instance(u32),
+}

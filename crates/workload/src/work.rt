@@ -1,16 +1,14 @@
 // The work that a group's frames bring in the first n ticks after one of its alignments.
-use crate::stored::frame_at;
-use crate::stored::inverse_at;
+use crate::prepared::row_at;
 use bus_model::Frame;
 ghost use mathlib.Core.Path.{_≡_};
 ghost use Prim.Native.Nat.{_-_, _*_, _/_, _≤_, _<_, min};
 ghost use Rattle.arith.specs.Releases.{releasesBefore};
-ghost use Rattle.bus_model.specs.Bounds.{distance, demand, workAt};
-ghost use Rattle.workload.specs.Stored.{stored};
-ghost use Rattle.workload.specs.ByGroup.{Fine, FinePart, framesIn};
+ghost use Rattle.bus_model.specs.Bounds.{phase, distance, demand, workAt};
+ghost use Rattle.workload.specs.Prepared.{Fine, FinePart, framesIn, tableOf};
 
-// A place in the table as an index.
-pub fn index(row: u8) -> usize
+// A row number as an index.
+pub fn index(row: u32) -> usize
     ensures { λ r. ⌜ r ≡ row ⌝ }
 {
     row as usize
@@ -51,6 +49,15 @@ pub fn releases_before(d: u32, p: u32, n: u32, inverse: u32) -> u32
     quotient(n - d + (p - 1), p, inverse)
 }
 
+// The offset as the bounds read it, modulo the period.
+pub fn phase_of(g: Frame, inverse: u32) -> u32
+    requires { ⌜ Fine g ⌝ }
+    ensures { λ r. ⌜ r ≡ phase g ⌝ }
+    ensures small { λ r. ⌜ r < g .period ⌝ }
+{
+    g.offset - quotient(g.offset, g.period, inverse) * g.period
+}
+
 // How long after alignment a the frame is released.
 pub fn distance_from(g: Frame, a: u32, inverse: u32) -> u32
     requires { ⌜ Fine g ⌝ }
@@ -58,7 +65,7 @@ pub fn distance_from(g: Frame, a: u32, inverse: u32) -> u32
     ensures small { λ r. ⌜ r < g .period ⌝ }
 {
     let rest = a - quotient(a, g.period, inverse) * g.period;
-    let later = g.offset + (g.period - rest);
+    let later = phase_of(g, inverse) + (g.period - rest);
     if later < g.period {
         later
     } else {
@@ -66,18 +73,17 @@ pub fn distance_from(g: Frame, a: u32, inverse: u32) -> u32
     }
 }
 
-// The length of the frame's releases in the first n ticks, where d is its distance from the alignment.
-pub fn demand_from(g: Frame, d: u32, n: u32, inverse: u32) -> u64
-    requires { ⌜ Fine g ⌝ }
-    requires { ⌜ n ≤ 1000001 ⌝ }
-    ensures { λ r. ⌜ r ≡ g .length * releasesBefore d (g .period) n ⌝ }
+// The length of the releases in the first n ticks, where d is the distance from the alignment.
+pub fn demand_from(length: u32, period: u32, d: u32, n: u32, inverse: u32) -> u64
+    requires { ⌜ (length ≤ 400) × (1 ≤ period) × (period ≤ 1000000) × (n ≤ 1000001) ⌝ }
+    ensures { λ r. ⌜ r ≡ length * releasesBefore d period n ⌝ }
     ensures small { λ r. ⌜ r ≤ 400400400 ⌝ }
 {
-    let times = releases_before(d, g.period, n, inverse);
-    g.length as u64 * times as u64
+    let times = releases_before(d, period, n, inverse);
+    length as u64 * times as u64
 }
 
-// That at alignment a.
+// That of a frame at alignment a.
 pub fn frame_demand(g: Frame, a: u32, n: u32, inverse: u32) -> u64
     requires { ⌜ Fine g ⌝ }
     requires { ⌜ n ≤ 1000001 ⌝ }
@@ -85,22 +91,21 @@ pub fn frame_demand(g: Frame, a: u32, n: u32, inverse: u32) -> u64
     ensures small { λ r. ⌜ r ≤ 400400400 ⌝ }
 {
     let d = distance_from(g, a, inverse);
-    demand_from(g, d, n, inverse)
+    demand_from(g.length, g.period, d, n, inverse)
 }
 
 // That of the frames in some rows.
-pub fn work_in(frames: &[u32], part: &[u8], a: u32, n: u32) -> u64
-    requires { ⌜ FinePart (stored (now frames)) (now part) ⌝ }
+pub fn work_in(rows: &[u32], prepared: &[u32], part: &[u32], a: u32, n: u32) -> u64
+    requires { ⌜ FinePart (now rows) (now prepared) (now part) ⌝ }
     requires { ⌜ n ≤ 1000001 ⌝ }
-    ensures { λ r. ⌜ r ≡ workAt (framesIn (stored (now (frames .entry))) (now (part .entry))) a n ⌝ }
+    ensures { λ r. ⌜ r ≡ workAt (framesIn (tableOf (now (rows .entry)) (now (prepared .entry))) (now (part .entry))) a n ⌝ }
     ensures small { λ r. ⌜ r ≤ 64 * 400400400 ⌝ }
 {
     let mut sum: u64 = 0;
     let mut i = 0;
     while i < part.len() {
-        let at = index(part[i]);
-        let g = frame_at(frames, at);
-        sum += frame_demand(g, a, n, inverse_at(frames, at));
+        let r = row_at(rows, prepared, index(part[i]));
+        sum += frame_demand(r.frame, a, n, r.inverse);
         i += 1;
     }
     sum

@@ -113,29 +113,8 @@ impl Search {
 /// So many steps climbs a look by the bounds of loads.
 const STEPS: usize = 16;
 
-/// So many unserved instances are listed at the most.
-const LISTED: usize = 64;
-
-/// The instances before an end that are not shown to be served with the open groups at any
-/// alignment. Fixing a group's alignment makes no response longer, so that where more groups are
-/// fixed, only these are looked at, and those from the end on.
-#[derive(Clone, Default)]
-struct Unserved {
-    /// Rising.
-    list: Vec<u64>,
-    end: u64,
-}
-
-impl Unserved {
-    /// The first one to be looked at from an instance on.
-    fn next(&self, instance: u64) -> u64 {
-        if instance >= self.end {
-            return instance;
-        }
-        let at = self.list.partition_point(|listed| *listed < instance);
-        self.list.get(at).copied().unwrap_or(self.end)
-    }
-}
+/// So many instances that no start is found for does a sweep pass before it gives up.
+const PATIENCE: usize = 256;
 
 /// The bus as the frame of one row meets it.
 struct View {
@@ -218,7 +197,7 @@ impl View {
         for own in self.groups[0].alignments() {
             let scenario = Scenario { fixed: &self.placed(own), open: &groups[1..] };
             let limit = common.or_else(|| self.settled_window(scenario))?;
-            if !self.is_within(scenario, limit, best, &Unserved::default()) {
+            if self.sweep(scenario, released(scenario, limit), best, 0) > 0 {
                 best = self.raised(scenario, best)?;
             }
         }
@@ -231,78 +210,62 @@ impl View {
         for own in self.groups[0].alignments() {
             let mut fixed = self.placed(own);
             let open: Vec<&Group> = self.groups[1..].iter().collect();
-            let limit = self.settled_window(Scenario { fixed: &fixed, open: &open })?;
-            best = self.improved(&mut fixed, &open, limit, best, &Unserved::default())?;
+            let scenario = Scenario { fixed: &fixed, open: &open };
+            let reach = released(scenario, self.settled_window(scenario)?);
+            best = self.improved(&mut fixed, &open, reach, best)?;
         }
         Some(best)
     }
 
     /// The greater of the best and the responses with the open groups fixed one after the other, unless
-    /// nothing below can exceed the best: that is asked anew where the best has risen. What is left
-    /// unserved is handed down.
+    /// nothing below can exceed the best: that is asked anew where the best has risen. From `reach` on
+    /// the instances are shown not to exceed it, also where more groups are fixed.
     fn improved(
         &self,
         fixed: &mut Vec<Placed>,
         open: &[&Group],
-        limit: u64,
+        mut reach: u64,
         mut best: u64,
-        known: &Unserved,
     ) -> Option<u64> {
         let Some((group, rest)) = open.split_first() else {
             let scenario = Scenario { fixed, open };
-            let within = self.is_within(scenario, limit, best, known);
+            let within = self.sweep(scenario, reach, best, 0) == 0;
             return if within { Some(best) } else { self.raised(scenario, best) };
         };
-        let (mut asked, mut unserved) = (None, known.clone());
+        let mut asked = None;
         let kept = fixed.len();
         for alignment in group.alignments() {
             if asked != Some(best) {
-                let scenario = Scenario { fixed, open };
-                let Some(left) = self.sweep(scenario, limit, best, &unserved, LISTED) else {
+                reach = self.sweep(Scenario { fixed, open }, reach, best, PATIENCE);
+                if reach == 0 {
                     return Some(best);
-                };
-                (asked, unserved) = (Some(best), left);
+                }
+                asked = Some(best);
             }
             group.place(alignment, fixed);
-            best = self.improved(fixed, rest, limit, best, &unserved)?;
+            best = self.improved(fixed, rest, reach, best)?;
             fixed.truncate(kept);
         }
         Some(best)
     }
 
-    /// Whether the starts that are found show that no response exceeds the best.
-    fn is_within(&self, scenario: Scenario, limit: u64, best: u64, known: &Unserved) -> bool {
-        self.sweep(scenario, limit, best, known, 0).is_none()
-    }
-
-    /// The instances for which no start is found that shows a response up to the best: as many as
-    /// there is room for, up to the first one beyond; or none if there is no such instance. Those
-    /// that are known to be served are passed over.
-    fn sweep(
-        &self,
-        scenario: Scenario,
-        limit: u64,
-        best: u64,
-        known: &Unserved,
-        room: usize,
-    ) -> Option<Unserved> {
-        let Placed { frame, distance } = scenario.fixed[0];
-        let releases = frame.count(distance, limit);
-        let mut list = Vec::new();
-        let (mut instance, mut from) = (known.next(0), 0);
-        while instance < releases {
-            let step = if let Some(found) = self.serve(scenario, instance, from, best) {
-                from = found.1;
-                found.0
-            } else if list.len() < room {
-                list.push(instance);
-                1
-            } else {
-                return Some(Unserved { list, end: instance });
-            };
-            instance = known.next(instance + step);
+    /// One more than the last instance before `reach` for which no start is found that shows a
+    /// response up to the best, or 0; `reach` itself, where more than `patience` of them are met.
+    fn sweep(&self, scenario: Scenario, reach: u64, best: u64, patience: usize) -> u64 {
+        let (mut instance, mut from, mut last, mut missed) = (0, 0, 0, 0);
+        while instance < reach {
+            if let Some((served, next)) = self.serve(scenario, instance, from, best) {
+                (instance, from) = (instance + served, next);
+                continue;
+            }
+            if missed >= patience {
+                return reach;
+            }
+            missed += 1;
+            instance += 1;
+            last = instance;
         }
-        (!list.is_empty()).then_some(Unserved { list, end: instance })
+        last
     }
 
     /// A start that shows a response up to the best: how many instances it serves from this one
@@ -336,6 +299,12 @@ impl View {
         }
         Some(best)
     }
+}
+
+/// How many instances are released before a limit of the window.
+fn released(scenario: Scenario, limit: u64) -> u64 {
+    let Placed { frame, distance } = scenario.fixed[0];
+    frame.count(distance, limit)
 }
 
 /// A start up to the latest and its load or a bound of it: one that is tried, or else the first one

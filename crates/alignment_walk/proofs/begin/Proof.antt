@@ -1,39 +1,39 @@
--- The loop goes through the rows, notes what is to be noted of the frame in each, and adds up the demand of the whole periods.
+-- The loop goes through the rows, adds up the demand of whole periods, and notes what the walk asks for.
 use Prim.Native.Nat.{ℕ, _+_, _-_, _*_, _≤_}
 use mathlib.Core.Path.{_≡_, sym, ap, _∙_}
 use mathlib.Core.List.{Memᴰ·map}
 use native.Mathlib.Omega.{arith}
-use native.Mathlib.Nat.{add-zero, zero-add, mod-eq-sub-div-mul, div-mul-le-self}
+use native.Mathlib.Nat.{add-zero, zero-add, div-mul-le-self, mod-eq-sub-div-mul}
 use borrow.Author.Needs.{needs}
-use lib.ListN.{length, getD}
+use lib.ListN.{length, length-set, getD}
 use Rattle.arith.specs.Lists.{sum}
 use Rattle.arith.specs.laws.Members.{mem-getD}
 use Rattle.arith.specs.laws.Walks.{Through, through-start, through-more, through-end, sum-more}
 use Rattle.bus_model.specs.declared.Frame.{Frame}
 use Rattle.bus_model.specs.Frame.{row}
-use Rattle.workload.specs.Stored.{stored}
-use Rattle.workload.specs.ByGroup.{Fine, framesIn}
-use Rattle.alignment_walk.specs.Steps.{waitFrom, restOf, wholeDemand}
+use Rattle.bus_model.specs.Bounds.{phase}
+use Rattle.workload.specs.Prepared.{Fine, framesIn, tableOf}
 use Rattle.workload.specs.laws.Fine.{part-fine}
+use Rattle.alignment_walk.specs.Steps.{waitFrom, restOf, wholeDemand}
 use Rattle.alignment_walk.specs.laws.Parts.{wait-first}
-use Rattle.alignment_walk.specs.laws.Steps.{NotedTo, note-none, note-more, note-all, whole-small}
+use Rattle.alignment_walk.specs.laws.Steps.{NotedTo, note-none, note-more, note-all, NotesTo, notes-none, notes-more, notes-all, whole-small}
 use Rattle.alignment_walk.proofs.begin.Statement.{statement}
 use Rattle.alignment_walk.proofs.begin.Tie as tie
 
 abbrev Inv-loop : tie.InvT-loop
-Inv-loop frames part n first lengths₀ periods₀ rests₀ waits₀ whole₀ i₀ lengths periods rests waits whole i =
-    Through (λ ms. sum (wholeDemand n) (framesIn (stored frames) ms)) _+_ part (sum (wholeDemand n) (framesIn (stored frames) part)) whole i
+Inv-loop rows prepared part n first notes₀ waits₀ whole₀ i₀ notes waits whole i =
+    Through (λ ms. sum (wholeDemand n) (framesIn (tableOf rows prepared) ms)) _+_ part (sum (wholeDemand n) (framesIn (tableOf rows prepared) part)) whole i
     × (whole ≤ 400000400 * i)
-    × NotedTo (λ (g : Frame). g .length) (stored frames) part lengths i × NotedTo (λ (g : Frame). g .period) (stored frames) part periods i
-    × NotedTo (restOf n) (stored frames) part rests i × NotedTo (waitFrom first first) (stored frames) part waits i
+    × NotesTo n (tableOf rows prepared) part notes i × NotedTo (waitFrom first first) (tableOf rows prepared) part waits i
 
 abbrev μ-loop : tie.MeasureT-loop
-μ-loop frames part n first lengths₀ periods₀ rests₀ waits₀ whole₀ i₀ lengths periods rests waits whole i = length part - i
+μ-loop rows prepared part n first notes₀ waits₀ whole₀ i₀ notes waits whole i = length part - i
 
 loop-holds : tie.Need-loop-holds Inv-loop μ-loop
-loop-holds c =
-    let p = c .before .before .pre .1 .1 in
-    (through-start _ _ _ _ (zero-add _), omega arith, note-none (p .0), note-none (p .1), note-none (p .2), note-none (p .3))
+loop-holds c = let p = c .before .before .before .pre .1 .1 in (through-start _ _ _ _ (zero-add _), omega arith, notes-none (p .0), note-none (p .1))
+
+mul-index : tie.Need-mul-index Inv-loop μ-loop
+mul-index c = search needs
 
 shared-slice-read-index : tie.Need-shared-slice-read-index Inv-loop μ-loop
 shared-slice-read-index c = search needs
@@ -41,64 +41,77 @@ shared-slice-read-index c = search needs
 index-requires : tie.Need-index-requires Inv-loop μ-loop
 index-requires c κs = search needs
 
-frame-at-requires : tie.Need-frame-at-requires Inv-loop μ-loop
-frame-at-requires c κs = search needs
-
-inverse-at-requires : tie.Need-inverse-at-requires Inv-loop μ-loop
-inverse-at-requires c κs = search needs
+row-at-requires : tie.Need-row-at-requires Inv-loop μ-loop
+row-at-requires c κs = c .before .before .before .before .before .before .before .pre .0 .filled
 
 -- the frame of the row
-read : (c : tie.After-frame-at Inv-loop μ-loop) → let s = c .before .before .before .before .before .before .before in c .frame-at .result ≡ row (stored (s .args .frames .now)) (getD (s .args .part .now) (c .before .before .before .before .loop .i) 0)
-read c = c .frame-at .ensures ∙ ap (row (stored _)) (c .before .index .ensures)
+read : (c : tie.After-row-at Inv-loop μ-loop) → let s = c .before .before .before .before .before .before .before .before in c .row-at .result .frame ≡ row (tableOf (s .args .rows .now) (s .args .prepared .now)) (getD (s .args .part .now) (c .before .before .before .before .loop .i) 0)
+read c = c .row-at .ensures ∙ ap (row (tableOf _ _)) (c .before .index .ensures)
 
 -- it is within its limits
-fine : (c : tie.After-frame-at Inv-loop μ-loop) → Fine (c .frame-at .result)
-fine c = part-fine (c .before .before .before .before .before .before .before .pre .0) (c .before .before .before .loop-test .taken) (read c)
+fine : (c : tie.After-row-at Inv-loop μ-loop) → Fine (c .row-at .result .frame)
+fine c = part-fine (c .before .before .before .before .before .before .before .before .pre .0) (c .before .before .before .loop-test .taken) (read c)
+
+-- and one of 64
+few : (c : tie.After-row-at Inv-loop μ-loop) → c .before .before .before .before .loop .i + 1 ≤ 64
+few c = omega (arith, c .before .before .before .loop-test .taken, c .before .before .before .before .before .before .before .before .pre .0 .few)
 
 quotient-requires : tie.Need-quotient-requires Inv-loop μ-loop
 quotient-requires c κs = fine (c .before) .period-low
 
-mul-lengths : tie.Need-mul-lengths Inv-loop μ-loop
-mul-lengths c = search needs
-
-element-write-lengths : tie.Need-element-write-lengths Inv-loop μ-loop
-element-write-lengths c = search needs
-
-mul-periods : tie.Need-mul-periods Inv-loop μ-loop
-mul-periods c = search needs
-
-element-write-periods : tie.Need-element-write-periods Inv-loop μ-loop
-element-write-periods c = search needs
-
 -- the whole periods are no more than n,
-inside : (c : tie.After-quotient Inv-loop μ-loop) → c .quotient .result * c .before .before .frame-at .result .period ≤ c .before .before .before .before .before .before .before .before .before .args .n
+inside : (c : tie.After-quotient Inv-loop μ-loop) → c .quotient .result * c .before .before .row-at .result .frame .period ≤ c .before .before .before .before .before .before .before .before .before .before .args .n
 inside c = rw (c .quotient .ensures) (div-mul-le-self _ _)
 
 -- and their demand is small
-small : (c : tie.After-quotient Inv-loop μ-loop) → c .before .before .frame-at .result .length * c .quotient .result ≤ 400000400
+small : (c : tie.After-quotient Inv-loop μ-loop) → c .before .before .row-at .result .frame .length * c .quotient .result ≤ 400000400
 small c =
     let f = c .before .before in
-    let s = c .before .before .before .before .before .before .before .before .before in
+    let s = c .before .before .before .before .before .before .before .before .before .before in
     rw (c .quotient .ensures) (whole-small (fine f) (s .args .n) (s .pre .1 .0 .0))
 
-mul-rests : tie.Need-mul-rests Inv-loop μ-loop
-mul-rests c = omega (arith, inside (c .before))
+mul-at : tie.Need-mul-at Inv-loop μ-loop
+mul-at c = omega (arith, few (c .before .before))
 
-sub-rests : tie.Need-sub-rests Inv-loop μ-loop
-sub-rests c = omega (arith, inside (c .before))
+mul-notes : tie.Need-mul-notes Inv-loop μ-loop
+mul-notes c = search needs
 
-mul-rests-2 : tie.Need-mul-rests-2 Inv-loop μ-loop
-mul-rests-2 c = search needs
+element-write-notes : tie.Need-element-write-notes Inv-loop μ-loop
+element-write-notes c = search needs
 
-element-write-rests : tie.Need-element-write-rests Inv-loop μ-loop
-element-write-rests c = search needs
+add-notes : tie.Need-add-notes Inv-loop μ-loop
+add-notes c = search needs
 
--- the first alignment is not after its offset
-first-inside : (c : tie.After-frame-at Inv-loop μ-loop) → c .before .before .before .before .before .before .before .args .first ≤ c .frame-at .result .offset
-first-inside c = c .before .before .before .before .before .before .before .pre .1 .0 .1 (c .frame-at .result) (rw (read c) (Memᴰ·map (row (stored (c .before .before .before .before .before .before .before .args .frames .now))) (mem-getD (c .before .before .before .before .before .before .before .args .part .now) (c .before .before .before .before .loop .i) 0 (c .before .before .before .loop-test .taken))))
+mul-notes-2 : tie.Need-mul-notes-2 Inv-loop μ-loop
+mul-notes-2 c = search needs
+
+element-write-notes-2 : tie.Need-element-write-notes-2 Inv-loop μ-loop
+element-write-notes-2 c = search needs
+
+mul-notes-3 : tie.Need-mul-notes-3 Inv-loop μ-loop
+mul-notes-3 c = omega (arith, inside (c .before))
+
+sub-notes : tie.Need-sub-notes Inv-loop μ-loop
+sub-notes c = omega (arith, inside (c .before))
+
+add-notes-2 : tie.Need-add-notes-2 Inv-loop μ-loop
+add-notes-2 c = search needs
+
+mul-notes-4 : tie.Need-mul-notes-4 Inv-loop μ-loop
+mul-notes-4 c = search needs
+
+element-write-notes-3 : tie.Need-element-write-notes-3 Inv-loop μ-loop
+element-write-notes-3 c = search needs
+
+phase-of-requires : tie.Need-phase-of-requires Inv-loop μ-loop
+phase-of-requires c κs = fine (c .before .before .before)
+
+-- the first alignment is not after its first release
+first-inside : (c : tie.After-row-at Inv-loop μ-loop) → c .before .before .before .before .before .before .before .before .args .first ≤ phase (c .row-at .result .frame)
+first-inside c = c .before .before .before .before .before .before .before .before .pre .1 .0 .1 (c .row-at .result .frame) (rw (read c) (Memᴰ·map (row (tableOf (c .before .before .before .before .before .before .before .before .args .rows .now) (c .before .before .before .before .before .before .before .before .args .prepared .now))) (mem-getD (c .before .before .before .before .before .before .before .before .args .part .now) (c .before .before .before .before .loop .i) 0 (c .before .before .before .loop-test .taken))))
 
 sub-waits : tie.Need-sub-waits Inv-loop μ-loop
-sub-waits c = first-inside (c .before .before .before .before)
+sub-waits c = rw (c .phase-of .ensures .0) (first-inside (c .before .before .before .before))
 
 mul-waits : tie.Need-mul-waits Inv-loop μ-loop
 mul-waits c = search needs
@@ -116,9 +129,7 @@ mul-whole : tie.Need-mul-whole Inv-loop μ-loop
 mul-whole c = omega (arith, small (c .before .before .before))
 
 add-whole : tie.Need-add-whole Inv-loop μ-loop
-add-whole c =
-    let l = c .before .before .before .before .before .before .before .before .before .loop in
-    omega (arith, small (c .before .before .before), l .inv .1, l .inv .0 .inside, c .before .before .before .before .before .before .before .before .before .before .before .before .pre .0 .few)
+add-whole c = omega (arith, small (c .before .before .before), c .before .before .before .before .before .before .before .before .before .loop .inv .1, c .before .before .before .before .before .before .before .before .before .loop .inv .0 .inside, c .before .before .before .before .before .before .before .before .before .before .before .before .before .pre .0 .few)
 
 add-i : tie.Need-add-i Inv-loop μ-loop
 add-i c = search needs
@@ -130,28 +141,26 @@ loop-again : tie.Need-loop-again Inv-loop μ-loop
 loop-again c =
     let q = c .before .before .before in
     let f = c .before .before .before .before .before in
-    let s = c .before .before .before .before .before .before .before .before .before .before .before .before in
+    let s = c .before .before .before .before .before .before .before .before .before .before .before .before .before in
     let l = c .before .before .before .before .before .before .before .before .before .loop in
     let less = c .before .before .before .before .before .before .before .before .loop-test .taken in
     let a = s .args in
-    let g = f .frame-at .result in
+    let g = f .row-at .result .frame in
     let times = q .quotient .ensures in (
       through-more _ _ _ _ 0 (l .inv .0) less
-          (λ ms. sum-more (wholeDemand (a .n)) (l .whole) _ (ap (λ (x : ℕ). l .whole + x) (ap (λ (x : ℕ). g .length * x) times ∙ ap (wholeDemand (a .n)) (read f))) (framesIn (stored (a .frames .now)) ms)),
+          (λ ms. sum-more (wholeDemand (a .n)) (l .whole) _ (ap (λ (x : ℕ). l .whole + x) (ap (λ (x : ℕ). g .length * x) times ∙ ap (wholeDemand (a .n)) (read f))) (framesIn (tableOf (a .rows .now) (a .prepared .now)) ms)),
       omega (arith, l .inv .1, small q),
-      note-more _ (l .inv .2) (omega (arith, less, s .pre .0 .few)) (ap (λ (h : Frame). h .length) (read f)),
-      note-more _ (l .inv .3) (omega (arith, less, s .pre .0 .few)) (ap (λ (h : Frame). h .period) (read f)),
-      note-more _ (l .inv .4) (omega (arith, less, s .pre .0 .few)) (ap (λ (x : ℕ). a .n - x * g .period) times ∙ sym (mod-eq-sub-div-mul (a .n) (g .period)) ∙ ap (restOf (a .n)) (read f)),
-      note-more _ (l .inv .5) (omega (arith, less, s .pre .0 .few)) (wait-first (fine f) (a .first) (first-inside f) ∙ ap (waitFrom (a .first) (a .first)) (read f)),
+      notes-more (l .inv .2) (omega (arith, few f)) (read f) (ap (λ (x : ℕ). a .n - x * g .period) times ∙ sym (mod-eq-sub-div-mul (a .n) (g .period))),
+      note-more _ (l .inv .3) (omega (arith, few f)) (ap (λ (x : ℕ). x - a .first) (c .before .phase-of .ensures .0) ∙ wait-first (fine f) (a .first) (first-inside f) ∙ ap (waitFrom (a .first) (a .first)) (read f)),
     )
 
 returns : tie.Need-returns Inv-loop μ-loop
 unfolding sum
 returns c =
-    let s = c .before .before .before .before in
+    let s = c .before .before .before .before .before in
     let l = c .before .loop in
     let over = c .loop-test .left in
-    (sym (add-zero _) ∙ through-end _ _ _ _ (l .inv .0) over, (omega (arith, l .inv .1, l .inv .0 .inside, s .pre .0 .few), (note-all (l .inv .2) over, (note-all (l .inv .3) over, (note-all (l .inv .4) over, note-all (l .inv .5) over)))))
+    (sym (add-zero _) ∙ through-end _ _ _ _ (l .inv .0) over, (omega (arith, l .inv .1, l .inv .0 .inside, s .pre .0 .few), (notes-all (l .inv .2) over, note-all (l .inv .3) over)))
 
 pub begin-spec : {M : Type 1} → statement M
 begin-spec =
@@ -160,19 +169,23 @@ begin-spec =
     Inv-loop
     μ-loop
     loop-holds
+    mul-index
     shared-slice-read-index
     index-requires
-    frame-at-requires
-    inverse-at-requires
+    row-at-requires
     quotient-requires
-    mul-lengths
-    element-write-lengths
-    mul-periods
-    element-write-periods
-    mul-rests
-    sub-rests
-    mul-rests-2
-    element-write-rests
+    mul-at
+    mul-notes
+    element-write-notes
+    add-notes
+    mul-notes-2
+    element-write-notes-2
+    mul-notes-3
+    sub-notes
+    add-notes-2
+    mul-notes-4
+    element-write-notes-3
+    phase-of-requires
     sub-waits
     mul-waits
     element-write-waits

@@ -20,4 +20,9 @@ returns c =
     (is ∙ ap (λ (n : ℕ). max n 1) (walked .0) ∙ sym (length-or-empty _), (omega arith, omega (arith, is, walked .1 .1)))
 
 pub count-alignments-spec : {M : Type 1} → statement M
-count-alignments-spec = tie.close (tie.spec best-alignment-requires at-least-one-requires returns)
+count-alignments-spec =
+    tie.close
+    (tie.spec
+    best-alignment-requires
+    at-least-one-requires
+    returns)

@@ -9,39 +9,65 @@ use Rattle.arith.specs.Lists.{sum, greatest}
 use Rattle.arith.specs.laws.Walks.{Through, through-start, through-more, through-end, sum-more, greatest-more}
 use Rattle.bus_model.specs.declared.Frame.{Frame}
 use Rattle.bus_model.specs.Frame.{row}
-use Rattle.workload.specs.Stored.{stored}
-use Rattle.workload.specs.ByGroup.{Fine, framesIn}
-use Rattle.alignment_walk.specs.Steps.{nextRelease, waitFrom, extraDemand}
+use Rattle.workload.specs.Prepared.{Fine, framesIn, tableOf}
 use Rattle.workload.specs.laws.Fine.{part-fine}
+use Rattle.alignment_walk.specs.Steps.{nextRelease, waitFrom, extraDemand, NotesOf}
 use Rattle.alignment_walk.specs.laws.Parts.{next-late, lead, next-or-end}
-use Rattle.alignment_walk.specs.laws.Steps.{NotedTo, NotedFrom, note-none, note-more, note-left, note-all, work-split, extra-small, wait-rest, wait-next}
+use Rattle.alignment_walk.specs.laws.Steps.{NotedTo, NotedFrom, note-none, note-more, note-left, note-all, extra-small, wait-rest, wait-next}
 use Rattle.alignment_walk.proofs.visit.Statement.{statement}
 use Rattle.alignment_walk.proofs.visit.Tie as tie
 
 abbrev Inv-loop : tie.InvT-loop
-Inv-loop frames part gap a n end whole lengths periods rests waits₀ extra₀ least₀ i₀ waits extra least i =
-    Through (λ ms. sum (extraDemand a n) (framesIn (stored frames) ms)) _+_ part (sum (extraDemand a n) (framesIn (stored frames) part)) extra i
-    × Through (λ ms. lead (a + 1) end (framesIn (stored frames) ms)) (λ b. max (end - b)) part (lead (a + 1) end (framesIn (stored frames) part)) (a + least) i
+Inv-loop rows prepared part gap a n end notes waits₀ extra₀ least₀ i₀ waits extra least i =
+    Through (λ ms. sum (extraDemand a n) (framesIn (tableOf rows prepared) ms)) _+_ part (sum (extraDemand a n) (framesIn (tableOf rows prepared) part)) extra i
+    × Through (λ ms. lead (a + 1) end (framesIn (tableOf rows prepared) ms)) (λ b. max (end - b)) part (lead (a + 1) end (framesIn (tableOf rows prepared) part)) (a + least) i
     × (extra ≤ 400 * i) × (least ≤ end - a)
-    × NotedTo (waitFrom a (a + 1)) (stored frames) part waits i × NotedFrom (waitFrom (a - gap) a) (stored frames) part waits i
+    × NotedTo (waitFrom a (a + 1)) (tableOf rows prepared) part waits i × NotedFrom (waitFrom (a - gap) a) (tableOf rows prepared) part waits i
 
 abbrev μ-loop : tie.MeasureT-loop
-μ-loop frames part gap a n end whole lengths periods rests waits₀ extra₀ least₀ i₀ waits extra least i = length part - i
+μ-loop rows prepared part gap a n end notes waits₀ extra₀ least₀ i₀ waits extra least i = length part - i
 
 sub-least : tie.Need-sub-least Inv-loop μ-loop
 sub-least c = search needs
 
 loop-holds : tie.Need-loop-holds Inv-loop μ-loop
 loop-holds c =
-    let s = c .before .before in
+    let s = c .before .before .before in
     let none : s .args .end - (s .args .a + (s .args .end - s .args .a)) ≡ 0 = omega (arith, s .pre .1 .0) in (
       through-start _ _ _ _ (zero-add _),
       through-start _ _ _ _ (rw none (zero-max _)),
       omega arith,
       omega arith,
-      note-none (s .pre .1 .1 .1 .1 .1 .1 .size),
-      record { each = λ j late l. s .pre .1 .1 .1 .1 .1 .1 .each j l },
+      note-none (s .pre .1 .1 .1 .size),
+      record { each = λ j late l. s .pre .1 .1 .1 .each j l },
     )
+
+-- the frame of the row
+abbrev frame : (c : tie.In-loop Inv-loop μ-loop) → Frame
+frame c = let s = c .before .before .before .before .before in row (tableOf (s .args .rows .now) (s .args .prepared .now)) (getD (s .args .part .now) (c .before .loop .i) 0)
+
+-- it is within its limits
+fine : (c : tie.In-loop Inv-loop μ-loop) → Fine (frame c)
+fine c = part-fine (c .before .before .before .before .before .pre .0) (c .loop-test .taken) refl
+
+-- and one of 64
+few : (c : tie.In-loop Inv-loop μ-loop) → c .before .loop .i + 1 ≤ 64
+few c = omega (arith, c .loop-test .taken, c .before .before .before .before .before .pre .0 .few)
+
+-- what is noted of it
+notes : (c : tie.In-loop Inv-loop μ-loop) → NotesOf (c .before .before .before .before .before .args .n) (frame c) (c .before .before .before .before .before .args .notes .now) (c .before .loop .i)
+notes c = c .before .before .before .before .before .pre .1 .1 .0 .each (c .before .loop .i) (c .loop-test .taken)
+
+-- how long it is waited for from the last alignment
+noted : (c : tie.In-loop Inv-loop μ-loop) → let a = c .before .before .before .before .before .args in getD (c .before .loop .waits) (c .before .loop .i) 0 ≡ waitFrom (a .a - a .gap) (a .a) (frame c)
+noted c = c .before .loop .inv .5 .each (c .before .loop .i) (omega arith) (c .loop-test .taken)
+
+-- and from this one
+waited : (c : tie.In-loop Inv-loop μ-loop) → let a = c .before .before .before .before .before .args in getD (c .before .loop .waits) (c .before .loop .i) 0 - a .gap ≡ waitFrom (a .a) (a .a) (frame c)
+waited c = omega (arith, noted c, next-late (fine c) (c .before .before .before .before .before .args .a), c .before .before .before .before .before .pre .1 .0)
+
+mul-at : tie.Need-mul-at Inv-loop μ-loop
+mul-at c = omega (arith, few (c))
 
 mul-wait : tie.Need-mul-wait Inv-loop μ-loop
 mul-wait c = search needs
@@ -49,26 +75,13 @@ mul-wait c = search needs
 element-copy-out-wait : tie.Need-element-copy-out-wait Inv-loop μ-loop
 element-copy-out-wait c = search needs
 
--- the frame of the row
-abbrev frame : (c : tie.In-loop Inv-loop μ-loop) → Frame
-frame c = let s = c .before .before .before .before in row (stored (s .args .frames .now)) (getD (s .args .part .now) (c .before .loop .i) 0)
-
--- it is within its limits
-fine : (c : tie.In-loop Inv-loop μ-loop) → Fine (frame c)
-fine c = part-fine (c .before .before .before .before .pre .0) (c .loop-test .taken) refl
-
--- how long it is waited for from the last alignment
-noted : (c : tie.In-loop Inv-loop μ-loop) → let a = c .before .before .before .before .args in getD (c .before .loop .waits) (c .before .loop .i) 0 ≡ waitFrom (a .a - a .gap) (a .a) (frame c)
-noted c = c .before .loop .inv .5 .each (c .before .loop .i) (omega arith) (c .loop-test .taken)
-
--- and from this one
-waited : (c : tie.In-loop Inv-loop μ-loop) → let a = c .before .before .before .before .args in getD (c .before .loop .waits) (c .before .loop .i) 0 - a .gap ≡ waitFrom (a .a) (a .a) (frame c)
-waited c = omega (arith, noted c, next-late (fine c) (c .before .before .before .before .args .a), c .before .before .before .before .pre .1 .0)
-
 sub-wait : tie.Need-sub-wait Inv-loop μ-loop
 sub-wait c =
     let i = c .before in
-    omega (arith, noted i, next-late (fine i) (c .before .before .before .before .before .args .a), c .before .before .before .before .before .pre .1 .0)
+    omega (arith, noted i, next-late (fine i) (c .before .before .before .before .before .before .args .a), c .before .before .before .before .before .before .pre .1 .0)
+
+add-in-rest : tie.Need-add-in-rest Inv-loop μ-loop
+add-in-rest c = search needs
 
 mul-in-rest : tie.Need-mul-in-rest Inv-loop μ-loop
 mul-in-rest c = search needs
@@ -86,18 +99,18 @@ in-rest-requires : tie.Need-in-rest-requires Inv-loop μ-loop
 in-rest-requires c κs = search needs
 
 -- what the rest asks for
-extra : (c : tie.After-in-rest Inv-loop μ-loop) → let i = c .before .before .before .before in let s = c .before .before .before .before .before .before .before .before in (c .in-rest .result ≡ extraDemand (s .args .a) (s .args .n) (frame i)) × (c .in-rest .result ≤ 400)
+extra : (c : tie.After-in-rest Inv-loop μ-loop) → let i = c .before .before .before .before in let s = c .before .before .before .before .before .before .before .before .before in (c .in-rest .result ≡ extraDemand (s .args .a) (s .args .n) (frame i)) × (c .in-rest .result ≤ 400)
 extra c =
     let i = c .before .before .before .before in
-    let s = c .before .before .before .before .before .before .before .before in
-    let less = c .before .before .before .before .loop-test .taken in
-    let length-noted = s .pre .1 .1 .1 .0 .each (c .before .before .before .before .before .loop .i) less in
-    let rest-noted = s .pre .1 .1 .1 .1 .1 .0 .each (c .before .before .before .before .before .loop .i) less in
-    let is = rw (length-noted, rest-noted) at (c .in-rest .ensures) ∙ wait-rest (fine i) (s .args .a) (waited i) (s .args .n) in
+    let s = c .before .before .before .before .before .before .before .before .before in
+    let is = rw (notes i .length, notes i .rest) at (c .in-rest .ensures) ∙ wait-rest (fine i) (s .args .a) (waited i) (s .args .n) in
     (is, omega (arith, is, extra-small (fine i) (s .args .a) (s .args .n)))
 
 add-extra : tie.Need-add-extra Inv-loop μ-loop
-add-extra c = omega (arith, extra (c), c .before .before .before .before .before .loop .inv .2, c .before .before .before .before .before .loop .inv .0 .inside, c .before .before .before .before .before .before .before .before .pre .0 .few)
+add-extra c = omega (arith, extra (c), c .before .before .before .before .before .loop .inv .2, few (c .before .before .before .before))
+
+add-wait-after : tie.Need-add-wait-after Inv-loop μ-loop
+add-wait-after c = search needs
 
 mul-wait-after : tie.Need-mul-wait-after Inv-loop μ-loop
 mul-wait-after c = search needs
@@ -126,40 +139,32 @@ loop-less c = search needs
 loop-again : tie.Need-loop-again Inv-loop μ-loop
 loop-again c =
     let i = c .before .before .before .before .before .before .before in
-    let s = c .before .before .before .before .before .before .before .before .before .before .before in
+    let s = c .before .before .before .before .before .before .before .before .before .before .before .before in
     let l = c .before .before .before .before .before .before .before .before .loop in
     let less = c .before .before .before .before .before .before .before .loop-test .taken in
     let a = s .args in
     let asked = extra (c .before .before .before) in
-    let period-noted = s .pre .1 .1 .1 .1 .0 .each (l .i) less in
-    let later = rw period-noted at (c .before .wait-after .ensures) ∙ wait-next (fine i) (a .a) (waited i) in (
+    let later = rw (notes i .period) at (c .before .wait-after .ensures) ∙ wait-next (fine i) (a .a) (waited i) in (
       through-more _ _ _ _ 0 (l .inv .0) less
-          (λ ms. sum-more (extraDemand (a .a) (a .n)) (l .extra) _ (ap (λ (x : ℕ). l .extra + x) (asked .0)) (framesIn (stored (a .frames .now)) ms)),
+          (λ ms. sum-more (extraDemand (a .a) (a .n)) (l .extra) _ (ap (λ (x : ℕ). l .extra + x) (asked .0)) (framesIn (tableOf (a .rows .now) (a .prepared .now)) ms)),
       through-more _ _ _ _ 0 (l .inv .1) less
-          (λ ms. greatest-more (λ g. a .end - nextRelease (a .a + 1) g) (a .end - (a .a + l .least)) _ (omega (arith, c .lesser .ensures, later, next-late (fine i) (a .a + 1))) (framesIn (stored (a .frames .now)) ms)),
+          (λ ms. greatest-more (λ g. a .end - nextRelease (a .a + 1) g) (a .end - (a .a + l .least)) _ (omega (arith, c .lesser .ensures, later, next-late (fine i) (a .a + 1))) (framesIn (tableOf (a .rows .now) (a .prepared .now)) ms)),
       omega (arith, l .inv .2, asked .1),
       omega (arith, l .inv .3, c .lesser .ensures),
-      note-more _ (l .inv .4) (omega (arith, less, s .pre .0 .few)) later,
+      note-more _ (l .inv .4) (omega (arith, few i)) later,
       note-left _ (l .inv .5),
     )
-
-cast-t33 : tie.Need-cast-t33 Inv-loop μ-loop
-cast-t33 c = search needs
-
-add-t34 : tie.Need-add-t34 Inv-loop μ-loop
-add-t34 c = omega (arith, c .before .loop .inv .2, c .before .loop .inv .0 .inside, c .before .before .before .before .pre .0 .few, c .before .before .before .before .pre .1 .1 .0 .1)
 
 returns : tie.Need-returns Inv-loop μ-loop
 unfolding sum greatest
 returns c =
-    let s = c .before .before .before .before in
+    let s = c .before .before .before .before .before in
     let l = c .before .loop in
-    let over = c .loop-test .left in
-    let extra-all = sym (add-zero _) ∙ through-end _ _ _ _ (l .inv .0) over in (
-      ap (λ (x : ℕ). s .args .whole + x) extra-all ∙ ap (λ (x : ℕ). x + sum (extraDemand (s .args .a) (s .args .n)) (framesIn (stored (s .args .frames .now)) (s .args .part .now))) (s .pre .1 .1 .0 .0) ∙ work-split _ (s .pre .0 .fine) (s .args .a) (s .args .n),
+    let over = c .loop-test .left in (
+      sym (add-zero _) ∙ through-end _ _ _ _ (l .inv .0) over,
       (
-        next-or-end _ _ (s .pre .0) _ _ (sym (max-zero _) ∙ through-end _ _ _ _ (l .inv .1) over) (omega (arith, l .inv .3, s .pre .1 .0)),
-        ((omega (arith, l .inv .2, l .inv .0 .inside, s .pre .0 .few, s .pre .1 .1 .0 .1), l .inv .3), note-all (l .inv .4) over),
+        next-or-end _ _ _ (s .pre .0) _ _ (sym (max-zero _) ∙ through-end _ _ _ _ (l .inv .1) over) (omega (arith, l .inv .3, s .pre .1 .0)),
+        ((omega (arith, l .inv .2, l .inv .0 .inside, s .pre .0 .few), l .inv .3), note-all (l .inv .4) over),
       ),
     )
 
@@ -171,15 +176,18 @@ visit-spec =
     μ-loop
     sub-least
     loop-holds
+    mul-at
     mul-wait
     element-copy-out-wait
     sub-wait
+    add-in-rest
     mul-in-rest
     element-copy-out-in-rest
     mul-in-rest-2
     element-copy-out-in-rest-2
     in-rest-requires
     add-extra
+    add-wait-after
     mul-wait-after
     element-copy-out-wait-after
     wait-after-requires
@@ -189,6 +197,4 @@ visit-spec =
     add-i
     loop-less
     loop-again
-    cast-t33
-    add-t34
     returns)

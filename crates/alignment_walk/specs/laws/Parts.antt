@@ -19,9 +19,9 @@ use Rattle.arith.specs.declared.Found.{Found}
 use Rattle.arith.specs.declared.Found.the-variants.{At, Nothing}
 use Rattle.bus_model.specs.declared.Frame.{Frame}
 use Rattle.bus_model.specs.Bounds.{phase, isReleasedAt, distance, orEmpty}
-use Rattle.bus_model.specs.theory.Frames.{phase-rest, phase-fits}
+use Rattle.bus_model.specs.theory.Frames.{phase-fits}
 use Rattle.bus_model.specs.theory.Alignment.{released-at, released-turn, distance-lt, distance-reaches}
-use Rattle.workload.specs.ByGroup.{Fine, FinePart, framesIn, isInstant, orEnd}
+use Rattle.workload.specs.Prepared.{Fine, FinePart, framesIn, tableOf, isInstant, orEnd}
 use Rattle.workload.specs.laws.Fine.{of-fine}
 use Rattle.alignment_walk.specs.Steps.{nextRelease, waitFrom}
 
@@ -70,19 +70,22 @@ module _ {g : Frame} (fine : Fine g) where
       let rest = rw here at (next-rest a) in
       next-within (a + 1) (a + g .period) (omega (arith, fine .period-low)) (omega arith) (add-mod-right a (g .period) ∙ rest)
 
-  -- The very first is at the offset.
-  pub next-offset : g .offset ≡ nextRelease 0 g
-  next-offset = next-within 0 (g .offset) (omega arith) (omega (arith, fine .offset)) (phase-rest g)
+  -- The very first is at the phase.
+  pub next-phase : phase g ≡ nextRelease 0 g
+  next-phase = next-within 0 (phase g) (omega arith) (omega (arith, phase-fits (of-fine fine))) (mod-eq-of-lt (phase-fits (of-fine fine)))
 
   -- It is waited for from a tick before it.
-  pub wait-first : (a : ℕ) → a ≤ g .offset → g .offset - a ≡ waitFrom a a g
-  wait-first a inside = ap (λ (x : ℕ). x - a) (next-offset ∙ next-stays 0 a (omega arith) (omega (arith, next-offset)))
+  pub wait-first : (a : ℕ) → a ≤ phase g → phase g - a ≡ waitFrom a a g
+  wait-first a inside = ap (λ (x : ℕ). x - a) (next-phase ∙ next-stays 0 a (omega arith) (omega (arith, next-phase)))
 
 -- how long before e that is, for the frame that is released first
 abbrev pub lead : ℕ → ℕ → List Frame → ℕ
 lead a e = greatest (λ g. e - nextRelease a g)
 
-module _ (fs : List Frame) (part : List ℕ) (fine : FinePart fs part) (a e : ℕ) where
+module _ (rows p part : List ℕ) (fine : FinePart rows p part) (a e : ℕ) where
+  abbrev fs : List Frame
+  fs = tableOf rows p
+
   -- No instant at a or later comes before that release.
   none-before : {best m : ℕ} → e - best ≡ lead a e (framesIn fs part) → a ≤ m → m < best → m < e → ¬ T (isInstant (framesIn fs part) m)
   none-before {best} {m} is low less inside t =

@@ -1,5 +1,5 @@
 -- A walk along the alignments of a group: the demand of the whole periods and of their rest, and what is noted of each frame.
-use Prim.Native.Nat.{ℕ, _+_, _-_, _/_, _%_, _≤_, _<_}
+use Prim.Native.Nat.{ℕ, _+_, _-_, _*_, _/_, _%_, _≤_, _<_}
 use mathlib.Core.Path.{_≡_, refl, ap, _∙_}
 use mathlib.Core.Bool.{Bool, true, false, cond}
 use mathlib.Core.List.{List, [], _∷_, List·Memᴰ as Mem, List·Memᴰ·head as here, List·Memᴰ·tail as there, Memᴰ·map}
@@ -20,12 +20,12 @@ use Rattle.arith.specs.laws.Least.{least-within, least-le}
 use Rattle.arith.specs.laws.Releases.{counted, count-le, next-after}
 use Rattle.bus_model.specs.declared.Frame.{Frame}
 use Rattle.bus_model.specs.Frame.{row}
-use Rattle.bus_model.specs.Bounds.{isReleasedAt, distance, demand, workAt}
+use Rattle.bus_model.specs.Bounds.{phase, isReleasedAt, distance, demand, workAt}
 use Rattle.bus_model.specs.theory.Alignment.{distance-lt}
-use Rattle.workload.specs.ByGroup.{Fine, FinePart, framesIn, isInstant}
-use Rattle.alignment_walk.specs.Steps.{nextRelease, waitFrom, restOf, wholeDemand, extraDemand, Noted}
+use Rattle.workload.specs.Prepared.{Fine, FinePart, framesIn, tableOf, isInstant}
+use Rattle.alignment_walk.specs.Steps.{nextRelease, waitFrom, restOf, wholeDemand, extraDemand, NotesOf, Notes, Noted}
 use Rattle.workload.specs.laws.Fine.{of-fine}
-use Rattle.alignment_walk.specs.laws.Parts.{next-released, next-late, next-distance, next-stays, next-period, next-offset}
+use Rattle.alignment_walk.specs.laws.Parts.{next-released, next-late, next-distance, next-stays, next-period, next-phase}
 
 -- ---- the demand
 
@@ -126,9 +126,48 @@ module _ {f : Frame → ℕ} {fs : List Frame} {part area : List ℕ} where
   pub note-all : {i : ℕ} → NotedTo f fs part area i → length part ≤ i → Noted f fs part area
   note-all all over = record { size = all .size; each = λ j l. all .each j (omega arith) }
 
+-- the first i places of an area of three numbers a place are noted
+pub record NotesTo (n : ℕ) (fs : List Frame) (part area : List ℕ) (i : ℕ) : Type 0 where
+  pub size : length area ≡ 192
+  pub each : (j : ℕ) → j < i → NotesOf n (row fs (getD part j 0)) area j
+
+module _ {n : ℕ} {fs : List Frame} {part area : List ℕ} where
+  pub notes-none : length area ≡ 192 → NotesTo n fs part area 0
+  notes-none size = record { size = size; each = λ j l. absurd (omega arith) }
+
+  pub notes-more : {i : ℕ} → NotesTo n fs part area i → i < 64 → {g : Frame} → g ≡ row fs (getD part i 0) → {rest : ℕ} → rest ≡ restOf n g
+      → NotesTo n fs part (set (set (set area (3 * i) (g .length)) (3 * i + 1) (g .period)) (3 * i + 2) rest) (i + 1)
+  notes-more {i} all inside {g} is {rest} rests =
+      let one = set area (3 * i) (g .length) in
+      let two = set one (3 * i + 1) (g .period) in
+      let size-one : length one ≡ 192 = length-set area (3 * i) (g .length) ∙ all .size in
+      let size-two : length two ≡ 192 = length-set one (3 * i + 1) (g .period) ∙ size-one in
+      let stays : (m : ℕ) → m < 3 * i → getD (set two (3 * i + 2) rest) m 0 ≡ getD area m 0 =
+      λ m l. getD-set-other two (3 * i + 2) m rest 0 (omega arith) ∙ getD-set-other one (3 * i + 1) m (g .period) 0 (omega arith) ∙ getD-set-other area (3 * i) m (g .length) 0 (omega arith) in
+      record {
+        size = length-set two (3 * i + 2) rest ∙ size-two;
+        each = below-more _ _
+            (λ j l. let o = all .each j l in record {
+              length = stays (3 * j) (omega arith) ∙ o .length;
+              period = stays (3 * j + 1) (omega arith) ∙ o .period;
+              rest = stays (3 * j + 2) (omega arith) ∙ o .rest;
+            })
+            (record {
+              length = getD-set-other two (3 * i + 2) (3 * i) rest 0 (omega arith) ∙ getD-set-other one (3 * i + 1) (3 * i) (g .period) 0 (omega arith) ∙ getD-set-same area (3 * i) (g .length) 0 (omega (arith, all .size)) ∙ ap (λ (x : Frame). x .length) is;
+              period = getD-set-other two (3 * i + 2) (3 * i + 1) rest 0 (omega arith) ∙ getD-set-same one (3 * i + 1) (g .period) 0 (omega arith) ∙ ap (λ (x : Frame). x .period) is;
+              rest = getD-set-same two (3 * i + 2) rest 0 (omega arith) ∙ rests ∙ ap (restOf n) is;
+            });
+      }
+
+  pub notes-all : {i : ℕ} → NotesTo n fs part area i → length part ≤ i → Notes n fs part area
+  notes-all all over = record { size = all .size; each = λ j l. all .each j (omega arith) }
+
 -- ---- the next alignment
 
-module _ {fs : List Frame} {part : List ℕ} (fine : FinePart fs part) (a e : ℕ) {b : ℕ} (found : least (isInstant (framesIn fs part)) (e - a) a ≡ At b) where
+module _ {rows p part : List ℕ} (fine : FinePart rows p part) (a e : ℕ) {b : ℕ} (found : least (isInstant (framesIn (tableOf rows p) part)) (e - a) a ≡ At b) where
+  abbrev fs : List Frame
+  fs = tableOf rows p
+
   -- No frame is released between a and the next alignment,
   next-inside : {g : Frame} → Mem g (framesIn fs part) → b ≤ nextRelease a g
   next-inside {g} m = least-le _ _ _ _ _ found (next-late (fine .fine g m) a) (exists-mem (isReleasedAt (nextRelease a g)) m (next-released (fine .fine g m) a))
@@ -143,7 +182,7 @@ module _ {fs : List Frame} {part : List ℕ} (fine : FinePart fs part) (a e : �
         noted .each i l ∙ ap (λ (t : ℕ). t - last) (next-stays (fine .fine _ m) a b low (next-inside m));
   }
 
--- No offset is before the first alignment.
-pub offset-late : {fs : List Frame} {part : List ℕ} (fine : FinePart fs part) (e : ℕ) {b : ℕ} → least (isInstant (framesIn fs part)) (e - 0) 0 ≡ At b
-    → (g : Frame) → Mem g (framesIn fs part) → b ≤ g .offset
-offset-late fine e found g m = omega (arith, next-inside fine 0 e found m, next-offset (fine .fine g m))
+-- No frame is released before the first alignment.
+pub phase-late : {rows p part : List ℕ} (fine : FinePart rows p part) (e : ℕ) {b : ℕ} → least (isInstant (framesIn (tableOf rows p) part)) (e - 0) 0 ≡ At b
+    → (g : Frame) → Mem g (framesIn (tableOf rows p) part) → b ≤ phase g
+phase-late fine e found g m = omega (arith, next-inside fine 0 e found m, next-phase (fine .fine g m))

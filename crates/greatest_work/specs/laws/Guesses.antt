@@ -12,9 +12,8 @@ use Rattle.bus_model.specs.declared.Choice.{Choice}
 use Rattle.bus_model.specs.declared.Choice.the-variants.{Fixed}
 use Rattle.bus_model.specs.Bounds.{groups, alignments}
 use Rattle.bus_model.specs.theory.Work.{Allows, RefinedBy}
-use Rattle.workload.specs.ByGroup.{ByGroup}
-use Rattle.workload.specs.Laid.{AllFixed}
-use Rattle.workload.specs.laws.Groups.{lent-choice}
+use Rattle.workload.specs.Placed.{AllFixed}
+use Rattle.workload.specs.laws.Groups.{read-choice}
 
 -- the choices of the first m groups are allowed by those given, and fixed
 pub record AllowedTo (fs : List Frame) (k : Frame) (cs cs′ : List Choice) (m : ℕ) : Type 0 where
@@ -36,16 +35,16 @@ module _ {fs : List Frame} {k : Frame} {cs cs′ : List Choice} {m : ℕ} (b : A
   }
 
   -- At the end they refine the scenario,
-  pub allowed-all : {members counts ends : List ℕ} → ByGroup fs k members counts ends → 16 ≤ m → length cs ≡ 16 → RefinedBy fs k cs cs′
-  allowed-all by-group over all j l =
+  pub allowed-all : 16 ≤ m → length cs ≡ 16 → RefinedBy fs k cs cs′
+  allowed-all over all j l =
       let (low, high) = of-range 1 groups l in
       let group : j - 1 + 1 ≡ j = omega arith in
       let inside : j - 1 < 16 = omega arith in
-      rw (lent-choice by-group (j - 1) inside cs all, lent-choice by-group (j - 1) inside cs′ (b .size), group) at (b .each (j - 1) (omega arith))
+      rw (read-choice (j - 1) inside cs all, read-choice (j - 1) inside cs′ (b .size), group) at (b .each (j - 1) (omega arith))
 
   -- and every group's alignment is fixed.
-  pub fixed-all : {members counts ends : List ℕ} → ByGroup fs k members counts ends → 16 ≤ m → AllFixed cs′
-  fixed-all by-group over j l =
+  pub fixed-all : 16 ≤ m → AllFixed cs′
+  fixed-all over j l =
       let (low, high) = of-range 1 groups l in
       let group : j - 1 + 1 ≡ j = omega arith in
-      rw (lent-choice by-group (j - 1) (omega arith) cs′ (b .size), group) at (b .fixed (j - 1) (omega arith))
+      rw (read-choice (j - 1) (omega arith) cs′ (b .size), group) at (b .fixed (j - 1) (omega arith))

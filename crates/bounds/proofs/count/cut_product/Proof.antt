@@ -28,4 +28,11 @@ returns-2 c = search needs
 
 pub cut-product-spec : {M : Type 1} → statement M
 cut-product-spec =
-    tie.close (tie.spec mul-product cast-if1 add-result cast-result returns returns-2)
+    tie.close
+    (tie.spec
+    mul-product
+    cast-if1
+    add-result
+    cast-result
+    returns
+    returns-2)

@@ -4,16 +4,16 @@ use mathlib.Core.Path.{_≡_}
 use native.Mathlib.Omega.{arith}
 use borrow.Author.Needs.{needs}
 use lib.ListN.{length}
-use Rattle.workload.specs.Stored.{stored}
+use Rattle.workload.specs.Prepared.{tableOf}
 use Rattle.greatest_work.specs.laws.Guesses.{AllowedTo, allowed-put, allowed-all, fixed-all}
 use Rattle.greatest_work.proofs.guesses.guessed.Statement.{statement}
 use Rattle.greatest_work.proofs.guesses.guessed.Tie as tie
 
 abbrev Inv-loop : tie.InvT-loop
-Inv-loop frames members counts ends k sums choices fixed₀ j₀ fixed j = AllowedTo (stored frames) k choices fixed j
+Inv-loop rows prepared target memory choices fixed₀ j₀ fixed j = AllowedTo (tableOf rows prepared) (target .frame) choices fixed j
 
 abbrev μ-loop : tie.MeasureT-loop
-μ-loop frames members counts ends k sums choices fixed₀ j₀ fixed j = 16 - j
+μ-loop rows prepared target memory choices fixed₀ j₀ fixed j = 16 - j
 
 loop-holds : tie.Need-loop-holds Inv-loop μ-loop
 loop-holds c = record { size = search needs; each = λ i l. absurd (omega arith); fixed = λ i l. absurd (omega arith) }
@@ -25,9 +25,7 @@ array-copy-out-choice : tie.Need-array-copy-out-choice Inv-loop μ-loop
 array-copy-out-choice c = search needs
 
 guessed-choice-requires : tie.Need-guessed-choice-requires Inv-loop μ-loop
-guessed-choice-requires c κs =
-    let s = c .before .before .before .before .before .before .before .before in
-    (s .pre .0, (s .pre .1 .0, (c .before .loop-test .taken, s .pre .1 .1)))
+guessed-choice-requires c κs = search needs
 
 mul-fixed : tie.Need-mul-fixed Inv-loop μ-loop
 mul-fixed c = search needs
@@ -46,9 +44,9 @@ loop-again c = allowed-put (c .before .before .before .loop .inv) (c .before .be
 
 returns : tie.Need-returns Inv-loop μ-loop
 returns c =
-    let s = c .before .before .before .before .before .before .before in
-    let size : length (s .args .t6) ≡ 16 = search needs in
-    (allowed-all (c .before .loop .inv) (s .pre .1 .0) (c .loop-test .left) size, fixed-all (c .before .loop .inv) (s .pre .1 .0) (c .loop-test .left))
+    let s = c .before .before .before .before .before in
+    let size : length (s .args .t4) ≡ 16 = search needs in
+    (allowed-all (c .before .loop .inv) (c .loop-test .left) size, fixed-all (c .before .loop .inv) (c .loop-test .left))
 
 pub guessed-spec : {M : Type 1} → statement M
 guessed-spec =

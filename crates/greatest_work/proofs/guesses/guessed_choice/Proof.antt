@@ -24,4 +24,10 @@ returns-2 c = (rw (c .before .enum-told .given .1) (c .guess .ensures), (_, refl
 
 pub guessed-choice-spec : {M : Type 1} → statement M
 guessed-choice-spec =
-    tie.close (tie.spec enum-known-choice enum-told guess-requires returns returns-2)
+    tie.close
+    (tie.spec
+    enum-known-choice
+    enum-told
+    guess-requires
+    returns
+    returns-2)

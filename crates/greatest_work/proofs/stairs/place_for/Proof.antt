@@ -5,10 +5,10 @@ use Rattle.greatest_work.proofs.stairs.place_for.Statement.{statement}
 use Rattle.greatest_work.proofs.stairs.place_for.Tie as tie
 
 abbrev Inv-loop : tie.InvT-loop
-Inv-loop sums set j work i₀ i = Unit {0}
+Inv-loop memory set j work i₀ i = Unit {0}
 
 abbrev μ-loop : tie.MeasureT-loop
-μ-loop sums set j work i₀ i = 4 - i
+μ-loop memory set j work i₀ i = 4 - i
 
 loop-holds : tie.Need-loop-holds Inv-loop μ-loop
 loop-holds c = tt

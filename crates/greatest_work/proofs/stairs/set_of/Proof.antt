@@ -25,7 +25,7 @@ add-result : tie.Need-add-result
 add-result c =
     let s = c in
     let product : s .args .n * (8 * s .args .count) ≤ 1000001 * 512 = mul-le-mul {n₂ = 1000001} {m₂ = 512} (s .pre .2) (omega (arith, s .pre .1)) in
-    omega (arith, s .pre .0, div-le-self (s .args .n * (8 * s .args .count)) (s .args .end))
+    omega (arith, s .pre .0, div-le-self (s .args .n * (8 * s .args .count)) (s .args .cycle))
 
 returns : tie.Need-returns
 returns c = search needs

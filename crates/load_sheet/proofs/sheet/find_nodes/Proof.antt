@@ -1,9 +1,10 @@
 -- `load_sheet::sheet::find_nodes` meets its contract: the invariant has the nodes found and those still to come.
 use Prim.Native.Nat.{_-_}
 use mathlib.Core.Logic.{⊎-elim}
+use mathlib.Core.Path.{sym, _∙_}
 use native.Mathlib.Omega.{arith}
 use borrow.Author.Needs.{needs}
-use Rattle.arith.specs.laws.Gathering.{Gathered, gathered-none, gathered-put, gathered-skip, gathered-all}
+use Rattle.arith.specs.laws.Gathering.{Gathered, range-room, gathered-none, gathered-room, gathered-put, gathered-skip, gathered-all}
 use Rattle.load_sheet.specs.Sheet.{hasFrames, nodesOf}
 use Rattle.load_sheet.proofs.sheet.find_nodes.Statement.{statement}
 use Rattle.load_sheet.proofs.sheet.find_nodes.Tie as tie
@@ -15,7 +16,7 @@ abbrev μ-loop : tie.MeasureT-loop
 μ-loop rows nodes₀ found₀ node₀ nodes found node = 17 - node
 
 loop-holds : tie.Need-loop-holds Inv-loop μ-loop
-loop-holds c = gathered-none (c .before .before .pre) (omega arith) (omega arith)
+loop-holds c = gathered-none (c .before .before .pre) (omega arith) (range-room (hasFrames (c .before .before .args .rows .now)) 1 17 (omega arith))
 
 has-frames-requires : tie.Need-has-frames-requires Inv-loop μ-loop
 has-frames-requires c κs = search needs
@@ -24,7 +25,7 @@ mul-nodes : tie.Need-mul-nodes Inv-loop μ-loop
 mul-nodes c = search needs
 
 slice-write-nodes : tie.Need-slice-write-nodes Inv-loop μ-loop
-slice-write-nodes c = let g = c .before .before .before .loop .inv in omega (arith, g .whole, g .room, c .before .before .loop-test .taken)
+slice-write-nodes c = let g = c .before .before .before .loop .inv in omega (arith, g .whole, gathered-room g (omega (arith, c .before .before .loop-test .taken)) (sym (c .before .has-frames .ensures) ∙ c .if1 .taken))
 
 add-found : tie.Need-add-found Inv-loop μ-loop
 add-found c = search needs

@@ -1,24 +1,25 @@
--- `workload::groups::by_group` meets its contract: the invariant has the groups done.
+-- `workload::groups::by_group` meets its contract: the invariant has the groups that are listed.
 use borrow.Author.Needs.{needs}
-use borrow.Rule.Slice.PartMut.{mid-len}
-use Prim.Native.Nat.{ℕ, _+_, _*_, _-_}
-use mathlib.Core.Path.{_≡_, _∙_, refl}
+use borrow.Rule.Slice.PartMut.{putMid, mid-len, same-len-mid}
+use Prim.Native.Nat.{ℕ, _+_, _*_, _-_, _≤_}
+use mathlib.Core.Path.{_≡_, _∙_, refl, sym}
 use native.Mathlib.Omega.{arith}
-use Rattle.workload.specs.Stored.{stored}
-use Rattle.workload.specs.laws.Groups.{counted-turn, FilledTo, filled-more, filled-all}
+use lib.ListN.{length, length-set}
+use Rattle.bus_model.specs.Pattern.{ofGroup}
+use Rattle.bus_model.specs.Bounds.{ahead}
+use Rattle.table_checks.specs.Frames.{framesOf}
+use Rattle.workload.specs.laws.Groups.{before-none, counted-turn, counted-whole, ListedTo, listed-room, listed-more, listed-all}
 use Rattle.workload.proofs.groups.by_group.Statement.{statement}
 use Rattle.workload.proofs.groups.by_group.Tie as tie
 
 abbrev Inv-loop : tie.InvT-loop
-Inv-loop frames k members₀ counts₀ ends₀ j₀ members counts ends j = FilledTo (stored frames) k members counts ends j
+Inv-loop lengths rows k lists₀ listed₀ j₀ lists listed j = ListedTo (framesOf lengths rows) k lists listed j
 
 abbrev μ-loop : tie.MeasureT-loop
-μ-loop frames k members₀ counts₀ ends₀ j₀ members counts ends j = 16 - j
+μ-loop lengths rows k lists₀ listed₀ j₀ lists listed j = 16 - j
 
 loop-holds : tie.Need-loop-holds Inv-loop μ-loop
-loop-holds c =
-    let s = c .before .before .before .before in
-    record { members-size = s .pre .1 .0; counts-size = s .pre .1 .1; ends-size = s .pre .1 .2; each = λ i l. absurd (omega arith) }
+loop-holds c = let s = c .before .before in record { size = s .pre .1; count = sym (before-none (s .pre .0) (s .args .k)); each = λ i l. absurd (omega arith) }
 
 add-group : tie.Need-add-group Inv-loop μ-loop
 add-group c = search needs
@@ -26,43 +27,86 @@ add-group c = search needs
 cast-group : tie.Need-cast-group Inv-loop μ-loop
 cast-group c = search needs
 
-mul-from : tie.Need-mul-from Inv-loop μ-loop
-mul-from c = search needs
+-- the next group's rows find room
+room : (c : tie.In-loop Inv-loop μ-loop) → c .before .loop .listed + length (ofGroup (ahead (framesOf (c .before .before .before .before .args .lengths) (c .before .before .before .before .args .rows .now)) (c .before .before .before .before .args .k)) (c .before .loop .j + 1)) ≤ 64
+room c = listed-room (c .before .before .before .before .pre .0) _ (c .before .loop .inv)
 
-add-to : tie.Need-add-to Inv-loop μ-loop
-add-to c = search needs
+add-from : tie.Need-add-from Inv-loop μ-loop
+add-from c = omega (arith, room c)
+
+mul-gather : tie.Need-mul-gather Inv-loop μ-loop
+mul-gather c = omega (arith, room (c))
 
 sub-gather : tie.Need-sub-gather Inv-loop μ-loop
-sub-gather c = search needs
+sub-gather c = omega (arith, room (c))
 
 part-gather-start : tie.Need-part-gather-start Inv-loop μ-loop
-part-gather-start c = search needs
+part-gather-start c = omega (arith, room (c))
 
 part-gather-end : tie.Need-part-gather-end Inv-loop μ-loop
-part-gather-end c = search needs
+part-gather-end c = omega (arith, c .before .loop .inv .size)
 
 gather-requires : tie.Need-gather-requires Inv-loop μ-loop
 gather-requires c κs =
-    let at-loop = c .before .before in
-    let s = at-loop .before .before .before .before .before in
-    let n : ℕ = 64 * at-loop .loop .j in
-    let size : n + 64 - n ≡ 64 = omega arith in
-    (s .pre .0 .few, mid-len n (n + 64) (at-loop .loop .members) (omega (arith, at-loop .loop .inv .members-size, c .before .loop-test .taken)) ∙ size)
-
-mul-counts : tie.Need-mul-counts Inv-loop μ-loop
-mul-counts c = search needs
-
-slice-write-counts : tie.Need-slice-write-counts Inv-loop μ-loop
-slice-write-counts c = search needs
+    let s = c .before .before .before .before .before in
+    let r = room (c .before) in
+    let n : ℕ = 64 + c .before .before .loop .listed in
+    (s .pre .0 .few, omega (arith, r, mid-len n 128 (c .before .before .loop .lists) (omega (arith, c .before .before .loop .inv .size, r))))
 
 common-multiple-requires : tie.Need-common-multiple-requires Inv-loop μ-loop
 common-multiple-requires c κs = search needs
 
-mul-ends : tie.Need-mul-ends Inv-loop μ-loop
-mul-ends c = search needs
+common-multiple-requires-2 : tie.Need-common-multiple-requires-2 Inv-loop μ-loop
+common-multiple-requires-2 c κs = search needs
 
-slice-write-ends : tie.Need-slice-write-ends Inv-loop μ-loop
-slice-write-ends c = search needs
+mul-at : tie.Need-mul-at Inv-loop μ-loop
+mul-at c = search needs
+
+-- the area stays as long as it is
+size : (c : tie.After-gather Inv-loop μ-loop) → let n : ℕ = 64 + c .before .before .before .loop .listed in length (putMid n (128 - n) (c .before .before .before .loop .lists) (c .gather .last .1 .1 .1 .1 .0)) ≡ 128
+size c = let n : ℕ = 64 + c .before .before .before .loop .listed in same-len-mid n (128 - n) (c .before .before .before .loop .lists) (c .gather .last .1 .1 .1 .1 .0) (c .gather .kept .1 .1 .1 .1 .0) ∙ c .before .before .before .loop .inv .size
+
+cast-lists : tie.Need-cast-lists Inv-loop μ-loop
+cast-lists c = omega (arith, room (c .before .before .before .before .before .before))
+
+mul-lists : tie.Need-mul-lists Inv-loop μ-loop
+mul-lists c = search needs
+
+slice-write-lists : tie.Need-slice-write-lists Inv-loop μ-loop
+slice-write-lists c = omega (arith, size (c .before .before .before .before), c .before .before .before .before .before .before .loop-test .taken)
+
+cast-lists-2 : tie.Need-cast-lists-2 Inv-loop μ-loop
+cast-lists-2 c = omega (arith, room (c .before .before .before .before .before .before), c .before .before .before .before .gather .ensures .1)
+
+add-lists : tie.Need-add-lists Inv-loop μ-loop
+add-lists c = search needs
+
+mul-lists-2 : tie.Need-mul-lists-2 Inv-loop μ-loop
+mul-lists-2 c = search needs
+
+slice-write-lists-2 : tie.Need-slice-write-lists-2 Inv-loop μ-loop
+slice-write-lists-2 c = simp length-set (omega (arith, size (c .before .before .before .before), c .before .before .before .before .before .before .loop-test .taken))
+
+add-lists-2 : tie.Need-add-lists-2 Inv-loop μ-loop
+add-lists-2 c = search needs
+
+mul-lists-3 : tie.Need-mul-lists-3 Inv-loop μ-loop
+mul-lists-3 c = search needs
+
+slice-write-lists-3 : tie.Need-slice-write-lists-3 Inv-loop μ-loop
+slice-write-lists-3 c = simp length-set (omega (arith, size (c .before .before .before .before), c .before .before .before .before .before .before .loop-test .taken))
+
+add-lists-3 : tie.Need-add-lists-3 Inv-loop μ-loop
+add-lists-3 c = search needs
+
+mul-lists-4 : tie.Need-mul-lists-4 Inv-loop μ-loop
+mul-lists-4 c = search needs
+
+slice-write-lists-4 : tie.Need-slice-write-lists-4 Inv-loop μ-loop
+slice-write-lists-4 c = simp length-set (omega (arith, size (c .before .before .before .before), c .before .before .before .before .before .before .loop-test .taken))
+
+add-listed : tie.Need-add-listed Inv-loop μ-loop
+add-listed c = omega (arith, room (c .before .before .before .before .before .before), c .before .before .before .before .gather .ensures .1)
 
 add-j : tie.Need-add-j Inv-loop μ-loop
 add-j c = search needs
@@ -72,22 +116,16 @@ loop-less c = search needs
 
 loop-again : tie.Need-loop-again Inv-loop μ-loop
 loop-again c =
-    let at-loop = c .before .before .before .before .before .before in
-    let g = c .before .before .before .gather in
-    filled-more _ (g .result) (c .common-multiple .result) _ _ (g .last .1 .1 .1 .0) (at-loop .loop .inv) (c .before .before .before .before .before .loop-test .taken) refl refl
-    (g .kept .1 .1 .1 .0) (g .ensures .1) (g .ensures .0) (c .common-multiple .ensures ∙ counted-turn _ _ _)
+    let s = c .before .before .before .before .before .before .before .before .before .before in
+    let g = c .before .before .before .before .gather in
+    listed-more (s .pre .0) _ (g .result) (c .before .common-multiple .result) (c .common-multiple2 .result) _ (g .last .1 .1 .1 .1 .0) (c .before .before .before .before .before .before .before .loop .inv) (c .before .before .before .before .before .before .loop-test .taken) refl
+    (g .kept .1 .1 .1 .1 .0) (g .ensures .0) (g .ensures .1) (c .before .common-multiple .ensures ∙ counted-turn _ _ _) (c .common-multiple2 .ensures ∙ counted-whole _ (s .args .k) _)
 
 same-length : tie.Need-same-length Inv-loop μ-loop
 same-length c = search needs
 
-same-length-2 : tie.Need-same-length-2 Inv-loop μ-loop
-same-length-2 c = search needs
-
-same-length-3 : tie.Need-same-length-3 Inv-loop μ-loop
-same-length-3 c = search needs
-
 returns : tie.Need-returns Inv-loop μ-loop
-returns c = filled-all _ (c .before .loop .inv) (c .loop-test .left)
+returns c = listed-all (c .before .before .before .before .pre .0) _ (c .before .loop .inv) (c .loop-test .left)
 
 pub by-group-spec : {M : Type 1} → statement M
 by-group-spec =
@@ -98,21 +136,31 @@ by-group-spec =
     loop-holds
     add-group
     cast-group
-    mul-from
-    add-to
+    add-from
+    mul-gather
     sub-gather
     part-gather-start
     part-gather-end
     gather-requires
-    mul-counts
-    slice-write-counts
     common-multiple-requires
-    mul-ends
-    slice-write-ends
+    common-multiple-requires-2
+    mul-at
+    cast-lists
+    mul-lists
+    slice-write-lists
+    cast-lists-2
+    add-lists
+    mul-lists-2
+    slice-write-lists-2
+    add-lists-2
+    mul-lists-3
+    slice-write-lists-3
+    add-lists-3
+    mul-lists-4
+    slice-write-lists-4
+    add-listed
     add-j
     loop-less
     loop-again
     same-length
-    same-length-2
-    same-length-3
     returns)

@@ -11,29 +11,27 @@ use Rattle.arith.specs.laws.Walks.{Down, down-end}
 use Rattle.bus_model.specs.declared.Frame.{Frame}
 use Rattle.bus_model.specs.Frame.{row}
 use Rattle.bus_model.specs.theory.Hyperperiod.{commonOf, joinBy, common-none, common-more, common-le}
-use Rattle.workload.specs.Stored.{stored}
-use Rattle.workload.specs.ByGroup.{FineTable, isCounted}
+use Rattle.table_checks.specs.Frames.{framesOf}
+use Rattle.table_checks.specs.laws.Accepted.{length-frames}
+use Rattle.workload.specs.Prepared.{FineTable, isCounted}
 use Rattle.workload.specs.laws.Groups.{counted-small}
 use Rattle.workload.proofs.groups.common_multiple.Statement.{statement}
 use Rattle.workload.proofs.groups.common_multiple.Tie as tie
 
 abbrev Inv-loop : tie.InvT-loop
-Inv-loop frames k group whole h₀ i₀ h i = Down (commonOf (isCounted whole k group)) (stored frames) h i × (1 ≤ h)
+Inv-loop lengths rows k group whole h₀ i₀ h i = Down (commonOf (isCounted whole k group)) (framesOf lengths rows) h i × (1 ≤ h)
 
 abbrev μ-loop : tie.MeasureT-loop
-μ-loop frames k group whole h₀ i₀ h i = i
-
-count-requires : tie.Need-count-requires Inv-loop μ-loop
-count-requires c κs = search needs
+μ-loop lengths rows k group whole h₀ i₀ h i = i
 
 loop-holds : tie.Need-loop-holds Inv-loop μ-loop
-loop-holds c = (subst (Down (commonOf _) _ 1) (sym (c .count .ensures)) (common-none _ _), search needs)
+loop-holds c = (subst (Down (commonOf _) _ 1) (length-frames _ _) (common-none _ _), search needs)
 
 sub-i : tie.Need-sub-i Inv-loop μ-loop
 sub-i c = search needs
 
-frame-at-requires : tie.Need-frame-at-requires Inv-loop μ-loop
-frame-at-requires c κs = search needs
+frame-requires : tie.Need-frame-requires Inv-loop μ-loop
+frame-requires c κs = search needs
 
 is-counted-requires : tie.Need-is-counted-requires Inv-loop μ-loop
 is-counted-requires c κs = search needs
@@ -48,12 +46,12 @@ joins p g h is = rw is
 joined-requires : tie.Need-joined-requires Inv-loop μ-loop
 joined-requires c κs =
     let l = c .before .before .before .loop in
-    let s = c .before .before .before .before .before .before in
+    let s = c .before .before .before .before .before in
     let (table, within) = s .pre in
-    let inside : l .i - 1 < length (stored (s .args .frames .now)) = omega (arith, l .inv .0 .inside, c .before .before .loop-test .taken) in
-    let m = common-more _ (isCounted (s .args .whole) (s .args .k) (s .args .group)) (periods table) (l .inv .0) (c .before .before .loop-test .taken) (c .before .frame-at .ensures) refl in
-    let same = joins (isCounted (s .args .whole) (s .args .k) (s .args .group)) (c .before .frame-at .result) (l .h) (c .is-counted .ensures) in
-    (l .inv .1, rw (c .before .frame-at .ensures) (table .fine (l .i - 1) inside .period-high), omega (arith, same, common-le _ _ (periods table) _ _ (m .0), counted-small table (s .args .k) (within .0) (within .1) (s .args .whole)))
+    let inside : l .i - 1 < length (framesOf (s .args .lengths) (s .args .rows .now)) = omega (arith, l .inv .0 .inside, c .before .before .loop-test .taken) in
+    let m = common-more _ (isCounted (s .args .whole) (s .args .k) (s .args .group)) (periods table) (l .inv .0) (c .before .before .loop-test .taken) (c .before .frame .ensures) refl in
+    let same = joins (isCounted (s .args .whole) (s .args .k) (s .args .group)) (c .before .frame .result) (l .h) (c .is-counted .ensures) in
+    (l .inv .1, rw (c .before .frame .ensures) (table .fine (l .i - 1) inside .period-high), omega (arith, same, common-le _ _ (periods table) _ _ (m .0), counted-small table (s .args .k) (within .0) (within .1) (s .args .whole)))
 
 loop-less : tie.Need-loop-less Inv-loop μ-loop
 loop-less c = search needs
@@ -61,8 +59,8 @@ loop-less c = search needs
 loop-again : tie.Need-loop-again Inv-loop μ-loop
 loop-again c =
     let l = c .before .before .before .before .loop in
-    let s = c .before .before .before .before .before .before .before in
-    let m = common-more _ (isCounted (s .args .whole) (s .args .k) (s .args .group)) (periods (s .pre .0)) (l .inv .0) (c .before .before .before .loop-test .taken) (c .before .before .frame-at .ensures) (c .joined .ensures ∙ joins (isCounted (s .args .whole) (s .args .k) (s .args .group)) (c .before .before .frame-at .result) (l .h) (c .before .is-counted .ensures)) in
+    let s = c .before .before .before .before .before .before in
+    let m = common-more _ (isCounted (s .args .whole) (s .args .k) (s .args .group)) (periods (s .pre .0)) (l .inv .0) (c .before .before .before .loop-test .taken) (c .before .before .frame .ensures) (c .joined .ensures ∙ joins (isCounted (s .args .whole) (s .args .k) (s .args .group)) (c .before .before .frame .result) (l .h) (c .before .is-counted .ensures)) in
     (m .0, omega (arith, m .1, l .inv .1))
 
 returns : tie.Need-returns Inv-loop μ-loop
@@ -74,10 +72,9 @@ common-multiple-spec =
     (tie.spec
     Inv-loop
     μ-loop
-    count-requires
     loop-holds
     sub-i
-    frame-at-requires
+    frame-requires
     is-counted-requires
     joined-requires
     loop-less

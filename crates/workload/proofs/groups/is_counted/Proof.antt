@@ -1,5 +1,5 @@
 use borrow.Author.Needs.{needs}
-use Rattle.workload.specs.ByGroup.{isCounted}
+use Rattle.workload.specs.Prepared.{isCounted}
 use Rattle.workload.proofs.groups.is_counted.Statement.{statement}
 use Rattle.workload.proofs.groups.is_counted.Tie as tie
 

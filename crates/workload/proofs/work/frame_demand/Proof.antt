@@ -1,4 +1,4 @@
--- The demand is that at the distance from the alignment, as it is defined.
+-- The demand from the frame's distance.
 use Prim.Native.Nat.{ℕ, _*_}
 use mathlib.Core.Path.{ap, _∙_}
 use borrow.Author.Needs.{needs}
@@ -11,7 +11,7 @@ distance-from-requires : tie.Need-distance-from-requires
 distance-from-requires c κs = search needs
 
 demand-from-requires : tie.Need-demand-from-requires
-demand-from-requires c κs = search needs
+demand-from-requires c κs = let s = c .before in (s .pre .0 .length-high, s .pre .0 .period-low, s .pre .0 .period-high, s .pre .1)
 
 returns : tie.Need-returns
 unfolding demand
@@ -20,4 +20,9 @@ returns c =
     (c .demand-from .ensures .0 ∙ ap (λ (d : ℕ). a .g .length * releasesBefore d (a .g .period) (a .n)) (c .before .distance-from .ensures .0), c .demand-from .ensures .1)
 
 pub frame-demand-spec : {M : Type 1} → statement M
-frame-demand-spec = tie.close (tie.spec distance-from-requires demand-from-requires returns)
+frame-demand-spec =
+    tie.close
+    (tie.spec
+    distance-from-requires
+    demand-from-requires
+    returns)

@@ -10,21 +10,22 @@ use Rattle.arith.specs.laws.Walks.{Through, through-start, through-more, throug
 use Rattle.bus_model.specs.declared.Frame.{Frame}
 use Rattle.bus_model.specs.Frame.{row}
 use Rattle.bus_model.specs.Bounds.{demand, workAt}
-use Rattle.workload.specs.Stored.{stored}
-use Rattle.workload.specs.ByGroup.{framesIn}
+use Rattle.workload.specs.Prepared.{framesIn, tableOf}
 use Rattle.workload.specs.laws.Fine.{part-fine}
 use Rattle.workload.proofs.work.work_in.Statement.{statement}
 use Rattle.workload.proofs.work.work_in.Tie as tie
 
 abbrev Inv-loop : tie.InvT-loop
-Inv-loop frames part a n sum₀ i₀ sum i =
-    Through (λ ms. workAt (framesIn (stored frames) ms) a n) _+_ part (workAt (framesIn (stored frames) part) a n) sum i × (sum ≤ 400400400 * i)
+Inv-loop rows prepared part a n sum₀ i₀ sum i = Through (λ ms. workAt (framesIn (tableOf rows prepared) ms) a n) _+_ part (workAt (framesIn (tableOf rows prepared) part) a n) sum i × (sum ≤ 400400400 * i)
 
 abbrev μ-loop : tie.MeasureT-loop
-μ-loop frames part a n sum₀ i₀ sum i = length part - i
+μ-loop rows prepared part a n sum₀ i₀ sum i = length part - i
 
 loop-holds : tie.Need-loop-holds Inv-loop μ-loop
 loop-holds c = (through-start _ _ _ _ (zero-add _), omega arith)
+
+mul-index : tie.Need-mul-index Inv-loop μ-loop
+mul-index c = search needs
 
 shared-slice-read-index : tie.Need-shared-slice-read-index Inv-loop μ-loop
 shared-slice-read-index c = search needs
@@ -32,22 +33,16 @@ shared-slice-read-index c = search needs
 index-requires : tie.Need-index-requires Inv-loop μ-loop
 index-requires c κs = search needs
 
-frame-at-requires : tie.Need-frame-at-requires Inv-loop μ-loop
-frame-at-requires c κs = search needs
-
-inverse-at-requires : tie.Need-inverse-at-requires Inv-loop μ-loop
-inverse-at-requires c κs = search needs
+row-at-requires : tie.Need-row-at-requires Inv-loop μ-loop
+row-at-requires c κs = c .before .before .before .before .before .before .before .pre .0 .filled
 
 frame-demand-requires : tie.Need-frame-demand-requires Inv-loop μ-loop
 frame-demand-requires c κs =
     let s = c .before .before .before .before .before .before .before .before in
-    (part-fine (s .pre .0) (c .before .before .before .before .loop-test .taken) (c .before .frame-at .ensures ∙ ap (row (stored (s .args .frames .now))) (c .before .before .index .ensures)), s .pre .1)
+    (part-fine (s .pre .0) (c .before .before .before .loop-test .taken) (c .row-at .ensures ∙ ap (row (tableOf (s .args .rows .now) (s .args .prepared .now))) (c .before .index .ensures)), s .pre .1)
 
 add-sum : tie.Need-add-sum Inv-loop μ-loop
-add-sum c =
-    let s = c .before .before .before .before .before .before .before .before .before in
-    let l = c .before .before .before .before .before .before .loop in
-    omega (arith, l .inv .1, l .inv .0 .inside, c .frame-demand .ensures .1, s .pre .0 .few)
+add-sum c = omega (arith, c .before .before .before .before .before .loop .inv .1, c .before .before .before .before .before .loop .inv .0 .inside, c .frame-demand .ensures .1, c .before .before .before .before .before .before .before .before .before .pre .0 .few)
 
 add-i : tie.Need-add-i Inv-loop μ-loop
 add-i c = search needs
@@ -58,21 +53,20 @@ loop-less c = search needs
 loop-again : tie.Need-loop-again Inv-loop μ-loop
 unfolding workAt
 loop-again c =
-    let l = c .before .before .before .before .before .before .loop in
+    let l = c .before .before .before .before .before .loop in
     let a = c .before .before .before .before .before .before .before .before .before .args in
     let f : Frame → ℕ = λ g. demand g (a .a) (a .n) in
-    let read = c .before .before .frame-at .ensures ∙ ap (row (stored (a .frames .now))) (c .before .before .before .index .ensures) in (
-      through-more _ _ _ _ 0 (l .inv .0) (c .before .before .before .before .before .loop-test .taken)
-          (λ ms. sum-more f (l .sum) _ (ap (λ (x : ℕ). l .sum + x) (c .frame-demand .ensures .0 ∙ ap f read)) (framesIn (stored (a .frames .now)) ms)),
+    let read = c .before .row-at .ensures ∙ ap (row (tableOf (a .rows .now) (a .prepared .now))) (c .before .before .index .ensures) in (
+      through-more _ _ _ _ 0 (l .inv .0) (c .before .before .before .before .loop-test .taken)
+          (λ ms. sum-more f (l .sum) _ (ap (λ (x : ℕ). l .sum + x) (c .frame-demand .ensures .0 ∙ ap f read)) (framesIn (tableOf (a .rows .now) (a .prepared .now)) ms)),
       omega (arith, l .inv .1, c .frame-demand .ensures .1),
     )
 
 returns : tie.Need-returns Inv-loop μ-loop
 unfolding workAt sum
 returns c =
-    let s = c .before .before .before .before in
     let l = c .before .loop in
-    (sym (add-zero _) ∙ through-end _ _ _ _ (l .inv .0) (c .loop-test .left), omega (arith, l .inv .1, l .inv .0 .inside, s .pre .0 .few))
+    (sym (add-zero _) ∙ through-end _ _ _ _ (l .inv .0) (c .loop-test .left), omega (arith, l .inv .1, l .inv .0 .inside, c .before .before .before .before .before .pre .0 .few))
 
 pub work-in-spec : {M : Type 1} → statement M
 work-in-spec =
@@ -81,10 +75,10 @@ work-in-spec =
     Inv-loop
     μ-loop
     loop-holds
+    mul-index
     shared-slice-read-index
     index-requires
-    frame-at-requires
-    inverse-at-requires
+    row-at-requires
     frame-demand-requires
     add-sum
     add-i

@@ -1,0 +1,124 @@
+-- The loop has the greatest response over the alignments of the own group that are visited.
+use Prim.Native.Nat.{ℕ, suc, _+_, _-_, _≤_, _<_, max}
+use mathlib.Core.Path.{_≡_, sym, ap, _∙_}
+use native.Mathlib.Omega.{arith}
+use borrow.Author.Needs.{needs}
+use lib.ListN.{length, set}
+use Rattle.arith.specs.laws.Walks.{walk-less}
+use Rattle.bus_model.specs.declared.Choice.the-variants.{Fixed}
+use Rattle.bus_model.specs.theory.OpenGroups.{fixingMore}
+use Rattle.bus_model.specs.theory.Turns.{turn, turn-le}
+use Rattle.workload.specs.Prepared.{tableOf}
+use Rattle.greatest_work.specs.Ready.{Ready}
+use Rattle.bounds.specs.laws.Search.{Best, best-first, best-more, best-end, own-group, own-next, own-set, own-limits, own-window, open-more}
+use Rattle.bounds.proofs.refine.refine_own.Statement.{statement}
+use Rattle.bounds.proofs.refine.refine_own.Tie as tie
+
+abbrev Inv-loop : tie.InvT-loop
+Inv-loop rows prepared target choices left best limit memory₀ own fewer most₀ a₀ memory most a =
+    Best (tableOf rows prepared) (target .frame) (target .frame .group) (λ b. fixingMore (tableOf rows prepared) (target .frame) (left - 1) (set choices (target .frame .group - 1) (Fixed b))) best most a × Ready rows prepared target memory
+
+abbrev μ-loop : tie.MeasureT-loop
+μ-loop rows prepared target choices left best limit memory₀ own fewer most₀ a₀ memory most a = turn (tableOf rows prepared) (target .frame) (target .frame .group) - a
+
+cast-own : tie.Need-cast-own Inv-loop μ-loop
+cast-own c = search needs
+
+sub-fewer : tie.Need-sub-fewer Inv-loop μ-loop
+sub-fewer c = search needs
+
+-- k's group is one of the groups
+group : (s : tie.Start Inv-loop μ-loop) → (1 ≤ s .args .target .frame .group) × (s .args .target .frame .group ≤ 16)
+group s = own-group (s .pre .0 .prepared .filled .table) (s .pre .0 .listed)
+
+-- the choices are as many as the groups
+long : (s : tie.Start Inv-loop μ-loop) → length (s .args .choices) ≡ 16
+long s = search needs
+
+next-of-requires : tie.Need-next-of-requires Inv-loop μ-loop
+next-of-requires c κs = let n = group (c .before .before .before .before .before) in (c .before .before .before .before .before .pre .0 .prepared, (n .0, n .1, omega arith))
+
+or-zero-requires : tie.Need-or-zero-requires Inv-loop μ-loop
+or-zero-requires c κs = search needs
+
+loop-holds : tie.Need-loop-holds Inv-loop μ-loop
+loop-holds c = let p = c .before .before .before .before .before .before .before .pre .0 in (best-first _ _ _ _ (p .prepared .filled .table .valid) (c .before .next-of .result) (c .before .next-of .ensures) (c .or-zero .ensures), p)
+
+with-choice-requires : tie.Need-with-choice-requires Inv-loop μ-loop
+with-choice-requires c κs = group (c .before .before .before .before .before .before .before .before)
+
+limit-of-requires : tie.Need-limit-of-requires Inv-loop μ-loop
+limit-of-requires c κs =
+    let s = c .before .before .before .before .before .before .before .before .before .before in
+    let p = s .pre in
+    let t = p .0 .prepared .filled .table in
+    (c .before .before .loop .inv .1, (own-limits t (p .0 .listed) (s .args .choices) (long s) (p .1 .0) (c .before .before .loop .inv .0 .listed) (c .before .with-choice .ensures) (s .args .limit) (p .1 .1 .0), own-window t (p .0 .listed) (s .args .choices) (long s) (p .1 .0) (c .before .before .loop .inv .0 .listed) (c .before .with-choice .ensures) (p .1 .1 .1 .0)))
+
+reach-before-requires : tie.Need-reach-before-requires Inv-loop μ-loop
+reach-before-requires c κs = (c .before .before .before .limit-of .ensures .1, c .before .before .before .limit-of .ensures .0)
+
+refine-requires : tie.Need-refine-requires Inv-loop μ-loop
+refine-requires c κs =
+    let s = c .before .before .before .before .before .before .before .before .before .before .before .before .before .before .before .before in
+    let p = s .pre in
+    (c .before .before .before .before .before .limit-of .ensures .1, (own-set (p .0 .prepared .filled .table) (p .0 .listed) (s .args .choices) (long s) (p .1 .0) (c .before .before .before .before .before .before .before .before .loop .inv .0 .listed) (c .before .before .before .before .before .before .before .with-choice .ensures), c .before .reach-before .ensures (c .before .before .before .before .before .before .before .before .loop .most)))
+
+add-next-of : tie.Need-add-next-of Inv-loop μ-loop
+add-next-of c =
+    let s = c .before .before .before .before .before .before .before .before .before .before .before .before .before .before .before .before .before .before .before in
+    let n = group s in
+    let t = s .pre .0 .prepared .filled .table in
+    omega (arith, c .before .before .before .before .before .before .before .before .before .before .before .loop .inv .0 .walk .inside, t .hyper _ (n .0) (n .1), turn-le (t .valid) (s .args .target .frame) (s .args .target .frame .group))
+
+next-of-requires-2 : tie.Need-next-of-requires-2 Inv-loop μ-loop
+next-of-requires-2 c κs = let n = group (c .before .before .before .before .before .before .before .before .before .before .before .before .before .before .before .before .before .before .before) in (c .before .before .before .before .before .before .before .before .before .before .before .before .before .before .before .before .before .before .before .pre .0 .prepared, (n .0, n .1, omega (arith, c .before .before .before .before .before .before .before .before .before .before .before .loop .inv .0 .walk .inside)))
+
+enum-known-found : tie.Need-enum-known-found Inv-loop μ-loop
+enum-known-found c = search needs
+
+enum-told : tie.Need-enum-told Inv-loop μ-loop
+enum-told c = search needs
+
+same-length : tie.Need-same-length Inv-loop μ-loop
+same-length c = c .before .before .before .before .before .refine .ensures .1 .remembered .size ∙ sym (c .before .before .before .before .before .before .before .before .before .before .before .before .before .before .before .before .before .before .before .before .before .before .pre .0 .remembered .size)
+
+returns : tie.Need-returns Inv-loop μ-loop
+returns c =
+    let s = c .before .before .before .before .before .before .before .before .before .before .before .before .before .before .before .before .before .before .before .before .before .before in
+    let p = s .pre in
+    let fewer : suc (s .args .left - 1) ≡ s .args .left = omega (arith, p .1 .1 .1 .1) in
+    let whole = rw fewer at (open-more (p .0 .prepared .filled .table) (p .0 .listed) (s .args .choices) (long s) (s .args .left - 1) (own-next (p .0 .prepared .filled .table) (p .0 .listed) (s .args .choices) (long s) (p .1 .0))) in (
+      best-end _ _ _ _ (c .before .before .before .before .before .before .before .before .before .before .before .before .before .before .loop .inv .0) (rw (c .before .before .before .before .before .before .before .before .before .before .before .before .before .with-choice .ensures) at (c .before .before .before .before .before .refine .ensures .0)) (sym (c .before .before .next-of2 .ensures) ∙ c .enum-told .given .1) ∙ ap (max (s .args .best)) whole,
+      c .before .before .before .before .before .refine .ensures .1,
+    )
+
+loop-less : tie.Need-loop-less Inv-loop μ-loop
+loop-less c = walk-less _ _ _ _ _ (c .before .before .before .before .before .before .before .before .before .before .before .before .before .before .before .loop .inv .0 .walk) (sym (c .before .before .before .next-of2 .ensures) ∙ c .before .found .given .1)
+
+loop-again : tie.Need-loop-again Inv-loop μ-loop
+loop-again c =
+    (best-more _ _ _ _ (c .before .before .before .before .before .before .before .before .before .before .before .before .before .before .before .loop .inv .0) (rw (c .before .before .before .before .before .before .before .before .before .before .before .before .before .before .with-choice .ensures) at (c .before .before .before .before .before .before .refine .ensures .0)) (c .before .before .before .before .before .before .before .before .before .before .before .before .before .before .before .before .before .before .before .before .before .before .before .pre .0 .prepared .filled .table .valid) (sym (c .before .before .before .next-of2 .ensures) ∙ c .before .found .given .1), c .before .before .before .before .before .before .refine .ensures .1)
+
+pub refine-own-spec : {M : Type 1} → statement M
+refine-own-spec =
+    tie.close
+    (tie.spec
+    Inv-loop
+    μ-loop
+    cast-own
+    sub-fewer
+    next-of-requires
+    or-zero-requires
+    loop-holds
+    with-choice-requires
+    limit-of-requires
+    reach-before-requires
+    refine-requires
+    add-next-of
+    next-of-requires-2
+    enum-known-found
+    enum-told
+    same-length
+    returns
+    loop-less
+    loop-again)

@@ -1,0 +1,293 @@
+-- What the searches for the bounds need: the number of scenarios, the greatest value over a group's alignments as a loop finds it,
+-- and the choices of a search that fixes one group more.
+use Prim.Native.Nat.{ℕ, suc, _+_, _-_, _%_, _≤_, _<_, max}
+use mathlib.Core.Path.{_≡_, refl, sym, ap, subst, _∙_}
+use mathlib.Core.List.{List, [], _∷_, List·Memᴰ as Mem}
+use mathlib.Core.Bool.{Bool, true, false, _||_}
+use native.Mathlib.Omega.{arith}
+use native.Mathlib.Nat.{mul-pos}
+use native.Mathlib.Numerals.{add-one}
+use lib.Dec.{T}
+use lib.ListN.{length, set, length-set}
+use Rattle.arith.specs.declared.Found.{Found}
+use Rattle.arith.specs.declared.Found.the-variants.{At, Nothing}
+use Rattle.arith.specs.Lists.{product, greatest, exists, range}
+use Rattle.arith.specs.Least.{least, orZero, isNone}
+use Rattle.arith.specs.laws.Tests.{same-test}
+use Rattle.arith.specs.laws.Members.{of-range, exists-mem, of-exists}
+use Rattle.arith.specs.laws.Sums.{product-shift}
+use Rattle.arith.specs.laws.Walks.{Walk, greatest-more, walk-more, walk-end}
+use Rattle.bus_model.specs.declared.Frame.{Frame}
+use Rattle.bus_model.specs.declared.Choice.{Choice}
+use Rattle.bus_model.specs.declared.Choice.the-variants.{Fixed, Any}
+use Rattle.bus_model.specs.Frame.{row}
+use Rattle.bus_model.specs.Valid.{ValidFrame, Valid}
+use Rattle.bus_model.specs.Bounds.{groups, alignments, orEmpty, choiceOf, ownGroup, scenarios, busyWindow, ownDistance, scenarioResponse, approximateBound, preciseBound, scenarioCount}
+use Rattle.bus_model.specs.Judgement.{lacksWindow}
+use Rattle.bus_model.specs.theory.Frames.{group-listed}
+use Rattle.bus_model.specs.theory.Work.{RefinedBy}
+use Rattle.bus_model.specs.theory.Response.{window-refine, own-distance}
+use Rattle.bus_model.specs.theory.Judged.{has-windows}
+use Rattle.bus_model.specs.theory.Visits.{isAlignment}
+use Rattle.bus_model.specs.theory.Refine.{free, set-same, own-scenarios, own-kept, refines-group}
+use Rattle.bus_model.specs.theory.OpenGroups.{isAny, isOpen, nextOpen, fixingMore, next-open, free-open, free-refined, more-refined, more-end, more-none, more-turn, more-pruned, more-window, approximate-more, precise-more}
+use Rattle.bus_model.specs.theory.Turns.{turn, firstTurn, first-aligned, turned, window-alike, alike-turn, visit-first, found-listed, first-listed}
+use Rattle.workload.specs.Prepared.{FineTable, framesIn, instantsIn, hyperIn, partOf, tableOf, Prepared, InTable}
+use Rattle.response_time.specs.Load.{OwnFixed, WindowWithin, Reaches}
+use Rattle.response_time.specs.laws.Searches.{window-small}
+use Rattle.response_time.specs.laws.Within.{reach-finer}
+use Rattle.bounds.specs.Search.{OwnOpen, Limits}
+
+-- ---- the number of scenarios
+
+-- how many alignments the rows of group i + 1 give, an empty one counting 1
+abbrev pub countAt : List ℕ → List ℕ → ℕ → ℕ
+countAt rows p i = length (orEmpty (instantsIn (framesIn (tableOf rows p) (partOf p i)) (hyperIn p i)))
+
+-- Their product is the scenario count.
+pub counts-product : {rows p : List ℕ} {k : Frame} → Prepared rows p k → product (countAt rows p) (range 0 16) ≡ scenarioCount (tableOf rows p) k
+unfolding scenarioCount alignments
+counts-product {rows} {p} {k} g =
+    product-shift _ (λ j. length (orEmpty (alignments (tableOf rows p) k j))) 0 16
+    (λ i low high. ap (λ (instants : List ℕ). length (orEmpty instants)) (rw (g .by-group .part i (omega arith), g .by-group .hyper i (omega arith), add-one i)))
+
+-- Each is at least 1.
+some-alignment : (xs : List ℕ) → 1 ≤ length (orEmpty xs)
+unfolding orEmpty
+some-alignment [] = omega arith
+some-alignment (x ∷ xs) = omega arith
+
+-- So is the product over some groups.
+pub counts-some : (rows p js : List ℕ) → 1 ≤ product (countAt rows p) js
+unfolding product
+counts-some rows p [] = omega arith
+counts-some rows p (j ∷ js) = mul-pos (some-alignment _) (counts-some rows p js)
+
+-- ---- the greatest value over a group's alignments, as a loop finds it
+
+-- The loop stands at a: `most` is the greatest of `from` and the values f of the alignments before a. Those of the first turn are visited.
+pub record Best (fs : List Frame) (k : Frame) (j : ℕ) (f : ℕ → ℕ) (from most a : ℕ) : Type 0 where
+  pub walk : Walk (greatest f) max (isAlignment fs k j) (turn fs k j) (max from (greatest f (orEmpty (firstTurn fs k j)))) most a
+  pub listed : Mem a (orEmpty (alignments fs k j))
+
+module _ (fs : List Frame) (k : Frame) (j : ℕ) (f : ℕ → ℕ) where
+  abbrev passes : ℕ → Bool
+  passes = isAlignment fs k j
+
+  abbrev end : ℕ
+  end = turn fs k j
+
+  abbrev goal : ℕ → ℕ
+  goal from = max from (greatest f (orEmpty (firstTurn fs k j)))
+
+  -- It starts at the first.
+  pub best-first : Valid fs → {from a : ℕ} (first : Found) → first ≡ least passes (end - 0) 0 → a ≡ orZero first → Best fs k j f from from a
+  best-first valid {from} first is at = rw at (record { walk = visit-first (greatest f) max (goal from) valid k j first is refl; listed = first-listed valid k j first is })
+
+  module _ {from most next a : ℕ} (best : Best fs k j f from most a) (more : next ≡ max most (f a)) where
+    -- It goes on to the next.
+    pub best-more : Valid fs → {b : ℕ} → least passes (end - (a + 1)) (a + 1) ≡ At b → Best fs k j f from next b
+    best-more valid is = record { walk = walk-more (greatest f) max passes end (goal from) (best .walk) (greatest-more f most a more) is; listed = found-listed valid k j (a + 1) is }
+
+    -- It ends after the last.
+    pub best-end : least passes (end - (a + 1)) (a + 1) ≡ Nothing → next ≡ max from (greatest f (orEmpty (firstTurn fs k j)))
+    unfolding greatest
+    best-end none = let ended = walk-end (greatest f) max passes end (goal from) (best .walk) (greatest-more f most a more) none in omega arith
+
+  -- It may end where none of the values exceeds what it has.
+  pub best-over : {from most a all : ℕ} → Best fs k j f from most a → from ≤ most → greatest f (orEmpty (firstTurn fs k j)) ≡ all → all ≤ most → most ≡ max from all
+  best-over best low whole le = omega (arith, best .walk .is)
+
+-- ---- windows of the approximate bound
+
+-- k's own group at alignment a, all others open
+abbrev pub ownAt : Frame → ℕ → List Choice
+ownAt k a = set free (k .group - 1) (Fixed a)
+
+-- whether there is no window then
+abbrev pub isMissing : List Frame → Frame → ℕ → Bool
+isMissing fs k a = isNone (busyWindow fs k (ownAt k a))
+
+-- Of the alignments from a on one lacks a window, if one does at all.
+pub record Missing (fs : List Frame) (k : Frame) (a : ℕ) : Type 0 where
+  pub walk : Walk (exists (isMissing fs k)) _||_ (isAlignment fs k (k .group)) (turn fs k (k .group)) (lacksWindow fs k) false a
+  pub listed : Mem a (orEmpty (alignments fs k (k .group)))
+
+module _ {fs : List Frame} (valid : Valid fs) {n : ℕ} (inside : n < length fs) where
+  abbrev f : Frame
+  f = row fs n
+
+  self : ValidFrame f
+  self = valid .frame n inside
+
+  -- A scenario that is refined has a window no longer.
+  within-refined : {cs cs′ : List Choice} → RefinedBy fs f cs cs′ → {limit : ℕ} → WindowWithin fs f cs limit → WindowWithin fs f cs′ limit
+  within-refined {cs} {cs′} refines w =
+      let (l, is, le) = window-refine valid inside cs cs′ refines (w .window) (w .is) in
+      record { window = l; is = is; within = omega (arith, w .within); small = w .small }
+
+  -- The alignments of the first turn tell whether a window lacks.
+  row-lacks : exists (isMissing fs f) (orEmpty (firstTurn fs f (f .group))) ≡ lacksWindow fs f
+  unfolding lacksWindow
+  row-lacks =
+      same-test _ _
+      (λ t.
+      let (a, m, u) = of-exists _ (orEmpty (firstTurn fs f (f .group))) t in
+      exists-mem _ (own-scenarios fs self .1 (a, first-aligned valid f (f .group) m, refl)) u)
+      (λ t.
+      let (cs, m, u) = of-exists _ (scenarios fs f (ownGroup f)) t in
+      let (a, l, e) = own-scenarios fs self .0 m in
+      let same = window-alike fs f (ownAt f (a % turn fs f (f .group))) (ownAt f a) (alike-turn valid inside free refl (f .group) (group-listed self) a) in
+      exists-mem (isMissing fs f) {x = a % turn fs f (f .group)} (turned valid f (f .group) l) (rw same (rw e at u)))
+
+  row-free : {l : ℕ} → busyWindow fs f free ≡ At l → lacksWindow fs f ≡ false
+  unfolding lacksWindow isNone
+  row-free {l} is = none (lacksWindow fs f) refl
+    where
+      none : (b : Bool) → lacksWindow fs f ≡ b → b ≡ false
+      none false e = refl
+      none true e =
+          let (cs, m, u) = of-exists _ (scenarios fs f (ownGroup f)) (subst T (sym e) tt) in
+          let (a, l′, same) = own-scenarios fs self .0 m in
+          let w = within-refined {cs = free} {cs′ = cs} (rw same (refines-group fs f free (group-listed self) refl (free-open (f .group) (group-listed self)) l′)) (record { window = l; is = is; within = omega arith; small = window-small fs f free is }) in
+          absurd (rw (w .is) at u)
+
+-- A window that is found is a limit.
+pub found-limits : (fs : List Frame) (k : Frame) (cs : List Choice) (limit : Found) → limit ≡ busyWindow fs k cs → Limits fs k cs limit
+found-limits fs k cs (At l) is = record { window = l; is = sym is; within = omega arith; small = window-small fs k cs (sym is) }
+found-limits fs k cs Nothing is = tt
+
+module _ {fs : List Frame} (accepted : FineTable fs) {k : Frame} (table : InTable fs k) where
+  valid-self : ValidFrame k
+  valid-self = subst ValidFrame (sym (table .is)) (accepted .valid .frame (table .at) (table .inside))
+
+  pub own-group : (1 ≤ k .group) × (k .group ≤ 16)
+  own-group = (valid-self .group-low, valid-self .group-high)
+
+  -- Where there is a window with all groups open, none lacks.
+  pub lacks-none : {l : ℕ} → busyWindow fs k free ≡ At l → lacksWindow fs k ≡ false
+  lacks-none = rw (table .is) (row-free (accepted .valid) (table .inside))
+
+  lacks-turn : exists (isMissing fs k) (orEmpty (firstTurn fs k (k .group))) ≡ lacksWindow fs k
+  lacks-turn = rw (table .is) (row-lacks (accepted .valid) (table .inside))
+
+  -- A loop looks at the first,
+  pub missing-first : {a : ℕ} (first : Found) → first ≡ least (isAlignment fs k (k .group)) (turn fs k (k .group) - 0) 0 → a ≡ orZero first → Missing fs k a
+  missing-first first is at =
+      rw at (record { walk = visit-first (exists (isMissing fs k)) _||_ (lacksWindow fs k) (accepted .valid) k (k .group) first is lacks-turn; listed = first-listed (accepted .valid) k (k .group) first is })
+
+  module _ {a : ℕ} (m : Missing fs k a) where
+    -- stops where one lacks,
+    pub missing-here : busyWindow fs k (ownAt k a) ≡ Nothing → true ≡ lacksWindow fs k
+    unfolding exists isNone
+    missing-here none = rw none at (m .walk .is)
+
+    module _ {l : ℕ} (has : busyWindow fs k (ownAt k a) ≡ At l) where
+      goes-by : (xs : List ℕ) → (false || exists (isMissing fs k) (a ∷ xs)) ≡ (false || exists (isMissing fs k) xs)
+      unfolding exists isNone
+      goes-by xs = rw has
+
+      -- goes on,
+      pub missing-more : {b : ℕ} → least (isAlignment fs k (k .group)) (turn fs k (k .group) - (a + 1)) (a + 1) ≡ At b → Missing fs k b
+      missing-more is = record { walk = walk-more _ _ _ _ _ {next = false} (m .walk) goes-by is; listed = found-listed (accepted .valid) k (k .group) (a + 1) is }
+
+      -- and ends where none does.
+      pub missing-end : least (isAlignment fs k (k .group)) (turn fs k (k .group) - (a + 1)) (a + 1) ≡ Nothing → false ≡ lacksWindow fs k
+      unfolding exists
+      missing-end none = walk-end _ _ _ _ _ {next = false} (m .walk) goes-by none
+
+  -- ---- one group more
+
+  module _ (cs : List Choice) (long : length cs ≡ groups) where
+    -- The next group is one of the groups.
+    pub open-group : {j : ℕ} → nextOpen k cs ≡ At j → (1 ≤ j) × (j ≤ 16)
+    open-group is = let (low, high) = of-range 1 groups (next-open valid-self cs long is .0) in (low, omega arith)
+
+    -- The greatest over its alignments is that with one group more.
+    pub open-more : (m : ℕ) {j : ℕ} → nextOpen k cs ≡ At j → greatest (λ a. fixingMore fs k m (set cs (j - 1) (Fixed a))) (orEmpty (firstTurn fs k j)) ≡ fixingMore fs k (suc m) cs
+    open-more m {j} is =
+        subst (λ (f : Frame). nextOpen f cs ≡ At j → greatest (λ a. fixingMore fs f m (set cs (j - 1) (Fixed a))) (orEmpty (firstTurn fs f j)) ≡ fixingMore fs f (suc m) cs)
+        (sym (table .is)) (λ e. sym (more-turn (accepted .valid) (table .inside) cs long m e)) is
+
+    -- No more are fixed, or none is left.
+    pub open-end : fixingMore fs k 0 cs ≡ scenarioResponse fs k cs
+    open-end = more-end valid-self cs long fs
+
+    pub open-none : (m : ℕ) → nextOpen k cs ≡ Nothing → fixingMore fs k m cs ≡ scenarioResponse fs k cs
+    open-none m none = more-none valid-self cs long fs m none
+
+    -- No scenario further on has a greater response.
+    pub open-pruned : OwnFixed k cs → {best reach : ℕ} → Reaches fs k cs best reach → (m : ℕ) → fixingMore fs k m cs ≤ scenarioResponse fs k cs
+    open-pruned own w m =
+        subst (λ (f : Frame). (a : ℕ) × (choiceOf cs (f .group) ≡ Fixed a) → busyWindow fs f cs ≡ At (w .window) → fixingMore fs f m cs ≤ scenarioResponse fs f cs)
+        (sym (table .is)) (λ fixed is. more-pruned (accepted .valid) (table .inside) cs long fixed (w .window) is m) own (w .is)
+
+    -- With an alignment of an open group the scenario is refined.
+    finer : {j : ℕ} → Mem j (range 1 groups) → choiceOf cs j ≡ Any → {a : ℕ} → Mem a (orEmpty (alignments fs k j)) → RefinedBy fs k cs (set cs (j - 1) (Fixed a))
+    finer listed any m = refines-group fs k cs listed long any m
+
+    window-shorter : (cs′ : List Choice) → RefinedBy fs k cs cs′ → (l : ℕ) → busyWindow fs k cs ≡ At l → (l′ : ℕ) × (busyWindow fs k cs′ ≡ At l′) × (l′ ≤ l)
+    window-shorter cs′ refines l is =
+        subst (λ (f : Frame). RefinedBy fs f cs cs′ → busyWindow fs f cs ≡ At l → (l′ : ℕ) × (busyWindow fs f cs′ ≡ At l′) × (l′ ≤ l))
+        (sym (table .is)) (λ r e. window-refine (accepted .valid) (table .inside) cs cs′ r l e) refines is
+
+    window-finer : {cs′ : List Choice} → RefinedBy fs k cs cs′ → {limit : ℕ} → WindowWithin fs k cs limit → WindowWithin fs k cs′ limit
+    window-finer {cs′} refines {limit} =
+        subst (λ (f : Frame). RefinedBy fs f cs cs′ → WindowWithin fs f cs limit → WindowWithin fs f cs′ limit) (sym (table .is)) (λ r w. within-refined (accepted .valid) (table .inside) r w) refines
+
+    -- What a search knows it still knows there.
+    module _ {j : ℕ} (next : nextOpen k cs ≡ At j) {a : ℕ} (m : Mem a (orEmpty (alignments fs k j))) {cs′ : List Choice} (is : cs′ ≡ set cs (j - 1) (Fixed a)) (own : OwnFixed k cs) where
+      refines : RefinedBy fs k cs cs′
+      refines = let (listed, any) = next-open valid-self cs long next in rw is (finer listed any m)
+
+      next-is : choiceOf cs′ (k .group) ≡ Fixed (own .0)
+      next-is = own-kept fs k cs cs′ refines valid-self (own .1)
+
+      pub next-own : OwnFixed k cs′
+      next-own = (own .0, next-is)
+
+      pub next-reach : {best reach : ℕ} → Reaches fs k cs best reach → Reaches fs k cs′ best reach
+      next-reach r =
+          let (l, window, shorter) = window-shorter cs′ refines (r .window) (r .is) in
+          reach-finer (accepted .valid) (valid-self .period) refines (own-distance fs k cs′ (own .0) next-is ∙ sym (own-distance fs k cs (own .0) (own .1))) r window shorter
+
+    -- ---- k's own group is the next
+
+    module _ (start : OwnOpen fs k cs) where
+      pub own-next : nextOpen k cs ≡ At (k .group)
+      unfolding nextOpen isAny
+      own-next = rw (start .any)
+
+      module _ {a : ℕ} (m : Mem a (orEmpty (alignments fs k (k .group)))) {cs′ : List Choice} (is : cs′ ≡ set cs (k .group - 1) (Fixed a)) where
+        own-refines : RefinedBy fs k cs cs′
+        own-refines = rw is (finer (group-listed valid-self) (start .any) m)
+
+        own-is : choiceOf cs′ (k .group) ≡ Fixed a
+        own-is = rw is (set-same cs (group-listed valid-self) a long)
+
+        pub own-set : OwnFixed k cs′
+        own-set = (a, own-is)
+
+        -- A limit is one there,
+        pub own-limits : (limit : Found) → Limits fs k cs limit → Limits fs k cs′ limit
+        own-limits (At l) w = window-finer own-refines w
+        own-limits Nothing w = tt
+
+        -- and there is a window, if none lacks.
+        pub own-window : lacksWindow fs k ≡ false → (l : ℕ) × (busyWindow fs k cs′ ≡ At l)
+        own-window has =
+            let long′ : length cs′ ≡ groups = rw is (length-set cs (k .group - 1) (Fixed a) ∙ long) in
+            let free′ : RefinedBy fs k free cs′ = rw is (more-refined fs k cs (start .refines) long (group-listed valid-self) m) in
+            subst (λ (f : Frame). lacksWindow fs f ≡ false → RefinedBy fs f free cs′ → choiceOf cs′ (f .group) ≡ Fixed a → (l : ℕ) × (busyWindow fs f cs′ ≡ At l))
+            (sym (table .is)) (λ windows refines own. more-window (accepted .valid) (table .inside) cs′ long′ (has-windows fs (row fs (table .at)) (λ t. subst T windows t)) refines own) has free′ own-is
+
+  -- All groups are open at first.
+  pub free-start : OwnOpen fs k free
+  free-start = record { refines = free-refined fs k; any = free-open (k .group) (group-listed valid-self) }
+
+  -- With one group fixed the approximate bound is found, and with all the precise one.
+  pub one-fixed : {r : ℕ} → r ≡ max 0 (fixingMore fs k 1 free) → r ≡ approximateBound fs k
+  one-fixed e = omega (arith, approximate-more fs valid-self)
+
+  pub all-fixed : {r : ℕ} → r ≡ max 0 (fixingMore fs k 16 free) → r ≡ preciseBound fs k
+  all-fixed e = omega (arith, precise-more fs valid-self)

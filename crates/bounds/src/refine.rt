@@ -1,0 +1,170 @@
+// The one search for the bounds: the open groups of a scenario are fixed one after the other, the target's own first, and then the others,
+// rising; with one group fixed it finds the approximate bound, with all of them the precise one.
+use crate::alignments::is_last;
+use crate::alignments::next_of;
+use crate::alignments::next_open;
+use crate::alignments::with_choice;
+use arith::Found;
+use arith::or_zero;
+use bus_model::Choice;
+use response_time::PATIENCE;
+use response_time::busy_window;
+use response_time::max_with_scenario;
+use response_time::reach_before;
+use response_time::sweep;
+use workload::Target;
+ghost use mathlib.Core.Path.{_≡_};
+ghost use mathlib.Core.Bool.{false};
+ghost use Prim.Native.Nat.{ℕ, _≤_, max};
+ghost use Rattle.arith.specs.declared.Found.the-variants.{At};
+ghost use Rattle.bus_model.specs.Bounds.{busyWindow};
+ghost use Rattle.bus_model.specs.Judgement.{lacksWindow};
+ghost use Rattle.bus_model.specs.theory.OpenGroups.{fixingMore};
+ghost use Rattle.workload.specs.Prepared.{tableOf};
+ghost use Rattle.greatest_work.specs.Ready.{Ready};
+ghost use Rattle.response_time.specs.Load.{OwnFixed, WindowWithin, Reaches};
+ghost use Rattle.bounds.specs.Search.{OwnOpen, Limits};
+
+// Up to which instance it is not shown in the scenario as it is. Where it is not asked, it does not look.
+fn reach_now(
+    rows: &[u32],
+    prepared: &[u32],
+    target: Target,
+    choices: [Choice; 16],
+    reach: u32,
+    best: u32,
+    asked: bool,
+    memory: &mut [u64],
+) -> u32
+    requires { ⌜ Ready (now rows) (now prepared) target (now memory) ⌝ }
+    requires { ⌜ OwnFixed (target .frame) choices ⌝ }
+    requires { ⌜ Reaches (tableOf (now rows) (now prepared)) (target .frame) choices best reach ⌝ }
+    ensures { λ r. ⌜ Reaches (tableOf (now (rows .entry)) (now (prepared .entry))) (target .frame) choices best r ⌝ }
+    ensures ready { λ _. ⌜ Ready (now (rows .entry)) (now (prepared .entry)) target (now (memory .exit)) ⌝ }
+{
+    if !asked {
+        return reach;
+    }
+    sweep(
+        rows,
+        prepared,
+        target,
+        choices,
+        reach,
+        best,
+        PATIENCE,
+        memory,
+    )
+}
+
+// The greatest of `best` and the responses where `left` open groups more take each of their alignments. Where it is shown of all instances of the
+// scenario as it is that theirs is at most `best`, it is so with more groups fixed, and nothing is searched; where `best` has risen, that is asked
+// again. A group with one alignment hands on what it was given: the next one would be asked the same.
+fn refine(
+    rows: &[u32],
+    prepared: &[u32],
+    target: Target,
+    choices: [Choice; 16],
+    left: usize,
+    best: u32,
+    reach: u32,
+    memory: &mut [u64],
+) -> u32
+    requires { ⌜ Ready (now rows) (now prepared) target (now memory) ⌝ }
+    requires { ⌜ OwnFixed (target .frame) choices ⌝ }
+    requires { ⌜ Reaches (tableOf (now rows) (now prepared)) (target .frame) choices best reach ⌝ }
+    ensures { λ r. ⌜ r ≡ max best (fixingMore (tableOf (now (rows .entry)) (now (prepared .entry))) (target .frame) left choices) ⌝ }
+    ensures ready { λ _. ⌜ Ready (now (rows .entry)) (now (prepared .entry)) target (now (memory .exit)) ⌝ }
+{
+    if left == 0 {
+        return max_with_scenario(rows, prepared, target, choices, reach, best, memory);
+    }
+    let next = next_open(target.frame, choices);
+    let Found::At(j) = next else {
+        return max_with_scenario(rows, prepared, target, choices, reach, best, memory);
+    };
+    let group = j as usize;
+    let fewer = left - 1;
+    let first = or_zero(next_of(rows, prepared, target, group, 0));
+    if is_last(rows, prepared, target, group, first) {
+        let finer = with_choice(choices, group, first);
+        return refine(rows, prepared, target, finer, fewer, best, reach, memory);
+    }
+    let mut most = best;
+    let mut a = first;
+    let mut asked = true;
+    let mut rest = reach;
+    loop {
+        rest = reach_now(rows, prepared, target, choices, rest, most, asked, memory);
+        if rest == 0 {
+            return most;
+        }
+        let finer = with_choice(choices, group, a);
+        let more = refine(rows, prepared, target, finer, fewer, most, rest, memory);
+        asked = most < more;
+        most = more;
+        let found = next_of(rows, prepared, target, group, a + 1);
+        let Found::At(b) = found else {
+            return most;
+        };
+        a = b;
+    }
+}
+
+// A length that the scenario's window does not exceed: the one given, or else the window itself.
+fn limit_of(
+    rows: &[u32],
+    prepared: &[u32],
+    target: Target,
+    choices: [Choice; 16],
+    limit: Found,
+    memory: &mut [u64],
+) -> u32
+    requires { ⌜ Ready (now rows) (now prepared) target (now memory) ⌝ }
+    requires { ⌜ Limits (tableOf (now rows) (now prepared)) (target .frame) choices limit ⌝ }
+    requires { ⌜ ((l : ℕ) × (busyWindow (tableOf (now rows) (now prepared)) (target .frame) choices ≡ At l)) ⌝ }
+    ensures { λ r. ⌜ WindowWithin (tableOf (now (rows .entry)) (now (prepared .entry))) (target .frame) choices r ⌝ }
+    ensures ready { λ _. ⌜ Ready (now (rows .entry)) (now (prepared .entry)) target (now (memory .exit)) ⌝ }
+{
+    match limit {
+        Found::At(l) => l,
+        Found::Nothing => or_zero(busy_window(rows, prepared, target, choices, memory)),
+    }
+}
+
+// The same where the target's own group is still open: it takes each of its alignments, the windows of which are taken first. `limit`, where
+// there is one, is not below any of them.
+pub fn refine_own(
+    rows: &[u32],
+    prepared: &[u32],
+    target: Target,
+    choices: [Choice; 16],
+    left: usize,
+    best: u32,
+    limit: Found,
+    memory: &mut [u64],
+) -> u32
+    requires { ⌜ Ready (now rows) (now prepared) target (now memory) ⌝ }
+    requires { ⌜ OwnOpen (tableOf (now rows) (now prepared)) (target .frame) choices ⌝ }
+    requires { ⌜ Limits (tableOf (now rows) (now prepared)) (target .frame) choices limit ⌝ }
+    requires { ⌜ (lacksWindow (tableOf (now rows) (now prepared)) (target .frame) ≡ false) × (1 ≤ left) ⌝ }
+    ensures { λ r. ⌜ r ≡ max best (fixingMore (tableOf (now (rows .entry)) (now (prepared .entry))) (target .frame) left choices) ⌝ }
+    ensures ready { λ _. ⌜ Ready (now (rows .entry)) (now (prepared .entry)) target (now (memory .exit)) ⌝ }
+{
+    let k = target.frame;
+    let own = k.group as usize;
+    let fewer = left - 1;
+    let mut most = best;
+    let mut a = or_zero(next_of(rows, prepared, target, own, 0));
+    loop {
+        let finer = with_choice(choices, own, a);
+        let within = limit_of(rows, prepared, target, finer, limit, memory);
+        let reach = reach_before(rows, prepared, target, finer, within, memory);
+        most = refine(rows, prepared, target, finer, fewer, most, reach, memory);
+        let found = next_of(rows, prepared, target, own, a + 1);
+        let Found::At(b) = found else {
+            return most;
+        };
+        a = b;
+    }
+}

@@ -1,4 +1,0 @@
--- What the code of this crate works with. The bounds themselves are defined in bus_model.
-pub mod Ready
-pub mod Load
-pub mod laws

@@ -1,0 +1,46 @@
+-- By the bound.
+use borrow.Author.Needs.{needs}
+use Rattle.row_judgement.specs.Decide.{boundedBy}
+use Rattle.row_judgement.proofs.bound.bounded.Statement.{statement}
+use Rattle.row_judgement.proofs.bound.bounded.Tie as tie
+
+enum-told : tie.Need-enum-told
+enum-told c = search needs
+
+enum-known-bound : tie.Need-enum-known-bound
+enum-known-bound c = search needs
+
+enum-told-2 : tie.Need-enum-told-2
+enum-told-2 c = search needs
+
+enum-known-bound-2 : tie.Need-enum-known-bound-2
+enum-known-bound-2 c = search needs
+
+returns : tie.Need-returns
+unfolding boundedBy
+returns c = rw (c .enum-told .given .1)
+
+returns-2 : tie.Need-returns-2
+unfolding boundedBy
+returns-2 c = rw (c .before .bound .given .1)
+
+returns-3 : tie.Need-returns-3
+unfolding boundedBy
+returns-3 c = rw (c .enum-told2 .given .1)
+
+returns-4 : tie.Need-returns-4
+unfolding boundedBy
+returns-4 c = rw (c .before .bound2 .given .1)
+
+pub bounded-spec : {M : Type 1} → statement M
+bounded-spec =
+    tie.close
+    (tie.spec
+    enum-told
+    enum-known-bound
+    enum-told-2
+    enum-known-bound-2
+    returns
+    returns-2
+    returns-3
+    returns-4)

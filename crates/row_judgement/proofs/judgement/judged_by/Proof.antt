@@ -1,0 +1,69 @@
+-- By the bound.
+use mathlib.Core.Path.{_∙_, sym}
+use borrow.Author.Needs.{needs}
+use borrow.Author.Tests.{lt-leb, le-leb}
+use Rattle.row_judgement.specs.Decide.{judgedBy}
+use Rattle.row_judgement.proofs.judgement.judged_by.Statement.{statement}
+use Rattle.row_judgement.proofs.judgement.judged_by.Tie as tie
+
+enum-told : tie.Need-enum-told
+enum-told c = search needs
+
+enum-known-bound : tie.Need-enum-known-bound
+enum-known-bound c = search needs
+
+judged-requires : tie.Need-judged-requires
+judged-requires c κs = search needs
+
+enum-known-bound-2 : tie.Need-enum-known-bound-2
+enum-known-bound-2 c = search needs
+
+judged-requires-2 : tie.Need-judged-requires-2
+judged-requires-2 c κs = search needs
+
+enum-known-bound-3 : tie.Need-enum-known-bound-3
+enum-known-bound-3 c = search needs
+
+judged-requires-3 : tie.Need-judged-requires-3
+judged-requires-3 c κs = search needs
+
+judged-requires-4 : tie.Need-judged-requires-4
+judged-requires-4 c κs = search needs
+
+returns : tie.Need-returns
+unfolding judgedBy
+returns c = rw (c .enum-told .given .1)
+
+returns-2 : tie.Need-returns-2
+unfolding judgedBy
+returns-2 c = rw (c .before .before .bound .given .1) (c .judged .ensures)
+
+returns-3 : tie.Need-returns-3
+unfolding judgedBy
+returns-3 c = rw (c .before .before .bound2 .given .1) (c .judged2 .ensures)
+
+returns-4 : tie.Need-returns-4
+unfolding judgedBy
+returns-4 c = rw (c .before .before .before .bound3 .given .1, le-leb _ _ (c .before .if1 .taken)) (c .judged3 .ensures)
+
+returns-5 : tie.Need-returns-5
+unfolding judgedBy
+returns-5 c = rw (c .before .before .before .bound3 .given .1, lt-leb _ _ (c .before .if1 .left)) (c .judged4 .ensures)
+
+pub judged-by-spec : {M : Type 1} → statement M
+judged-by-spec =
+    tie.close
+    (tie.spec
+    enum-told
+    enum-known-bound
+    judged-requires
+    enum-known-bound-2
+    judged-requires-2
+    enum-known-bound-3
+    judged-requires-3
+    judged-requires-4
+    returns
+    returns-2
+    returns-3
+    returns-4
+    returns-5)
