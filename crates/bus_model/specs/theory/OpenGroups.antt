@@ -22,7 +22,7 @@ use Rattle.bus_model.specs.theory.Work.{Allows, RefinedBy}
 use Rattle.bus_model.specs.theory.Response.{window-refine}
 use Rattle.bus_model.specs.theory.Scenarios.{Windowed, allows-self}
 use Rattle.bus_model.specs.theory.Order.{fixingOrder, order-group, order-all, order-apart, order-length}
-use Rattle.bus_model.specs.theory.Refine.{approximate-refined, refined, free, set-same, set-other, groupAt, levels, StillOpen, refines-more, refined-bound, own-scenarios, refines-taken, open-pruned}
+use Rattle.bus_model.specs.theory.Refine.{approximate-refined, refined, free, set-same, set-other, StillOpen, refines-more, refined-bound, own-scenarios, refines-taken, open-pruned}
 use Rattle.bus_model.specs.theory.Turns.{firstTurn, refined-turn}
 use Rattle.arith.specs.declared.Found.{Found}
 use Rattle.arith.specs.declared.Found.the-variants.{At, Nothing}
@@ -193,7 +193,7 @@ all-open {k} valid = keep-all (isOpen free) (fixingOrder k) (λ j m. rw (free-op
 module _ (fs : List Frame) {k : Frame} (valid : ValidFrame k) where
   -- The approximate bound, where one group is fixed,
   pub approximate-more : fixingMore fs k 1 free ≡ approximateBound fs k
-  unfolding fixingMore fixingOrder levels groupAt range
+  unfolding fixingMore fixingOrder range
   approximate-more = ap (λ (js : List ℕ). refined fs k (take 1 js) free) (all-open valid) ∙ approximate-refined fs valid
 
   -- and the precise one, where all are.

@@ -1,16 +1,14 @@
 -- The bounds found group by group: one group after the other takes each of its alignments, and the greatest response counts.
 -- A branch may be left out where its scenario with the open groups at `Any` has no greater response than one already found.
-use Prim.Native.Nat.{ℕ, zero, suc, _+_, _-_, _≤_, _<_}
+use Prim.Native.Nat.{ℕ, suc, _-_, _≤_, _<_}
 use mathlib.Core.Path.{_≡_, refl, sym, ap, _∙_}
 use mathlib.Core.List.{List, [], _∷_, map, List·Memᴰ as Mem, List·Memᴰ·head as here, List·Memᴰ·tail as there, List·Memᴰ·not-nil, List·Memᴰ·cases-cons, List·Memᴰ·eq-of-singleton, Memᴰ·map}
-use mathlib.Core.Bool.{Bool, true, false, cond}
+use mathlib.Core.Bool.{Bool, true, false}
 use mathlib.Core.Logic.{_≢_, _↔_, _⊎_, inl, inr}
 use native.Mathlib.Omega.{arith}
 use native.Mathlib.Nat.{le-trans}
-use native.Mathlib.Numerals.{add-one}
-use native.Mathlib.Decide.{ℕ-discrete, decLt}
-use borrow.Author.Tests.{lt-ltb, le-ltb}
-use lib.Dec.{T, ltb, eqb, eqb-refl, eqb→eq}
+use native.Mathlib.Decide.{ℕ-discrete}
+use lib.Dec.{T, eqb, eqb-refl, eqb→eq}
 use lib.ListN.{length, set, replicate, length-set, getD-replicate}
 use lib.Seq.{getD-set-same, getD-set-other, ext-getD}
 use Rattle.arith.specs.Lists.{greatest, exists, range}
@@ -18,7 +16,7 @@ use Rattle.arith.specs.laws.Members.{mem-range, of-range, of-map, named-mem, of
 use Rattle.arith.specs.laws.Sums.{le-greatest, greatest-le}
 use Rattle.bus_model.specs.Frame.{row}
 use Rattle.bus_model.specs.Valid.{ValidFrame, Valid}
-use Rattle.bus_model.specs.Bounds.{groups, alignments, orEmpty, choiceOf, choices, scenarios, ownGroup, everyGroup, busyWindow, scenarioResponse, boundOf, preciseBound, approximateBound}
+use Rattle.bus_model.specs.Bounds.{groups, alignments, orEmpty, choiceOf, choices, scenarios, ownGroup, busyWindow, scenarioResponse, boundOf, approximateBound}
 use Rattle.bus_model.specs.theory.Frames.{group-listed}
 use Rattle.bus_model.specs.theory.Work.{Allows, RefinedBy}
 use Rattle.bus_model.specs.theory.Response.{response-refine}
@@ -207,158 +205,26 @@ module _ (fs : List Frame) (k : Frame) (fixes : ℕ → Bool) (js : List ℕ) (n
   unfolding boundOf scenarios
   refined-bound = refined-choices fs k (λ j. choices fs k (fixes j) j) js free named-opens
 
--- ---- the order in which groups are fixed
-
--- the group of level i: k's own, then the others, rising
-unfoldable pub groupAt : Frame → ℕ → ℕ
-groupAt k zero = k .group
-groupAt k (suc i) = cond (ltb (suc i) (k .group)) (suc i) (suc (suc i))
-
--- those of the levels i .. stop - 1
-unfoldable pub levels : Frame → ℕ → ℕ → List ℕ
-levels k i stop = map (groupAt k) (range i (stop - i))
-
-module _ (k : Frame) where
-  -- What the levels list is the group of one of them.
-  pub of-levels : (i stop : ℕ) {j : ℕ} → Mem j (levels k i stop) → (m : ℕ) × (i ≤ m) × (m < stop) × (j ≡ groupAt k m)
-  unfolding levels
-  of-levels i stop l =
-      let (m, r, e) = of-map (groupAt k) (range i (stop - i)) l in
-      let (low, high) = of-range i (stop - i) r in
-      (m, low, omega arith, e)
-
-  -- The first has k's own.
-  pub group-first : groupAt k 0 ≡ k .group
-  unfolding groupAt
-  group-first = refl
-
-  -- Up to k's own a level has the group of its number.
-  pub group-before : (i : ℕ) → 0 < i → i < k .group → groupAt k i ≡ i
-  unfolding groupAt
-  group-before zero some less = absurd (omega arith)
-  group-before (suc i) some less = rw (lt-ltb (suc i) (k .group) less)
-
-  -- From there on it has the next.
-  pub group-after : (i : ℕ) → 0 < i → k .group ≤ i → groupAt k i ≡ i + 1
-  unfolding groupAt
-  group-after zero some le = absurd (omega arith)
-  group-after (suc i) some le = rw (le-ltb (suc i) (k .group) le) (omega arith)
-
-  -- Two levels have two groups.
-  group-apart : (i m : ℕ) → i < m → groupAt k i ≢ groupAt k m
-  group-apart zero m less e =
-      elim (decLt m (k .group)) [
-        | yes low ↦ omega (arith, group-first, group-before m less low)
-        | no high ↦ omega (arith, group-first, group-after m less (omega arith))
-      ]
-  group-apart (suc i) m less e =
-      elim (decLt m (k .group)) [
-        | yes low ↦ omega (arith, group-before (suc i) (omega arith) (omega arith), group-before m (omega arith) low)
-        | no high ↦ elim (decLt (suc i) (k .group)) [
-          | yes low ↦ omega (arith, group-before (suc i) (omega arith) low, group-after m (omega arith) (omega arith))
-          | no both ↦ omega (arith, group-after (suc i) (omega arith) (omega arith), group-after m (omega arith) (omega arith))
-        ]
-      ]
-
-  module _ (valid : ValidFrame k) where
-    -- A level's group is one of the groups.
-    pub level-group : (i : ℕ) → i < groups → Mem (groupAt k i) (range 1 groups)
-    level-group zero inside = rw group-first (group-listed valid)
-    level-group (suc i) inside =
-        elim (decLt (suc i) (k .group)) [
-          | yes low ↦ rw (group-before (suc i) (omega arith) low) (mem-range 1 groups (suc i) (omega arith) (omega arith))
-          | no high ↦ rw (group-after (suc i) (omega arith) (omega arith)) (mem-range 1 groups (suc i + 1) (omega arith) (omega arith))
-        ]
-
-    -- Every group has a level.
-    group-level : (j : ℕ) → Mem j (range 1 groups) → (i : ℕ) × (i < groups) × (j ≡ groupAt k i)
-    group-level j m =
-        let (low, high) = of-range 1 groups m in
-        elim (decLt j (k .group)) [
-          | yes less ↦ (j, omega (arith, valid .group-high), sym (group-before j low less))
-          | no more ↦ elim (decLt (k .group) j) [
-            | yes after ↦ (j - 1, omega arith, omega (arith, group-after (j - 1) (omega (arith, valid .group-low)) (omega arith)))
-            | no same ↦ (0, omega arith, omega (arith, group-first))
-          ]
-        ]
-
-    -- The first level names k's own group.
-    own-named : Names (ownGroup k) (levels k 0 1)
-    unfolding levels groupAt range
-    own-named =
-        record {
-          group = λ j m. rw (List·Memᴰ·eq-of-singleton m) (group-listed valid);
-          named = λ j m. rw (List·Memᴰ·eq-of-singleton m) (eqb-refl (k .group));
-          all = λ j l t. here (eqb→eq j (k .group) t);
-        }
-
-    -- All levels together name every group.
-    every-named : Names everyGroup (levels k 0 groups)
-    unfolding levels
-    every-named =
-        record {
-          group = λ j l. let (i, low, high, e) = of-levels 0 groups l in rw e (level-group i high);
-          named = λ j m. tt;
-          all = λ j l t. let (i, inside, e) = group-level j l in rw e (Memᴰ·map (groupAt k) (mem-range 0 groups i (omega arith) (omega arith)));
-        }
+-- ---- the approximate bound
 
 module _ (fs : List Frame) {k : Frame} (valid : ValidFrame k) where
-  -- The approximate bound is found at the first level.
-  pub approximate-refined : refined fs k (levels k 0 1) free ≡ approximateBound fs k
-  approximate-refined = refined-bound fs k (ownGroup k) (levels k 0 1) (own-named k valid)
+  -- The approximate bound fixes k's own group alone.
+  own-named : Names (ownGroup k) (k .group ∷ [])
+  own-named =
+      record {
+        group = λ j m. rw (List·Memᴰ·eq-of-singleton m) (group-listed valid);
+        named = λ j m. rw (List·Memᴰ·eq-of-singleton m) (eqb-refl (k .group));
+        all = λ j l t. here (eqb→eq j (k .group) t);
+      }
+
+  -- It is found by that.
+  pub approximate-refined : refined fs k (k .group ∷ []) free ≡ approximateBound fs k
+  approximate-refined = refined-bound fs k (ownGroup k) (k .group ∷ []) own-named
 
   -- Its scenarios are those in which the own group has one of its alignments and no other is fixed.
   pub own-scenarios : {cs : List Choice} → Mem cs (scenarios fs k (ownGroup k)) ↔ ((a : ℕ) × Mem a (orEmpty (alignments fs k (k .group))) × (cs ≡ set free (k .group - 1) (Fixed a)))
-  unfolding Leaf levels groupAt range
-  own-scenarios =
-      (λ m. listed-leaf fs k (ownGroup k) (levels k 0 1) (own-named k valid) m, λ l. leaf-listed fs k (ownGroup k) (levels k 0 1) (own-named k valid) l)
-
-  -- The precise bound is found at the last.
-  pub precise-refined : refined fs k (levels k 0 groups) free ≡ preciseBound fs k
-  precise-refined = refined-bound fs k everyGroup (levels k 0 groups) (every-named k valid)
-
-module _ (fs : List Frame) (k : Frame) (cs : List Choice) where
-  -- Where no level is left, the scenario's response counts.
-  pub refined-end : (i stop : ℕ) → stop ≤ i → refined fs k (levels k i stop) cs ≡ scenarioResponse fs k cs
-  unfolding refined levels range
-  refined-end i stop over = let none : stop - i ≡ 0 = omega arith in rw none
-
-  -- Where one is, its group takes each of its alignments.
-  pub refined-step : (i stop : ℕ) → i < stop
-      → refined fs k (levels k i stop) cs ≡ greatest (λ a. refined fs k (levels k (i + 1) stop) (set cs (groupAt k i - 1) (Fixed a))) (orEmpty (alignments fs k (groupAt k i)))
-  unfolding refined levels range
-  refined-step i stop inside = let some : stop - i ≡ suc (stop - suc i) = omega arith in rw some (rw add-one)
-
--- The choices of a search that has come to level i: the groups of the levels from i on are open, k's own is fixed before.
-pub record Level (k : Frame) (i : ℕ) (cs : List Choice) : Type 0 where
-  pub long : length cs ≡ groups
-  pub left : (m : ℕ) → i ≤ m → m < groups → choiceOf cs (groupAt k m) ≡ Any
-  pub own : 0 < i → (a : ℕ) × (choiceOf cs (k .group) ≡ Fixed a)
-
-module _ {k : Frame} (valid : ValidFrame k) where
-  -- It starts with no group fixed.
-  pub level-start : Level k 0 free
-  level-start =
-      record {
-        long = refl;
-        left = λ m low high. let (l, h) = of-range 1 groups (level-group k valid m high) in getD-replicate groups (groupAt k m - 1) Any Any (omega arith);
-        own = λ some. absurd (omega arith);
-      }
-
-  -- It goes on by an alignment a of the level's group j.
-  pub level-more : {i : ℕ} {cs : List Choice} → Level k i cs → i < groups → (j a : ℕ) → j ≡ groupAt k i → Level k (i + 1) (set cs (j - 1) (Fixed a))
-  level-more {i} {cs} level inside j a e =
-      rw e (record {
-        long = length-set cs (groupAt k i - 1) (Fixed a) ∙ level .long;
-        left = λ m low high. set-other cs (level-group k valid i inside) a (level-group k valid m high) (λ same. group-apart k i m (omega arith) (sym same)) ∙ level .left m (omega arith) high;
-        own = λ some. own i refl;
-      })
-    where
-      own : (n : ℕ) → i ≡ n → (b : ℕ) × (choiceOf (set cs (groupAt k i - 1) (Fixed a)) (k .group) ≡ Fixed b)
-      own zero z = (a, rw (z, group-first) (set-same cs (group-listed valid) a (level .long)))
-      own (suc n) z =
-          let (b, fixed) = level .own (omega arith) in
-          (b, set-other cs (level-group k valid i inside) a (group-listed valid) (λ same. group-apart k 0 i (omega arith) (group-first k ∙ same)) ∙ fixed)
+  unfolding Leaf
+  own-scenarios = (λ m. listed-leaf fs k (ownGroup k) (k .group ∷ []) own-named m, λ l. leaf-listed fs k (ownGroup k) (k .group ∷ []) own-named l)
 
 -- ---- leaving out a branch
 
@@ -442,18 +308,3 @@ module _ {fs : List Frame} (valid : Valid fs) {k : ℕ} (inside : k < length fs)
     pub open-pruned : refined fs f js cs ≤ scenarioResponse fs f cs
     open-pruned =
         refined-le fs f js cs (λ cs′ leaf. response-below cs cs′ (leaf-keeps fs f (Finer cs) (finer-more cs) js unrefined leaf .refines) (own .1) window)
-
-  -- A search has come to a level after the first, and its scenario has a window.
-  module _ {i : ℕ} {cs : List Choice} (level : Level f i cs) (some : 0 < i) (stop : ℕ) (within : stop ≤ groups) (l : ℕ) (window : busyWindow fs f cs ≡ At l) where
-    -- the groups of the levels left are open
-    level-open : StillOpen (levels f i stop) cs
-    level-open =
-        record {
-          long = level .long;
-          group = λ j m. let (n, low, high, e) = of-levels f i stop m in rw e (level-group f (valid .frame k inside) n (omega arith));
-          left = λ j m. let (n, low, high, e) = of-levels f i stop m in rw e (level .left n low (omega arith));
-        }
-
-    -- The branch may be left out where that has no greater response than what is found.
-    pub pruned : refined fs f (levels f i stop) cs ≤ scenarioResponse fs f cs
-    pruned = open-pruned level-open (level .own some) l window

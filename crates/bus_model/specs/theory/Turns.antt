@@ -4,14 +4,13 @@
 use Prim.Native.Nat.{ℕ, suc, _+_, _-_, _*_, _%_, _≤_, _<_, _∣_}
 use mathlib.Core.Path.{_≡_, refl, sym, ap, ap₂, subst, _∙_, fun-ext}
 use mathlib.Core.List.{List, [], _∷_, List·Memᴰ as Mem, List·Memᴰ·eq-of-singleton, List·Memᴰ·head as here, List·Memᴰ·tail as there, List·Memᴰ·not-nil}
-use mathlib.Core.Bool.{Bool}
 use native.Mathlib.Omega.{arith}
 use native.Mathlib.Nat.{le-of-dvd, mod-lt, mod-eq-of-lt, mod-mod-of-dvd, add-mul-mod-self-right, zero-mod}
 use native.Mathlib.Decide.{ℕ-discrete}
 use lib.Dec.{T, leb}
 use lib.ListN.{length, set, length-set}
-use Rattle.arith.specs.Lists.{greatest, keep, exists, range}
-use Rattle.arith.specs.Least.{least, orZero, isNone}
+use Rattle.arith.specs.Lists.{greatest, keep, range}
+use Rattle.arith.specs.Least.{least, orZero}
 use Rattle.arith.specs.Releases.{releasesBefore}
 use Rattle.arith.specs.laws.Sums.{sum-same, le-greatest, greatest-le}
 use Rattle.arith.specs.laws.Tests.{same-test}
@@ -26,8 +25,7 @@ use Rattle.bus_model.specs.theory.Pattern.{hyperperiod-multiple}
 use Rattle.bus_model.specs.theory.Frames.{Part, phase-fits, group-listed, valid-frame, better-ahead, of-ahead, of-group, group-part, self-ahead, group-divides, group-pos}
 use Rattle.bus_model.specs.theory.Alignment.{released-at, released-turn, or-empty}
 use Rattle.bus_model.specs.theory.Visits.{isAlignment, first-visited}
-use Rattle.bus_model.specs.theory.Refine.{refined, free, set-same, set-other}
-use Rattle.bus_model.specs.theory.Approximate.{greatestFound, greatest-found, scenarioFound, approximateFound, found-counts}
+use Rattle.bus_model.specs.theory.Refine.{refined, set-same, set-other}
 use Rattle.arith.specs.declared.Found.{Found}
 use Rattle.arith.specs.declared.Found.the-variants.{At, Nothing}
 use Rattle.bus_model.specs.declared.Frame.{Frame}
@@ -62,18 +60,6 @@ module _ (t : ℕ → ℕ) (xs ys : List ℕ) (into : (a : ℕ) → Mem a xs →
       let most = greatest-le {f = f} xs (λ a m. le-greatest f (into a m)) in
       let least = greatest-le {f = f} ys (λ a m. rw (same a) at (le-greatest f (back a m))) in
       omega arith
-
-  -- whether one passes
-  exists-back : (p : ℕ → Bool) → ((a : ℕ) → p (t a) ≡ p a) → exists p xs ≡ exists p ys
-  exists-back p same =
-      same-test _ _
-      (λ u. let (a, m, v) = of-exists p xs u in exists-mem p (into a m) v)
-      (λ u. let (a, m, v) = of-exists p ys u in exists-mem p (back a m) (rw (same a) v))
-
-  -- the greatest of what is found
-  found-back : (f : ℕ → Found) → ((a : ℕ) → f (t a) ≡ f a) → greatestFound f xs ≡ greatestFound f ys
-  found-back f same =
-      rw (greatest-found f xs, greatest-found f ys, exists-back (λ a. isNone (f a)) (λ a. ap isNone (same a)), greatest-back (λ a. orZero (f a)) (λ a. ap orZero (same a)))
 
 module _ {fs : List Frame} (valid : Valid fs) (k : Frame) (j : ℕ) where
   -- ---- the turn
@@ -151,10 +137,6 @@ module _ {fs : List Frame} (valid : Valid fs) (k : Frame) (j : ℕ) where
     -- The same without the empty alignment.
     pub greatest-first : greatest f (firstTurn fs k j) ≡ greatest f (alignments fs k j)
     greatest-first = greatest-back (λ a. a % turn fs k j) (firstTurn fs k j) (alignments fs k j) (λ a m. first-alignment m) (λ a m. turned-alignment m) f same
-
-  -- So has what may be missing.
-  pub found-turn : (f : ℕ → Found) → ((a : ℕ) → f (a % turn fs k j) ≡ f a) → greatestFound f (orEmpty (firstTurn fs k j)) ≡ greatestFound f (orEmpty (alignments fs k j))
-  found-turn f same = found-back (λ a. a % turn fs k j) (orEmpty (firstTurn fs k j)) (orEmpty (alignments fs k j)) (λ a m. first-aligned m) (λ a m. turned m) f same
 
   module _ {gs : List Frame} (part : Part fs k gs) where
     -- The work at an alignment is that at the same one of the first turn.
@@ -255,14 +237,10 @@ module _ {fs : List Frame} (valid : Valid fs) {k : ℕ} (inside : k < length fs)
         (fun-ext (λ q. rw (delay-alike fs f cs cs′ alike q, own-alike)))
         own-alike
 
-    -- So one search finds the same in both,
-    pub found-alike : scenarioFound fs f cs ≡ scenarioFound fs f cs′
-    unfolding scenarioFound
-    found-alike = ap₂ (λ (r : Found) (h : ℕ → ℕ). elim r as (λ _. Found) [ At l ↦ At (h l) | Nothing ↦ Nothing ]) (window-alike fs f cs cs′ alike) (fun-ext time-alike)
-
-    -- and they have the same response.
+    -- So they have the same response.
     pub response-alike : scenarioResponse fs f cs ≡ scenarioResponse fs f cs′
-    response-alike = sym (found-counts fs f cs) ∙ ap orZero found-alike ∙ found-counts fs f cs′
+    unfolding scenarioResponse
+    response-alike = ap₂ (λ (r : Found) (h : ℕ → ℕ). elim r as (λ _. ℕ) [ At l ↦ h l | Nothing ↦ 0 ]) (window-alike fs f cs cs′ alike) (fun-ext time-alike)
 
   -- Group by group the same is found from both.
   pub refined-alike : (js : List ℕ) → ((j : ℕ) → Mem j js → Mem j (range 1 groups)) → (cs cs′ : List Choice) → Alike fs f cs cs′ → length cs ≡ groups → length cs′ ≡ groups
@@ -293,14 +271,6 @@ module _ {fs : List Frame} (valid : Valid fs) {k : ℕ} (inside : k < length fs)
     refined-turn js group =
         greatest-turn valid f j (λ a. refined fs f js (fixed a)) (λ a.
         refined-alike js group (fixed (a % turn fs f j)) (fixed a) (alike-turn a) (length-set cs (j - 1) (Fixed (a % turn fs f j)) ∙ long) (length-set cs (j - 1) (Fixed a) ∙ long))
-
-  -- The approximate bound is found in the first turn of the frame's own group.
-  pub approximate-turn : greatestFound (λ a. scenarioFound fs f (set free (f .group - 1) (Fixed a))) (orEmpty (firstTurn fs f (f .group))) ≡ approximateFound fs f
-  unfolding approximateFound
-  approximate-turn =
-      let own : ℕ → List Choice = λ a. set free (f .group - 1) (Fixed a) in
-      found-turn valid f (f .group) (λ a. scenarioFound fs f (own a)) (λ a.
-      found-alike (own (a % turn fs f (f .group))) (own a) (alike-turn free refl (f .group) (group-listed (valid .frame k inside)) a))
 
 -- ---- a visit of the first turn
 
