@@ -35,11 +35,11 @@ pub record Noted (f : Frame → ℕ) (fs : List Frame) (part area : List ℕ) : 
   pub size : length area ≡ 64
   pub each : (i : ℕ) → i < length part → getD area i 0 ≡ f (row fs (getD part i 0))
 
--- the length of a frame, its period and the rest stand at place i of an area, three numbers a place
+-- the length of a frame, its period and the rest stand at place i of an area: of its lengths, of its periods, which are behind these, and of its rests
 pub record NotesOf (n : ℕ) (g : Frame) (area : List ℕ) (i : ℕ) : Type 0 where
-  pub length : getD area (3 * i) 0 ≡ g .length
-  pub period : getD area (3 * i + 1) 0 ≡ g .period
-  pub rest : getD area (3 * i + 2) 0 ≡ restOf n g
+  pub length : getD area i 0 ≡ g .length
+  pub period : getD area (64 + i) 0 ≡ g .period
+  pub rest : getD area (128 + i) 0 ≡ restOf n g
 
 -- those of the frame in each of a group's rows do
 pub record Notes (n : ℕ) (fs : List Frame) (part area : List ℕ) : Type 0 where

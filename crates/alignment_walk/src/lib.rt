@@ -21,10 +21,13 @@ ghost use Rattle.bus_model.specs.Bounds.{phase, workAt, orEmpty};
 ghost use Rattle.workload.specs.Prepared.{Fine, FinePart, framesIn, tableOf, isInstant, instantsIn, orEnd};
 ghost use Rattle.alignment_walk.specs.Steps.{nextRelease, waitFrom, wholeDemand, extraDemand, Notes, Noted};
 
-// So many numbers are noted of a frame: its length, its period, and the rest that its whole periods leave;
-const NOTE: usize = 3;
+// Noted of a group's frames are first the lengths, from here on the periods,
+const PERIODS: usize = 64;
 
-// and so many of a group's frames.
+// and from here on the rests that the whole periods leave:
+const RESTS: usize = 128;
+
+// so many numbers, those of one kind behind each other, as the walk reads them.
 const NOTES: usize = 192;
 
 // The first release of the frame at or after a tick, as its alignments have it.
@@ -103,10 +106,9 @@ fn begin(
         let r = row_at(rows, prepared, index(part[i]));
         let g = r.frame;
         let times = quotient(n, g.period, r.inverse);
-        let at = NOTE * i;
-        notes[at] = g.length;
-        notes[at + 1] = g.period;
-        notes[at + 2] = n - times * g.period;
+        notes[i] = g.length;
+        notes[PERIODS + i] = g.period;
+        notes[RESTS + i] = n - times * g.period;
         waits[i] = phase_of(g, r.inverse) - first;
         whole += g.length as u64 * times as u64;
         i += 1;
@@ -140,10 +142,9 @@ fn visit(
     let mut least = end - a;
     let mut i = 0;
     while i < part.len() {
-        let at = NOTE * i;
         let wait = waits[i] - gap;
-        extra += in_rest(wait, notes[at + 2], notes[at]);
-        let later = wait_after(wait, notes[at + 1]);
+        extra += in_rest(wait, notes[RESTS + i], notes[i]);
+        let later = wait_after(wait, notes[PERIODS + i]);
         waits[i] = later;
         least = lesser(least, later);
         i += 1;

@@ -43,7 +43,7 @@ baseOf blocked k Window = blocked
 baseOf blocked k (Instance q) = blocked + q * k .length
 
 -- up to so many ticks after x: a start looks at the better frames released at x itself too
-unfoldable pub shiftOf : Search → ℕ
+abbrev pub shiftOf : Search → ℕ
 shiftOf Window = 0
 shiftOf (Instance q) = 1
 

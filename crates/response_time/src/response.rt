@@ -81,16 +81,8 @@ fn max_with_window(
             continue;
         }
         let search = Search::Instance(q);
-        let found = fixed_point(
-            rows,
-            prepared,
-            target,
-            choices,
-            search,
-            from,
-            WINDOW_LIMIT,
-            memory,
-        );
+        let end = WINDOW_LIMIT;
+        let found = fixed_point(rows, prepared, target, choices, search, from, end, memory);
         let delay = or_zero(found);
         most = greater(most, response(delay, k.length, d + q * k.period));
         near = delay;
@@ -117,6 +109,9 @@ pub fn max_with_scenario(
     ensures { λ r. ⌜ r ≡ max best (scenarioResponse (tableOf (now (rows .entry)) (now (prepared .entry))) (target .frame) choices) ⌝ }
     ensures ready { λ _. ⌜ Ready (now (rows .entry)) (now (prepared .entry)) target (now (memory .exit)) ⌝ }
 {
+    if reach == 0 {
+        return best;
+    }
     if sweep(rows, prepared, target, choices, reach, best, 0, memory) == 0 {
         return best;
     }

@@ -24,6 +24,11 @@ unfoldable pub isLoad : Search → Frame → Frame → Bool
 isLoad Window k g = isAhead k g
 isLoad (Instance q) k g = isBetter k g
 
+-- by how much such a frame goes before k, at the least
+abbrev pub leadOf : Search → ℕ
+leadOf Window = 0
+leadOf (Instance q) = 1
+
 -- how long after the start a frame is released first: its distance where its group's alignment is fixed, and at once where that is open
 unfoldable pub firstRelease : Choice → Frame → ℕ
 firstRelease (Fixed a) g = distance g a

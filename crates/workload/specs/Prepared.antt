@@ -2,8 +2,7 @@
 use Prim.Native.Nat.{ℕ, _+_, _*_, _/_, _≤_, _<_}
 use mathlib.Core.Path.{_≡_}
 use mathlib.Core.List.{List, map, List·Memᴰ as Mem}
-use mathlib.Core.Bool.{Bool, true, false, _&&_}
-use lib.Dec.{eqb, leb}
+use mathlib.Core.Bool.{Bool}
 use lib.ListN.{length, getD, take, drop}
 use Rattle.arith.specs.Lists.{keep, exists, range}
 use Rattle.arith.specs.declared.Found.{Found}
@@ -22,6 +21,7 @@ use Rattle.table_checks.specs.Columns.{columns, field, groupColumn, periodColum
 pub record Fine (g : Frame) : Type 0 where
   pub group-low : 1 ≤ g .group
   pub group-high : g .group ≤ 16
+  pub priority-high : g .priority < 4294967296
   pub length-low : 1 ≤ g .length
   pub length-high : g .length ≤ 400
   pub period-low : 1 ≤ g .period
@@ -124,8 +124,3 @@ instantsIn gs e = keep (isInstant gs) (range 0 e)
 unfoldable pub orEnd : ℕ → Found → ℕ
 orEnd e (At m) = m
 orEnd e Nothing = e
-
--- whether a frame counts at group j: each of the group's, or those ahead of k
-unfoldable pub isCounted : Bool → Frame → ℕ → Frame → Bool
-isCounted true k j g = eqb (g .group) j
-isCounted false k j g = eqb (g .group) j && leb (g .priority) (k .priority)

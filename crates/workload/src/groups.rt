@@ -3,36 +3,29 @@ use crate::prepared::GROUP_NUMBERS;
 use crate::prepared::GROUPS;
 use crate::prepared::LISTED;
 use crate::prepared::NUMBERS;
+use crate::work::index;
 use bus_model::Frame;
 use table_checks::ROW;
 use table_checks::frame;
 ghost use mathlib.Core.Path.{_≡_};
 ghost use mathlib.Core.Bool.{cond, _&&_};
+ghost use mathlib.Core.List.{List·Memᴰ as Mem};
 ghost use Prim.Native.Nat.{_≤_};
 ghost use lib.ListN.{length, take};
 ghost use lib.Dec.{eqb, leb};
 ghost use Rattle.arith.specs.Multiples.{lcm};
-ghost use Rattle.bus_model.specs.Pattern.{ofGroup};
+ghost use Rattle.bus_model.specs.declared.Frame.{Frame};
+ghost use Rattle.bus_model.specs.Pattern.{ofGroup, hyperperiod};
 ghost use Rattle.bus_model.specs.Bounds.{ahead};
-ghost use Rattle.bus_model.specs.theory.Hyperperiod.{commonOf};
+ghost use Rattle.bus_model.specs.theory.Hyperperiod.{hyperOf};
 ghost use Rattle.table_checks.specs.Frames.{framesOf};
-ghost use Rattle.workload.specs.Prepared.{framesIn, isCounted, FineTable, ByGroup};
+ghost use Rattle.workload.specs.Prepared.{Fine, framesIn, FineTable, ByGroup};
 
 // Whether a frame is the group's and ahead of k.
 fn belongs(g: Frame, k: Frame, group: u32) -> bool
     ensures { λ r. ⌜ r ≡ (eqb (g .group) group && leb (g .priority) (k .priority)) ⌝ }
 {
     g.group == group && g.priority <= k.priority
-}
-
-// Whether a frame counts at a group: each of the group's, or those ahead of k.
-fn is_counted(g: Frame, k: Frame, group: u32, whole: bool) -> bool
-    ensures { λ r. ⌜ r ≡ isCounted whole k group g ⌝ }
-{
-    if whole {
-        return g.group == group;
-    }
-    belongs(g, k, group)
 }
 
 // The least common multiple of h and the period of a frame, where it counts.
@@ -47,18 +40,34 @@ fn joined(h: u32, counts: bool, g: Frame) -> u32
     }
 }
 
-// The least common multiple of the periods of a group's frames, all of them or those ahead of k.
-fn common_multiple(lengths: [[u32; 9]; 2], rows: &[u32], k: Frame, group: u32, whole: bool) -> u32
+// The hyperperiod of a group: the least common multiple of its frames' periods.
+fn group_hyperperiod(lengths: [[u32; 9]; 2], rows: &[u32], group: u32) -> u32
     requires { ⌜ FineTable (framesOf lengths (now rows)) ⌝ }
     requires { ⌜ (1 ≤ group) × (group ≤ 16) ⌝ }
-    ensures { λ r. ⌜ r ≡ commonOf (isCounted whole k group) (framesOf lengths (now (rows .entry))) ⌝ }
+    ensures { λ r. ⌜ r ≡ hyperOf group (framesOf lengths (now (rows .entry))) ⌝ }
 {
     let mut h: u32 = 1;
     let mut i = rows.len() / ROW;
     while 0 < i {
         i -= 1;
         let g = frame(lengths, rows, i);
-        h = joined(h, is_counted(g, k, group, whole), g);
+        h = joined(h, g.group == group, g);
+    }
+    h
+}
+
+// That of the frames in some rows.
+fn part_hyperperiod(lengths: [[u32; 9]; 2], rows: &[u32], part: &[u32]) -> u32
+    requires { ⌜ ((g : Frame) → Mem g (framesIn (framesOf lengths (now rows)) (now part)) → Fine g) ⌝ }
+    requires { ⌜ hyperperiod (framesIn (framesOf lengths (now rows)) (now part)) ≤ 1000000 ⌝ }
+    ensures { λ r. ⌜ r ≡ hyperperiod (framesIn (framesOf lengths (now (rows .entry))) (now (part .entry))) ⌝ }
+{
+    let mut h: u32 = 1;
+    let mut i = part.len();
+    while 0 < i {
+        i -= 1;
+        let g = frame(lengths, rows, index(part[i]));
+        h = joined(h, true, g);
     }
     h
 }
@@ -95,8 +104,9 @@ pub fn by_group(lengths: [[u32; 9]; 2], rows: &[u32], k: Frame, lists: &mut [u32
         let group = (j + 1) as u32;
         let from = LISTED + listed;
         let count = gather(lengths, rows, k, group, &mut lists[from..NUMBERS]);
-        let cycle = common_multiple(lengths, rows, k, group, false);
-        let hyperperiod = common_multiple(lengths, rows, k, group, true);
+        let to = from + count;
+        let cycle = part_hyperperiod(lengths, rows, &lists[from..to]);
+        let hyperperiod = group_hyperperiod(lengths, rows, group);
         let at = GROUP_NUMBERS * j;
         lists[at] = listed as u32;
         lists[at + 1] = count as u32;

@@ -11,7 +11,7 @@ ghost use mathlib.Core.Path.{_≡_};
 ghost use Prim.Native.Nat.{_+_, _*_, _≤_};
 ghost use lib.ListN.{length, take};
 ghost use Rattle.workload.specs.Prepared.{Fine, tableOf, Filled};
-ghost use Rattle.workload.specs.Placed.{isLoad, firstRelease, placedIn, placedBy, putAt, placedOut, placedWork, FinePlaced};
+ghost use Rattle.workload.specs.Placed.{isLoad, leadOf, firstRelease, placedIn, placedBy, putAt, placedOut, placedWork, FinePlaced};
 
 // So many numbers has a placed frame,
 pub const PLACED: usize = 4;
@@ -19,14 +19,23 @@ pub const PLACED: usize = 4;
 // and so many those of the longest table.
 pub const PLACES: usize = 256;
 
-// Whether a frame loads what is looked for: a busy window, or a start.
-fn is_load(g: Frame, k: Frame, search: Search) -> bool
-    ensures { λ r. ⌜ r ≡ isLoad search k g ⌝ }
+// By how much a frame that loads what is looked for goes before k at the least: k loads its busy window itself, and no start.
+fn lead_of(search: Search) -> u64
+    ensures { λ r. ⌜ r ≡ leadOf search ⌝ }
+    ensures small { λ r. ⌜ r ≤ 1 ⌝ }
 {
     match search {
-        Search::Window => g.priority <= k.priority,
-        Search::Instance(_) => g.priority < k.priority,
+        Search::Window => 0,
+        Search::Instance(_) => 1,
     }
+}
+
+// Whether a frame loads what is looked for.
+fn is_load(g: Frame, k: Frame, search: Search) -> bool
+    requires { ⌜ Fine g ⌝ }
+    ensures { λ r. ⌜ r ≡ isLoad search k g ⌝ }
+{
+    g.priority + lead_of(search) <= k.priority
 }
 
 // How long after the start a frame is released first: at once, where the alignment is open.

@@ -2,7 +2,7 @@
 use crate::prepared::row_at;
 use bus_model::Frame;
 ghost use mathlib.Core.Path.{_≡_};
-ghost use Prim.Native.Nat.{_-_, _*_, _/_, _≤_, _<_, min};
+ghost use Prim.Native.Nat.{_-_, _*_, _/_, _%_, _≤_, _<_, min};
 ghost use Rattle.arith.specs.Releases.{releasesBefore};
 ghost use Rattle.bus_model.specs.Bounds.{phase, distance, demand, workAt};
 ghost use Rattle.workload.specs.Prepared.{Fine, FinePart, framesIn, tableOf};
@@ -30,6 +30,18 @@ pub fn quotient(x: u32, p: u32, inverse: u32) -> u32
     x / p
 }
 
+// What whole p leave of x. Mostly x is below p, and then nothing is divided.
+fn remainder(x: u32, p: u32, inverse: u32) -> u32
+    requires { ⌜ 1 ≤ p ⌝ }
+    ensures { λ r. ⌜ r ≡ x % p ⌝ }
+    ensures small { λ r. ⌜ r < p ⌝ }
+{
+    if x < p {
+        return x;
+    }
+    x - quotient(x, p, inverse) * p
+}
+
 // 1 where d is below n, and 0 elsewhere.
 fn counts_below(d: u32, n: u32) -> u32
     ensures { λ r. ⌜ r ≡ min 1 (n - d) ⌝ }
@@ -55,7 +67,7 @@ pub fn phase_of(g: Frame, inverse: u32) -> u32
     ensures { λ r. ⌜ r ≡ phase g ⌝ }
     ensures small { λ r. ⌜ r < g .period ⌝ }
 {
-    g.offset - quotient(g.offset, g.period, inverse) * g.period
+    remainder(g.offset, g.period, inverse)
 }
 
 // How long after alignment a the frame is released.
@@ -64,7 +76,7 @@ pub fn distance_from(g: Frame, a: u32, inverse: u32) -> u32
     ensures { λ r. ⌜ r ≡ distance g a ⌝ }
     ensures small { λ r. ⌜ r < g .period ⌝ }
 {
-    let rest = a - quotient(a, g.period, inverse) * g.period;
+    let rest = remainder(a, g.period, inverse);
     let later = phase_of(g, inverse) + (g.period - rest);
     if later < g.period {
         later

@@ -5,16 +5,15 @@ use mathlib.Core.List.{Memᴰ·map}
 use native.Mathlib.Omega.{arith}
 use native.Mathlib.Nat.{add-zero, zero-add, div-mul-le-self, mod-eq-sub-div-mul}
 use borrow.Author.Needs.{needs}
-use lib.ListN.{length, length-set, getD}
+use lib.ListN.{length, getD}
 use Rattle.arith.specs.Lists.{sum}
 use Rattle.arith.specs.laws.Members.{mem-getD}
 use Rattle.arith.specs.laws.Walks.{Through, through-start, through-more, through-end, sum-more}
-use Rattle.bus_model.specs.declared.Frame.{Frame}
 use Rattle.bus_model.specs.Frame.{row}
 use Rattle.bus_model.specs.Bounds.{phase}
 use Rattle.workload.specs.Prepared.{Fine, framesIn, tableOf}
 use Rattle.workload.specs.laws.Fine.{part-fine}
-use Rattle.alignment_walk.specs.Steps.{waitFrom, restOf, wholeDemand}
+use Rattle.alignment_walk.specs.Steps.{waitFrom, wholeDemand}
 use Rattle.alignment_walk.specs.laws.Parts.{wait-first}
 use Rattle.alignment_walk.specs.laws.Steps.{NotedTo, note-none, note-more, note-all, NotesTo, notes-none, notes-more, notes-all, whole-small}
 use Rattle.alignment_walk.proofs.begin.Statement.{statement}
@@ -69,9 +68,6 @@ small c =
     let f = c .before .before in
     let s = c .before .before .before .before .before .before .before .before .before .before in
     rw (c .quotient .ensures) (whole-small (fine f) (s .args .n) (s .pre .1 .0 .0))
-
-mul-at : tie.Need-mul-at Inv-loop μ-loop
-mul-at c = omega (arith, few (c .before .before))
 
 mul-notes : tie.Need-mul-notes Inv-loop μ-loop
 mul-notes c = search needs
@@ -174,7 +170,6 @@ begin-spec =
     index-requires
     row-at-requires
     quotient-requires
-    mul-at
     mul-notes
     element-write-notes
     add-notes

@@ -66,9 +66,6 @@ noted c = c .before .loop .inv .5 .each (c .before .loop .i) (omega arith) (c .l
 waited : (c : tie.In-loop Inv-loop μ-loop) → let a = c .before .before .before .before .before .args in getD (c .before .loop .waits) (c .before .loop .i) 0 - a .gap ≡ waitFrom (a .a) (a .a) (frame c)
 waited c = omega (arith, noted c, next-late (fine c) (c .before .before .before .before .before .args .a), c .before .before .before .before .before .pre .1 .0)
 
-mul-at : tie.Need-mul-at Inv-loop μ-loop
-mul-at c = omega (arith, few (c))
-
 mul-wait : tie.Need-mul-wait Inv-loop μ-loop
 mul-wait c = search needs
 
@@ -176,7 +173,6 @@ visit-spec =
     μ-loop
     sub-least
     loop-holds
-    mul-at
     mul-wait
     element-copy-out-wait
     sub-wait

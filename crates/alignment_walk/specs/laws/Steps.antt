@@ -1,6 +1,7 @@
 -- A walk along the alignments of a group: the demand of the whole periods and of their rest, and what is noted of each frame.
-use Prim.Native.Nat.{ℕ, _+_, _-_, _*_, _/_, _%_, _≤_, _<_}
+use Prim.Native.Nat.{ℕ, _+_, _-_, _/_, _%_, _≤_, _<_}
 use mathlib.Core.Path.{_≡_, refl, ap, _∙_}
+use mathlib.Core.Logic.{_≢_}
 use mathlib.Core.Bool.{Bool, true, false, cond}
 use mathlib.Core.List.{List, [], _∷_, List·Memᴰ as Mem, List·Memᴰ·head as here, List·Memᴰ·tail as there, Memᴰ·map}
 use native.Mathlib.Omega.{arith}
@@ -126,7 +127,7 @@ module _ {f : Frame → ℕ} {fs : List Frame} {part area : List ℕ} where
   pub note-all : {i : ℕ} → NotedTo f fs part area i → length part ≤ i → Noted f fs part area
   note-all all over = record { size = all .size; each = λ j l. all .each j (omega arith) }
 
--- the first i places of an area of three numbers a place are noted
+-- the first i places of an area are noted
 pub record NotesTo (n : ℕ) (fs : List Frame) (part area : List ℕ) (i : ℕ) : Type 0 where
   pub size : length area ≡ 192
   pub each : (j : ℕ) → j < i → NotesOf n (row fs (getD part j 0)) area j
@@ -136,26 +137,26 @@ module _ {n : ℕ} {fs : List Frame} {part area : List ℕ} where
   notes-none size = record { size = size; each = λ j l. absurd (omega arith) }
 
   pub notes-more : {i : ℕ} → NotesTo n fs part area i → i < 64 → {g : Frame} → g ≡ row fs (getD part i 0) → {rest : ℕ} → rest ≡ restOf n g
-      → NotesTo n fs part (set (set (set area (3 * i) (g .length)) (3 * i + 1) (g .period)) (3 * i + 2) rest) (i + 1)
+      → NotesTo n fs part (set (set (set area i (g .length)) (64 + i) (g .period)) (128 + i) rest) (i + 1)
   notes-more {i} all inside {g} is {rest} rests =
-      let one = set area (3 * i) (g .length) in
-      let two = set one (3 * i + 1) (g .period) in
-      let size-one : length one ≡ 192 = length-set area (3 * i) (g .length) ∙ all .size in
-      let size-two : length two ≡ 192 = length-set one (3 * i + 1) (g .period) ∙ size-one in
-      let stays : (m : ℕ) → m < 3 * i → getD (set two (3 * i + 2) rest) m 0 ≡ getD area m 0 =
-      λ m l. getD-set-other two (3 * i + 2) m rest 0 (omega arith) ∙ getD-set-other one (3 * i + 1) m (g .period) 0 (omega arith) ∙ getD-set-other area (3 * i) m (g .length) 0 (omega arith) in
+      let one = set area i (g .length) in
+      let two = set one (64 + i) (g .period) in
+      let size-one : length one ≡ 192 = length-set area i (g .length) ∙ all .size in
+      let size-two : length two ≡ 192 = length-set one (64 + i) (g .period) ∙ size-one in
+      let stays : (m : ℕ) → m ≢ i → m ≢ 64 + i → m ≢ 128 + i → getD (set two (128 + i) rest) m 0 ≡ getD area m 0 =
+      λ m a b c. getD-set-other two (128 + i) m rest 0 c ∙ getD-set-other one (64 + i) m (g .period) 0 b ∙ getD-set-other area i m (g .length) 0 a in
       record {
-        size = length-set two (3 * i + 2) rest ∙ size-two;
+        size = length-set two (128 + i) rest ∙ size-two;
         each = below-more _ _
             (λ j l. let o = all .each j l in record {
-              length = stays (3 * j) (omega arith) ∙ o .length;
-              period = stays (3 * j + 1) (omega arith) ∙ o .period;
-              rest = stays (3 * j + 2) (omega arith) ∙ o .rest;
+              length = stays j (omega arith) (omega arith) (omega arith) ∙ o .length;
+              period = stays (64 + j) (omega arith) (omega arith) (omega arith) ∙ o .period;
+              rest = stays (128 + j) (omega arith) (omega arith) (omega arith) ∙ o .rest;
             })
             (record {
-              length = getD-set-other two (3 * i + 2) (3 * i) rest 0 (omega arith) ∙ getD-set-other one (3 * i + 1) (3 * i) (g .period) 0 (omega arith) ∙ getD-set-same area (3 * i) (g .length) 0 (omega (arith, all .size)) ∙ ap (λ (x : Frame). x .length) is;
-              period = getD-set-other two (3 * i + 2) (3 * i + 1) rest 0 (omega arith) ∙ getD-set-same one (3 * i + 1) (g .period) 0 (omega arith) ∙ ap (λ (x : Frame). x .period) is;
-              rest = getD-set-same two (3 * i + 2) rest 0 (omega arith) ∙ rests ∙ ap (restOf n) is;
+              length = getD-set-other two (128 + i) i rest 0 (omega arith) ∙ getD-set-other one (64 + i) i (g .period) 0 (omega arith) ∙ getD-set-same area i (g .length) 0 (omega (arith, all .size)) ∙ ap (λ (x : Frame). x .length) is;
+              period = getD-set-other two (128 + i) (64 + i) rest 0 (omega arith) ∙ getD-set-same one (64 + i) (g .period) 0 (omega arith) ∙ ap (λ (x : Frame). x .period) is;
+              rest = getD-set-same two (128 + i) rest 0 (omega arith) ∙ rests ∙ ap (restOf n) is;
             });
       }
 

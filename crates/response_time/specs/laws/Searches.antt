@@ -101,7 +101,7 @@ module _ {gs : List Placed} (fine : FinePlaced gs) (shift base e x : ℕ) {neede
 -- Where every group's alignment is fixed, the placed frames hold what the scenario holds.
 module _ {fs : List Frame} (table : FineTable fs) (k : Frame) (cs : List Choice) (fixed : AllFixed cs) where
   holds-placed : (search : Search) → placedHolds (placedOut fs k search cs) (shiftOf search) (baseOf (blocking fs k) k search) ≡ holds fs k cs search
-  unfolding placedHolds holds shiftOf baseOf windowLoad delayLoad
+  unfolding placedHolds holds baseOf windowLoad delayLoad
   holds-placed Window = fun-ext (λ x. rw (ahead-exact table k cs fixed x, add-zero x))
   holds-placed (Instance q) = fun-ext (λ x. rw (better-exact table k cs fixed (suc x) q, ← add-one x))
 

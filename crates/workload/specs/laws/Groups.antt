@@ -1,12 +1,11 @@
 -- The rows of each group's frames ahead of k, as they are found and then read; and the lengths below k.
-use Prim.Native.Nat.{ℕ, suc, _+_, _-_, _*_, _≤_, _<_, max}
+use Prim.Native.Nat.{ℕ, zero, suc, _+_, _-_, _*_, _≤_, _<_, max}
 use mathlib.Core.Path.{_≡_, refl, sym, ap, ap₂, subst, _∙_}
-use mathlib.Core.Bool.{Bool, true, false, cond, _&&_}
+use mathlib.Core.Bool.{Bool, cond, _&&_}
 use mathlib.Core.List.{List, [], _∷_, _++_, append-nil, List·Memᴰ as Mem, List·Memᴰ·head as here, List·Memᴰ·tail as there}
 use native.Mathlib.Omega.{arith}
-use native.Mathlib.Nat.{le-trans, sub-zero}
+use native.Mathlib.Nat.{le-refl, le-trans, sub-zero}
 use native.Mathlib.Decide.{decLe, ℕ-discrete}
-use native.Mathlib.Numerals.{add-one}
 use borrow.Author.Tests.{le-leb, lt-leb, eq-eqb, ne-eqb}
 use lib.Dec.{eqb, leb}
 use lib.ListN.{length, getD, take, drop, set, length-set, length-map, length-append, drop-of-length-le, List·getD-append}
@@ -15,9 +14,11 @@ use borrow.Author.Count.{below-more}
 use borrow.Rule.Slice.PartMut.{midOf, postOf, putMid, mid-len, post-is, same-len-mid}
 use Rattle.arith.specs.Lists.{greatest, keep, range}
 use Rattle.arith.specs.Least.{least}
-use Rattle.arith.specs.laws.Members.{of-keep, fold-keep, map-keep, keep-keep, keep-le, list-places, part-before, part-written, part-start, getD-within}
+use Rattle.arith.specs.Multiples.{lcm, lcmOf}
+use Rattle.arith.specs.laws.Members.{of-keep, fold-keep, map-keep, keep-keep, keep-le, list-places, part-before, part-written, part-start, getD-within, mem-getD}
+use Rattle.arith.specs.laws.Multiples.{lcm-ge-second}
 use Rattle.arith.specs.laws.Sums.{greatest-le}
-use Rattle.arith.specs.laws.Walks.{Down, down-start, down-more}
+use Rattle.arith.specs.laws.Walks.{Down, down-start, down-more, down-end}
 use Rattle.arith.specs.laws.Gathering.{Gathered, gathered-all}
 use Rattle.bus_model.specs.declared.Frame.{Frame}
 use Rattle.bus_model.specs.declared.Choice.{Choice}
@@ -25,12 +26,10 @@ use Rattle.bus_model.specs.declared.Choice.the-variants.{Fixed, Any}
 use Rattle.bus_model.specs.Frame.{noFrame, row}
 use Rattle.bus_model.specs.Pattern.{ofGroup, hyperperiod}
 use Rattle.bus_model.specs.Bounds.{isAhead, isBelow, ahead, below, blocking, alignments, choiceOf, groupWork}
-use Rattle.bus_model.specs.Valid.{Valid}
 use Rattle.bus_model.specs.theory.Visits.{isAlignment}
-use Rattle.bus_model.specs.theory.Hyperperiod.{commonOf}
 use Rattle.bus_model.specs.theory.Turns.{turn, firstTurn, turn-pos, turn-le, group-work-turn}
 use Rattle.table_checks.specs.Frames.{framesOf}
-use Rattle.workload.specs.Prepared.{FineTable, framesIn, isInstant, instantsIn, isCounted, firstIn, countIn, cycleIn, hyperIn, partOf, tableBy, tableOf, ByGroup, Prepared}
+use Rattle.workload.specs.Prepared.{Fine, FineTable, framesIn, isInstant, instantsIn, firstIn, countIn, cycleIn, hyperIn, partOf, tableBy, tableOf, ByGroup, Prepared}
 use Rattle.workload.specs.laws.Fine.{member-fine}
 
 -- ---- blocking
@@ -98,22 +97,50 @@ rows-gathered fs k group g over =
     let frames = ap (framesIn fs) (rw sub-zero at all) ∙ rows-frames fs k group in
     (frames, (rw sub-zero at counted) ∙ sym (length-map (keep (rowBelongs fs k group) (range 0 (length fs))) (row fs)) ∙ ap length (rows-frames fs k group))
 
--- ---- the least common multiple of the periods of a group's frames
+-- ---- the hyperperiod of some frames, as a loop that goes down through them finds it
 
--- It is the hyperperiod of all its frames,
-pub counted-whole : (fs : List Frame) (k : Frame) (j : ℕ) → commonOf (isCounted true k j) fs ≡ hyperperiod (ofGroup fs j)
-unfolding isCounted ofGroup
-counted-whole fs k j = refl
+module _ (gs : List Frame) where
+  -- The loop starts at 1.
+  pub part-none : Down hyperperiod gs 1 (length gs)
+  unfolding hyperperiod lcmOf
+  part-none = down-start hyperperiod gs refl
 
--- and the turn of those ahead.
-pub counted-turn : (fs : List Frame) (k : Frame) (j : ℕ) → commonOf (isCounted false k j) fs ≡ turn fs k j
-unfolding isCounted turn ofGroup ahead
-counted-turn fs k j = ap hyperperiod (sym (keep-keep (isAhead k) (λ (g : Frame). eqb (g .group) j) fs))
+  module _ (fine : (g : Frame) → Mem g gs → Fine g) where
+    -- It takes one frame more, which never lowers the multiple.
+    pub part-more : {i : ℕ} {g : Frame} {h r : ℕ} → Down hyperperiod gs h i → 0 < i → g ≡ row gs (i - 1) → r ≡ lcm (g .period) h
+        → Down hyperperiod gs r (i - 1) × (h ≤ r)
+    part-more {i} {h = h} t pos is e =
+        let low = fine _ (mem-getD gs (i - 1) noFrame (omega (arith, t .inside))) .period-low in (
+          down-more hyperperiod gs (λ (x : Frame) (n : ℕ). lcm (x .period) n) (λ x xs. unfold hyperperiod lcmOf in refl) noFrame t pos is e,
+          rw (e, is) (lcm-ge-second (row gs (i - 1) .period) h low),
+        )
 
--- It is small.
-pub counted-small : {fs : List Frame} → FineTable fs → (k : Frame) {j : ℕ} → 1 ≤ j → j ≤ 16 → (whole : Bool) → commonOf (isCounted whole k j) fs ≤ 1000000
-counted-small {fs} table k {j} low high true = rw (counted-whole fs k j) (table .hyper j low high)
-counted-small {fs} table k {j} low high false = rw (counted-turn fs k j) (le-trans (turn-le (table .valid) k j) (table .hyper j low high))
+    -- So that of the frames read is at most that of all.
+    pub part-le : (i h : ℕ) → Down hyperperiod gs h i → h ≤ hyperperiod gs
+    part-le zero h t = omega (arith, down-end hyperperiod gs t (le-refl zero))
+    part-le (suc i) h t =
+        let s : suc i - 1 ≡ i = omega arith in
+        let next = rw s at (part-more t (omega arith) refl refl) in
+        le-trans (next .1) (part-le i _ (next .0))
+
+-- That of a group's frames ahead is small.
+pub turn-small : {fs : List Frame} → FineTable fs → (k : Frame) {j : ℕ} → 1 ≤ j → j ≤ 16 → turn fs k j ≤ 1000000
+turn-small {fs} table k {j} low high = le-trans (turn-le (table .valid) k j) (table .hyper j low high)
+
+ahead-fine : {fs : List Frame} → FineTable fs → (k : Frame) (j : ℕ) (g : Frame) → Mem g (ofGroup (ahead fs k) j) → Fine g
+unfolding ofGroup ahead
+ahead-fine {fs} table k j g m = member-fine fs table (of-keep _ fs (of-keep _ (ahead fs k) m .0) .0)
+
+module _ (fs : List Frame) (k : Frame) (j : ℕ) {gs : List Frame} (is : gs ≡ ofGroup (ahead fs k) j) where
+  -- So it may be computed,
+  pub part-within : FineTable fs → 1 ≤ j → j ≤ 16 → ((g : Frame) → Mem g gs → Fine g) × (hyperperiod gs ≤ 1000000)
+  unfolding turn
+  part-within table low high = rw is (ahead-fine table k j, turn-small table k low high)
+
+  -- and is the group's turn.
+  pub part-turn : hyperperiod gs ≡ turn fs k j
+  unfolding turn
+  part-turn = ap hyperperiod is
 
 -- ---- the groups one after the other
 
@@ -226,6 +253,13 @@ module _ (t : List ℕ) (i a b c d : ℕ) where
 -- What stands before a place stays where something is written from there on.
 before-written : (a : ℕ) (xs ys : List ℕ) → a ≤ length xs → (n : ℕ) → n < a → getD (take a xs ++ ys) n 0 ≡ getD xs n 0
 before-written a xs ys inside n less = List·getD-append (take a xs) ys 0 n (omega (arith, length-take-le a xs inside)) ∙ getD-take a xs n 0 less
+
+-- The rows that were put there are read.
+pub part-read : (fs : List Frame) (c from : ℕ) (lists area : List ℕ) → from ≤ length lists → c ≤ length area
+    → framesIn fs (midOf from (from + c - from) (putMid from (128 - from) lists area)) ≡ framesIn fs (take c area)
+part-read fs c from lists area inside room =
+    let same : from + c - from ≡ c = omega arith in
+    rw same (ap (framesIn fs) (part-written c from lists area (postOf from (128 - from) lists) inside room))
 
 module _ {fs : List Frame} {k : Frame} {lists : List ℕ} {listed : ℕ} where
   -- There is room for the next group's.
@@ -346,7 +380,7 @@ module _ {rows p : List ℕ} {k : Frame} (g : Prepared rows p k) (i : ℕ) (l : 
 
   -- The cycle is within its limits.
   pub cycle-small : cycleIn p i ≤ 1000000
-  cycle-small = rw read-cycle (le-trans (turn-le (g .filled .table .valid) k (i + 1)) (g .filled .table .hyper (i + 1) (omega arith) (omega arith)))
+  cycle-small = rw read-cycle (turn-small (g .filled .table) k (omega arith) (omega arith))
 
   pub cycle-pos : 1 ≤ cycleIn p i
   cycle-pos = rw read-cycle (turn-pos (g .filled .table .valid) k (i + 1))

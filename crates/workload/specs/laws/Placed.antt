@@ -5,10 +5,11 @@ use mathlib.Core.List.{List, [], _∷_, map, List·Memᴰ as Mem, List·Memᴰ·
 use mathlib.Core.Bool.{Bool, true, false, cond}
 use mathlib.Core.Logic.{_≢_}
 use native.Mathlib.Omega.{arith}
-use native.Mathlib.Nat.{le-refl, le-of-eq, mul-le-mul-left, zero-add}
+use native.Mathlib.Nat.{le-refl, le-of-eq, mul-le-mul-left, add-zero, zero-add}
 use native.Mathlib.Numerals.{add-one}
 use native.Mathlib.Decide.{decLe}
-use lib.Dec.{eqb, eqb-refl, eqb→eq}
+use borrow.Author.Tests.{le-leb, lt-leb, lt-ltb, le-ltb}
+use lib.Dec.{eqb, leb, ltb, eqb-refl, eqb→eq}
 use lib.ListN.{length, length-map, length-set, length-take, getD, set, take, drop, drop-of-length-le}
 use lib.Seq.{drop-cons, getD-set-same, getD-set-other, getD-take}
 use borrow.Author.Count.{below-more}
@@ -28,7 +29,7 @@ use Rattle.bus_model.specs.theory.Frames.{of-group}
 use Rattle.workload.specs.declared.Search.{Search}
 use Rattle.workload.specs.declared.Search.the-variants.{Window, Instance}
 use Rattle.workload.specs.Prepared.{Fine, FineTable}
-use Rattle.workload.specs.Placed.{Placed, isLoad, firstRelease, placedBy, placedFrame, placedOut, placedDemand, placedWork, AllFixed, FineOne, FinePlaced, noPlaced, placedAt, placedIn, putAt}
+use Rattle.workload.specs.Placed.{Placed, isLoad, leadOf, firstRelease, placedBy, placedFrame, placedOut, placedDemand, placedWork, AllFixed, FineOne, FinePlaced, noPlaced, placedAt, placedIn, putAt}
 use Rattle.workload.specs.laws.Fine.{member-fine}
 
 -- ---- a sum over frames, group by group
@@ -99,6 +100,15 @@ module _ (fs : List Frame) (k : Frame) (gs : List Frame) (fine : (g : Frame) →
   exact fixed = sum-same (range 1 groups) (λ j m. group-exact j (fixed j m .1)) ∙ sym (placed-groups gs fine cs n)
 
 -- ---- those that load a scenario of a table
+
+next-leb : (a b : ℕ) → leb (a + 1) b ≡ ltb a b
+next-leb a b = elim (decLe (a + 1) b) [ yes less ↦ le-leb (a + 1) b less ∙ sym (lt-ltb a b (omega arith)) | no over ↦ lt-leb (a + 1) b (omega arith) ∙ sym (le-ltb a b (omega arith)) ]
+
+-- They are those that go before k by so much.
+pub load-leads : (search : Search) (k g : Frame) → leb (g .priority + leadOf search) (k .priority) ≡ isLoad search k g
+unfolding isLoad
+load-leads Window k g = ap (λ (n : ℕ). leb n (k .priority)) (add-zero (g .priority))
+load-leads (Instance q) k g = next-leb (g .priority) (k .priority)
 
 module _ {fs : List Frame} (table : FineTable fs) (k : Frame) (cs : List Choice) where
   load-fine : (search : Search) (g : Frame) → Mem g (keep (isLoad search k) fs) → Fine g

@@ -1,6 +1,6 @@
 -- The table as it is read, and the numbers of its rows as they are put there.
 use Prim.Native.Nat.{ℕ, _+_, _*_, _/_, _≤_, _<_}
-use mathlib.Core.Path.{_≡_, sym, ap, _∙_}
+use mathlib.Core.Path.{_≡_, ap, _∙_}
 use mathlib.Core.List.{List}
 use mathlib.Core.Logic.{inl, inr}
 use native.Mathlib.Nat.{zero-add}
@@ -42,6 +42,16 @@ module _ (rows p : List ℕ) where
 
 -- ---- an accepted table
 
+-- Priorities are numbers of 32 bits.
+pub priority-short : (ls : List (List ℕ)) (rows : List ℕ) → Accepted rows → (i : ℕ) → i < length rows / columns → frameAt ls rows i .priority < 4294967296
+unfolding frameAt priorityOf
+priority-short ls rows accepted i l =
+    let m = accepted-limits rows accepted i l in
+    elim (identified-cases (field rows i kindColumn) (field rows i identifierColumn) (m .identified)) [
+      | inl a ↦ rw (a .0) (omega (arith, a .1))
+      | inr a ↦ rw (a .0) (omega (arith, a .1))
+    ]
+
 module _ (ls : List (List ℕ)) (loadable : Loadable ls) (rows : List ℕ) (accepted : Accepted rows) where
   row-fine : (i : ℕ) → i < length rows / columns → Fine (frameAt ls rows i)
   unfolding frameAt
@@ -51,6 +61,7 @@ module _ (ls : List (List ℕ)) (loadable : Loadable ls) (rows : List ℕ) (acce
       record {
         group-low = m .group-min;
         group-high = m .group-max;
+        priority-high = priority-short ls rows accepted i l;
         length-low = omega (arith, c .0);
         length-high = omega (arith, c .1);
         period-low = m .period-min;
@@ -110,15 +121,3 @@ module _ {ls : List (List ℕ)} {rows : List ℕ} where
       let inside : m < length rows / columns = omega arith in
       let s = f .each m (omega arith) in
       rw (s .priority, s .length, frame-row ls rows m inside))
-
--- Priorities are numbers of 32 bits.
-pub priority-short : (ls : List (List ℕ)) (rows : List ℕ) → Accepted rows → (i : ℕ) → i < length rows / columns → row (framesOf ls rows) i .priority < 4294967296
-unfolding frameAt priorityOf
-priority-short ls rows accepted i l =
-    let m = accepted-limits rows accepted i l in
-    rw (frame-row ls rows i l) (
-    elim (identified-cases (field rows i kindColumn) (field rows i identifierColumn) (m .identified)) [
-      | inl a ↦ rw (a .0) (omega (arith, a .1))
-      | inr a ↦ rw (a .0) (omega (arith, a .1))
-    ]
-    )

@@ -1,14 +1,15 @@
 -- `workload::groups::by_group` meets its contract: the invariant has the groups that are listed.
 use borrow.Author.Needs.{needs}
-use borrow.Rule.Slice.PartMut.{putMid, mid-len, same-len-mid}
-use Prim.Native.Nat.{ℕ, _+_, _*_, _-_, _≤_}
+use borrow.Rule.Slice.PartMut.{midOf, putMid, mid-len, same-len-mid}
+use Prim.Native.Nat.{ℕ, _+_, _-_, _≤_}
 use mathlib.Core.Path.{_≡_, _∙_, refl, sym}
 use native.Mathlib.Omega.{arith}
 use lib.ListN.{length, length-set}
 use Rattle.bus_model.specs.Pattern.{ofGroup}
 use Rattle.bus_model.specs.Bounds.{ahead}
 use Rattle.table_checks.specs.Frames.{framesOf}
-use Rattle.workload.specs.laws.Groups.{before-none, counted-turn, counted-whole, ListedTo, listed-room, listed-more, listed-all}
+use Rattle.workload.specs.Prepared.{framesIn}
+use Rattle.workload.specs.laws.Groups.{before-none, part-within, part-turn, part-read, ListedTo, listed-room, listed-more, listed-all}
 use Rattle.workload.proofs.groups.by_group.Statement.{statement}
 use Rattle.workload.proofs.groups.by_group.Tie as tie
 
@@ -53,30 +54,54 @@ gather-requires c κs =
     let n : ℕ = 64 + c .before .before .loop .listed in
     (s .pre .0 .few, omega (arith, r, mid-len n 128 (c .before .before .loop .lists) (omega (arith, c .before .before .loop .inv .size, r))))
 
-common-multiple-requires : tie.Need-common-multiple-requires Inv-loop μ-loop
-common-multiple-requires c κs = search needs
-
-common-multiple-requires-2 : tie.Need-common-multiple-requires-2 Inv-loop μ-loop
-common-multiple-requires-2 c κs = search needs
-
-mul-at : tie.Need-mul-at Inv-loop μ-loop
-mul-at c = search needs
-
 -- the area stays as long as it is
 size : (c : tie.After-gather Inv-loop μ-loop) → let n : ℕ = 64 + c .before .before .before .loop .listed in length (putMid n (128 - n) (c .before .before .before .loop .lists) (c .gather .last .1 .1 .1 .1 .0)) ≡ 128
 size c = let n : ℕ = 64 + c .before .before .before .loop .listed in same-len-mid n (128 - n) (c .before .before .before .loop .lists) (c .gather .last .1 .1 .1 .1 .0) (c .gather .kept .1 .1 .1 .1 .0) ∙ c .before .before .before .loop .inv .size
 
+-- what is read has the group's frames
+read : (c : tie.After-gather Inv-loop μ-loop) → let n : ℕ = 64 + c .before .before .before .loop .listed in framesIn (framesOf (c .before .before .before .before .before .before .args .lengths) (c .before .before .before .before .before .before .args .rows .now)) (midOf n (n + c .gather .result - n) (putMid n (128 - n) (c .before .before .before .loop .lists) (c .gather .last .1 .1 .1 .1 .0))) ≡ ofGroup (ahead (framesOf (c .before .before .before .before .before .before .args .lengths) (c .before .before .before .before .before .before .args .rows .now)) (c .before .before .before .before .before .before .args .k)) (c .before .before .before .loop .j + 1)
+read c =
+    let n : ℕ = 64 + c .before .before .before .loop .listed in
+    let r = room (c .before .before) in
+    part-read (framesOf (c .before .before .before .before .before .before .args .lengths) (c .before .before .before .before .before .before .args .rows .now)) (c .gather .result) n (c .before .before .before .loop .lists) (c .gather .last .1 .1 .1 .1 .0) (omega (arith, r, c .before .before .before .loop .inv .size))
+    (omega (arith, r, c .gather .ensures .1, c .gather .kept .1 .1 .1 .1 .0, mid-len n 128 (c .before .before .before .loop .lists) (omega (arith, c .before .before .before .loop .inv .size, r))))
+    ∙ c .gather .ensures .0
+
+add-to : tie.Need-add-to Inv-loop μ-loop
+add-to c = omega (arith, room (c .before .before .before .before), c .before .before .gather .ensures .1)
+
+mul-part-hyperperiod : tie.Need-mul-part-hyperperiod Inv-loop μ-loop
+mul-part-hyperperiod c = omega (arith, room (c .before .before .before .before), c .before .before .gather .ensures .1)
+
+sub-part-hyperperiod : tie.Need-sub-part-hyperperiod Inv-loop μ-loop
+sub-part-hyperperiod c = search needs
+
+part-part-hyperperiod-start : tie.Need-part-part-hyperperiod-start Inv-loop μ-loop
+part-part-hyperperiod-start c = search needs
+
+part-part-hyperperiod-end : tie.Need-part-part-hyperperiod-end Inv-loop μ-loop
+part-part-hyperperiod-end c = omega (arith, room (c .before .before .before .before .before), c .before .before .before .gather .ensures .1, size (c .before .before .before))
+
+part-hyperperiod-requires : tie.Need-part-hyperperiod-requires Inv-loop μ-loop
+part-hyperperiod-requires c κs = part-within _ (c .before .before .before .before .before .before .before .before .before .before .args .k) _ (read (c .before .before .before .before)) (c .before .before .before .before .before .before .before .before .before .before .pre .0) (omega arith) (omega (arith, c .before .before .before .before .before .before .loop-test .taken))
+
+group-hyperperiod-requires : tie.Need-group-hyperperiod-requires Inv-loop μ-loop
+group-hyperperiod-requires c κs = search needs
+
+mul-at : tie.Need-mul-at Inv-loop μ-loop
+mul-at c = search needs
+
 cast-lists : tie.Need-cast-lists Inv-loop μ-loop
-cast-lists c = omega (arith, room (c .before .before .before .before .before .before))
+cast-lists c = omega (arith, room (c .before .before .before .before .before .before .before .before))
 
 mul-lists : tie.Need-mul-lists Inv-loop μ-loop
 mul-lists c = search needs
 
 slice-write-lists : tie.Need-slice-write-lists Inv-loop μ-loop
-slice-write-lists c = omega (arith, size (c .before .before .before .before), c .before .before .before .before .before .before .loop-test .taken)
+slice-write-lists c = omega (arith, size (c .before .before .before .before .before .before), c .before .before .before .before .before .before .before .before .loop-test .taken)
 
 cast-lists-2 : tie.Need-cast-lists-2 Inv-loop μ-loop
-cast-lists-2 c = omega (arith, room (c .before .before .before .before .before .before), c .before .before .before .before .gather .ensures .1)
+cast-lists-2 c = omega (arith, room (c .before .before .before .before .before .before .before .before), c .before .before .before .before .before .before .gather .ensures .1)
 
 add-lists : tie.Need-add-lists Inv-loop μ-loop
 add-lists c = search needs
@@ -85,7 +110,7 @@ mul-lists-2 : tie.Need-mul-lists-2 Inv-loop μ-loop
 mul-lists-2 c = search needs
 
 slice-write-lists-2 : tie.Need-slice-write-lists-2 Inv-loop μ-loop
-slice-write-lists-2 c = simp length-set (omega (arith, size (c .before .before .before .before), c .before .before .before .before .before .before .loop-test .taken))
+slice-write-lists-2 c = simp length-set (omega (arith, size (c .before .before .before .before .before .before), c .before .before .before .before .before .before .before .before .loop-test .taken))
 
 add-lists-2 : tie.Need-add-lists-2 Inv-loop μ-loop
 add-lists-2 c = search needs
@@ -94,7 +119,7 @@ mul-lists-3 : tie.Need-mul-lists-3 Inv-loop μ-loop
 mul-lists-3 c = search needs
 
 slice-write-lists-3 : tie.Need-slice-write-lists-3 Inv-loop μ-loop
-slice-write-lists-3 c = simp length-set (omega (arith, size (c .before .before .before .before), c .before .before .before .before .before .before .loop-test .taken))
+slice-write-lists-3 c = simp length-set (omega (arith, size (c .before .before .before .before .before .before), c .before .before .before .before .before .before .before .before .loop-test .taken))
 
 add-lists-3 : tie.Need-add-lists-3 Inv-loop μ-loop
 add-lists-3 c = search needs
@@ -103,10 +128,10 @@ mul-lists-4 : tie.Need-mul-lists-4 Inv-loop μ-loop
 mul-lists-4 c = search needs
 
 slice-write-lists-4 : tie.Need-slice-write-lists-4 Inv-loop μ-loop
-slice-write-lists-4 c = simp length-set (omega (arith, size (c .before .before .before .before), c .before .before .before .before .before .before .loop-test .taken))
+slice-write-lists-4 c = simp length-set (omega (arith, size (c .before .before .before .before .before .before), c .before .before .before .before .before .before .before .before .loop-test .taken))
 
 add-listed : tie.Need-add-listed Inv-loop μ-loop
-add-listed c = omega (arith, room (c .before .before .before .before .before .before), c .before .before .before .before .gather .ensures .1)
+add-listed c = omega (arith, room (c .before .before .before .before .before .before .before .before), c .before .before .before .before .before .before .gather .ensures .1)
 
 add-j : tie.Need-add-j Inv-loop μ-loop
 add-j c = search needs
@@ -116,10 +141,10 @@ loop-less c = search needs
 
 loop-again : tie.Need-loop-again Inv-loop μ-loop
 loop-again c =
-    let s = c .before .before .before .before .before .before .before .before .before .before in
-    let g = c .before .before .before .before .gather in
-    listed-more (s .pre .0) _ (g .result) (c .before .common-multiple .result) (c .common-multiple2 .result) _ (g .last .1 .1 .1 .1 .0) (c .before .before .before .before .before .before .before .loop .inv) (c .before .before .before .before .before .before .loop-test .taken) refl
-    (g .kept .1 .1 .1 .1 .0) (g .ensures .0) (g .ensures .1) (c .before .common-multiple .ensures ∙ counted-turn _ _ _) (c .common-multiple2 .ensures ∙ counted-whole _ (s .args .k) _)
+    let s = c .before .before .before .before .before .before .before .before .before .before .before .before in
+    let g = c .before .before .before .before .before .before .gather in
+    listed-more (s .pre .0) _ (g .result) (c .before .part-hyperperiod .result) (c .group-hyperperiod .result) _ (g .last .1 .1 .1 .1 .0) (c .before .before .before .before .before .before .before .before .before .loop .inv) (c .before .before .before .before .before .before .before .before .loop-test .taken) refl
+    (g .kept .1 .1 .1 .1 .0) (g .ensures .0) (g .ensures .1) (c .before .part-hyperperiod .ensures ∙ part-turn _ (s .args .k) _ (read (c .before .before .before .before .before .before))) (c .group-hyperperiod .ensures)
 
 same-length : tie.Need-same-length Inv-loop μ-loop
 same-length c = search needs
@@ -142,8 +167,13 @@ by-group-spec =
     part-gather-start
     part-gather-end
     gather-requires
-    common-multiple-requires
-    common-multiple-requires-2
+    add-to
+    mul-part-hyperperiod
+    sub-part-hyperperiod
+    part-part-hyperperiod-start
+    part-part-hyperperiod-end
+    part-hyperperiod-requires
+    group-hyperperiod-requires
     mul-at
     cast-lists
     mul-lists

@@ -1,28 +1,22 @@
--- By the case of the search.
+use mathlib.Core.Path.{ap, _∙_}
+use Prim.Native.Nat.{ℕ, _+_}
+use native.Mathlib.Omega.{arith}
 use borrow.Author.Needs.{needs}
-use Rattle.workload.specs.Placed.{isLoad}
+use lib.Dec.{leb}
+use Rattle.workload.specs.laws.Placed.{load-leads}
 use Rattle.workload.proofs.placed.is_load.Statement.{statement}
 use Rattle.workload.proofs.placed.is_load.Tie as tie
 
-enum-told : tie.Need-enum-told
-enum-told c = search needs
+lead-of-requires : tie.Need-lead-of-requires
+lead-of-requires c κs = search needs
 
-enum-told-2 : tie.Need-enum-told-2
-enum-told-2 c = search needs
+add-result : tie.Need-add-result
+add-result c = omega (arith, c .before .before .pre .priority-high, c .before .lead-of .ensures .1)
 
 returns : tie.Need-returns
-unfolding isLoad
-returns c = rw (c .before .before .enum-told .given .1)
-
-returns-2 : tie.Need-returns-2
-unfolding isLoad
-returns-2 c = rw (c .before .before .enum-told2 .given .1)
+returns c =
+    let a = c .before .before .before .args in
+    ap (λ (n : ℕ). leb (a .g .priority + n) (a .k .priority)) (c .before .before .lead-of .ensures .0) ∙ load-leads (a .search) (a .k) (a .g)
 
 pub is-load-spec : {M : Type 1} → statement M
-is-load-spec =
-    tie.close
-    (tie.spec
-    enum-told
-    enum-told-2
-    returns
-    returns-2)
+is-load-spec = tie.close (tie.spec lead-of-requires add-result returns)

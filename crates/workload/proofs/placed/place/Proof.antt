@@ -26,9 +26,6 @@ loop-holds c = (place-none (c .before .before .before .pre .1), sym (length-tabl
 row-at-requires : tie.Need-row-at-requires Inv-loop μ-loop
 row-at-requires c κs = search needs
 
-is-load-requires : tie.Need-is-load-requires Inv-loop μ-loop
-is-load-requires c κs = search needs
-
 -- the row is one of the table
 inside : (c : tie.After-row-at Inv-loop μ-loop) → c .before .before .loop .i < length (tableOf (c .before .before .before .before .before .before .args .rows .now) (c .before .before .before .before .before .before .args .prepared .now))
 inside c = omega (arith, c .before .before .loop .inv .1, c .before .loop-test .taken)
@@ -36,6 +33,9 @@ inside c = omega (arith, c .before .before .loop .inv .1, c .before .loop-test .
 -- its frame is within the limits
 fine : (c : tie.After-row-at Inv-loop μ-loop) → Fine (c .row-at .result .frame)
 fine c = rw (c .row-at .ensures) (c .before .before .before .before .before .before .pre .0 .table .fine (c .before .before .loop .i) (inside c))
+
+is-load-requires : tie.Need-is-load-requires Inv-loop μ-loop
+is-load-requires c κs = fine (c .before)
 
 -- the choices are as many as the groups
 size : (c : tie.After-row-at Inv-loop μ-loop) → length (c .before .before .before .before .before .before .args .t5) ≡ groups

@@ -4,7 +4,7 @@ use mathlib.Core.Path.{refl, _∙_}
 use native.Mathlib.Omega.{arith}
 use borrow.Author.Needs.{needs}
 use lib.ListN.{length, length-set}
-use Rattle.table_checks.specs.laws.Accepted.{accepted-size}
+use Rattle.table_checks.specs.laws.Accepted.{accepted-size, frame-row}
 use Rattle.workload.specs.laws.Prepared.{FilledTo, filled-more, filled-all, priority-short}
 use Rattle.workload.proofs.prepared.fill.Statement.{statement}
 use Rattle.workload.proofs.prepared.fill.Tie as tie
@@ -31,7 +31,7 @@ mul-at c = omega (arith, few c)
 cast-area : tie.Need-cast-area Inv-loop μ-loop
 cast-area c =
     let s = c .before .before .before .before .before .before in
-    record { fits = rw (c .before .frame .ensures) (priority-short (s .args .lengths) (s .args .rows .now) (s .pre .0) (c .before .before .before .loop .i) (c .before .before .loop-test .taken)) }
+    record { fits = rw (c .before .frame .ensures, frame-row (s .args .lengths) (s .args .rows .now) (c .before .before .before .loop .i) (c .before .before .loop-test .taken)) (priority-short (s .args .lengths) (s .args .rows .now) (s .pre .0) (c .before .before .before .loop .i) (c .before .before .loop-test .taken)) }
 
 mul-area : tie.Need-mul-area Inv-loop μ-loop
 mul-area c = search needs
