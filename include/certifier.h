@@ -11,7 +11,8 @@
  * Memory: a call reads `lengths_len` bytes from `lengths` and `table_len` bytes from `table` and keeps nothing; a pointer
  * may be null only if its length is 0. Where an output area is lent, a call writes its result at the start of it and
  * leaves all that stands behind; where it is turned back, it leaves the whole area. The area must not overlap what is read, and
- * may be null only if its length is 0. A call allocates nothing and needs less than 64 KiB of stack.
+ * may be null only if its length is 0. A call allocates nothing and needs at most CERTIFIER_STACK bytes
+ * of stack, 24 KiB.
  * Threads: there is no state between calls, so any number of threads may call at once.
  */
 #ifndef CERTIFIER_H
@@ -23,6 +24,9 @@
 #ifdef __cplusplus
 extern "C" {
 #endif
+
+/* The most bytes of stack that a call needs, whatever it is given. */
+#define CERTIFIER_STACK 24576
 
 /* The bytes of a file of lengths. */
 #define CERTIFIER_LENGTHS 92

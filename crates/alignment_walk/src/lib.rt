@@ -1,4 +1,4 @@
-// A group's alignments, one after the other: no array holds them.
+// A group's alignments, one after the other: no array holds them. Which instants this walk visits: specs/Walk.
 use arith::Found;
 use arith::lesser;
 use bus_model::Frame;
@@ -15,11 +15,11 @@ ghost use Prim.Native.Nat.{_+_, _-_, _*_, _≤_, _<_, max};
 ghost use lib.Dec.{eqb, ltb};
 ghost use lib.ListN.{length};
 ghost use Rattle.arith.specs.Lists.{sum, greatest};
-ghost use Rattle.arith.specs.Least.{least};
 ghost use Rattle.bus_model.specs.declared.Frame.{Frame};
 ghost use Rattle.bus_model.specs.Bounds.{phase, workAt, orEmpty};
-ghost use Rattle.workload.specs.Prepared.{Fine, FinePart, framesIn, tableOf, isInstant, instantsIn, orEnd};
+ghost use Rattle.workload.specs.Prepared.{Fine, FinePart, framesIn, tableOf, instantsIn, orEnd};
 ghost use Rattle.alignment_walk.specs.Steps.{nextRelease, waitFrom, wholeDemand, extraDemand, Notes, Noted};
+ghost use Rattle.alignment_walk.specs.Walk.{step, visits};
 
 // Noted of a group's frames are first the lengths, from here on the periods,
 const PERIODS: usize = 64;
@@ -44,7 +44,7 @@ fn next_release(g: Frame, after: u32, inverse: u32) -> u32
 pub fn next_alignment(rows: &[u32], prepared: &[u32], part: &[u32], after: u32, end: u32) -> Found
     requires { ⌜ FinePart (now rows) (now prepared) (now part) ⌝ }
     requires { ⌜ (after ≤ end) × (end ≤ 1000000) ⌝ }
-    ensures { λ r. ⌜ r ≡ least (isInstant (framesIn (tableOf (now (rows .entry)) (now (prepared .entry))) (now (part .entry)))) (end - after) after ⌝ }
+    ensures { λ r. ⌜ r ≡ step (framesIn (tableOf (now (rows .entry)) (now (prepared .entry))) (now (part .entry))) end after ⌝ }
 {
     let mut best = end;
     let mut i = 0;
@@ -134,7 +134,7 @@ fn visit(
     requires { ⌜ Notes n (tableOf (now rows) (now prepared)) (now part) (now notes) ⌝ }
     requires { ⌜ Noted (waitFrom (a - gap) a) (tableOf (now rows) (now prepared)) (now part) (now waits) ⌝ }
     ensures { λ r. ⌜ r .extra ≡ sum (extraDemand a n) (framesIn (tableOf (now (rows .entry)) (now (prepared .entry))) (now (part .entry))) ⌝ }
-    ensures next { λ r. ⌜ a + r .gap ≡ orEnd end (least (isInstant (framesIn (tableOf (now (rows .entry)) (now (prepared .entry))) (now (part .entry)))) (end - (a + 1)) (a + 1)) ⌝ }
+    ensures next { λ r. ⌜ a + r .gap ≡ orEnd end (step (framesIn (tableOf (now (rows .entry)) (now (prepared .entry))) (now (part .entry))) end (a + 1)) ⌝ }
     ensures small { λ r. ⌜ (r .extra ≤ 64 * 400) × (r .gap ≤ end - a) ⌝ }
     ensures waits { λ _. ⌜ Noted (waitFrom a (a + 1)) (tableOf (now (rows .entry)) (now (prepared .entry))) (now (part .entry)) (now (waits .exit)) ⌝ }
 {
@@ -165,7 +165,7 @@ pub fn best_alignment(rows: &[u32], prepared: &[u32], part: &[u32], end: u32, n:
     requires { ⌜ (end ≤ 1000000) × (n ≤ 1000001) ⌝ }
     ensures among { λ r. ⌜ Mem (r .alignment) (orEmpty (instantsIn (framesIn (tableOf (now (rows .entry)) (now (prepared .entry))) (now (part .entry))) end)) ⌝ }
     ensures { λ r. ⌜ r .work ≡ greatest (λ a. workAt (framesIn (tableOf (now (rows .entry)) (now (prepared .entry))) (now (part .entry))) a n) (instantsIn (framesIn (tableOf (now (rows .entry)) (now (prepared .entry))) (now (part .entry))) end) ⌝ }
-    ensures count { λ r. ⌜ r .count ≡ length (instantsIn (framesIn (tableOf (now (rows .entry)) (now (prepared .entry))) (now (part .entry))) end) ⌝ }
+    ensures count { λ r. ⌜ r .count ≡ length (visits (framesIn (tableOf (now (rows .entry)) (now (prepared .entry))) (now (part .entry))) end) ⌝ }
     ensures small { λ r. ⌜ (r .work ≤ 64 * 400400400) × (r .count ≤ 1000000) ⌝ }
 {
     let found = next_alignment(rows, prepared, part, 0, end);
@@ -204,11 +204,12 @@ pub fn best_alignment(rows: &[u32], prepared: &[u32], part: &[u32], end: u32, n:
     }
 }
 
-// How many alignments there are, an empty one counting 1.
+// How many alignments the walk visits, an empty one counting 1: with the hyperperiod as the end, the group's factor in the number of scenarios
+// (`visits-factor`, laws/Walk).
 pub fn count_alignments(rows: &[u32], prepared: &[u32], part: &[u32], end: u32) -> u32
     requires { ⌜ FinePart (now rows) (now prepared) (now part) ⌝ }
     requires { ⌜ end ≤ 1000000 ⌝ }
-    ensures { λ r. ⌜ r ≡ length (orEmpty (instantsIn (framesIn (tableOf (now (rows .entry)) (now (prepared .entry))) (now (part .entry))) end)) ⌝ }
+    ensures { λ r. ⌜ r ≡ length (orEmpty (visits (framesIn (tableOf (now (rows .entry)) (now (prepared .entry))) (now (part .entry))) end)) ⌝ }
     ensures small { λ r. ⌜ (1 ≤ r) × (r ≤ 1000000) ⌝ }
 {
     at_least_one(best_alignment(rows, prepared, part, end, 0).count)

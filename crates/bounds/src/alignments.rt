@@ -50,7 +50,8 @@ pub fn next_open(k: Frame, choices: [Choice; 16]) -> Found
     Found::Nothing
 }
 
-// The first alignment of a group at or after a tick, in its first cycle: those after it look like these.
+// The first alignment of a group at or after a tick, in its first cycle: nothing new comes after it (`visits-again`, alignment_walk laws/Walk; `more-turn`,
+// bus_model theory/OpenGroups).
 pub fn next_of(rows: &[u32], prepared: &[u32], target: Target, group: usize, after: u32) -> Found
     requires { ⌜ Prepared (now rows) (now prepared) (target .frame) ⌝ }
     requires { ⌜ (1 ≤ group) × (group ≤ 16) × (after ≤ turn (tableOf (now rows) (now prepared)) (target .frame) group) ⌝ }

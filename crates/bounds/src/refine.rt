@@ -15,8 +15,10 @@ use response_time::sweep;
 use workload::Target;
 ghost use mathlib.Core.Path.{_≡_};
 ghost use mathlib.Core.Bool.{false};
-ghost use Prim.Native.Nat.{ℕ, _≤_, max};
+ghost use Prim.Native.Nat.{ℕ, _-_, _≤_, max};
+ghost use lib.ListN.{set};
 ghost use Rattle.arith.specs.declared.Found.the-variants.{At};
+ghost use Rattle.bus_model.specs.declared.Choice.the-variants.{Fixed};
 ghost use Rattle.bus_model.specs.Bounds.{busyWindow};
 ghost use Rattle.bus_model.specs.Judgement.{lacksWindow};
 ghost use Rattle.bus_model.specs.theory.OpenGroups.{fixingMore};
@@ -57,25 +59,35 @@ fn reach_now(
     )
 }
 
-// The greatest of `best` and the responses where `left` open groups more take each of their alignments. Where it is shown of all instances of the
-// scenario as it is that theirs is at most `best`, it is so with more groups fixed, and nothing is searched; where `best` has risen, that is asked
-// again. A group with one alignment hands on what it was given: the next one would be asked the same.
+// A group, and the alignment that it takes.
+struct Fixing {
+    group: usize,
+    alignment: u32,
+}
+
+// The greatest of `best` and the responses where a group takes an alignment, and `left` open groups more take each of theirs. Where it is shown of all
+// instances of that scenario that theirs is at most `best`, it is so with more groups fixed, and nothing is searched; where `best` has risen, that is
+// asked again. A group with one alignment hands on what it was given: the next one would be asked the same. The scenario is made here and not by the
+// caller, so that each level holds one and not two.
 fn refine(
     rows: &[u32],
     prepared: &[u32],
     target: Target,
-    choices: [Choice; 16],
+    coarser: [Choice; 16],
+    fixing: Fixing,
     left: usize,
     best: u32,
     reach: u32,
     memory: &mut [u64],
 ) -> u32
     requires { ⌜ Ready (now rows) (now prepared) target (now memory) ⌝ }
-    requires { ⌜ OwnFixed (target .frame) choices ⌝ }
-    requires { ⌜ Reaches (tableOf (now rows) (now prepared)) (target .frame) choices best reach ⌝ }
-    ensures { λ r. ⌜ r ≡ max best (fixingMore (tableOf (now (rows .entry)) (now (prepared .entry))) (target .frame) left choices) ⌝ }
+    requires { ⌜ (1 ≤ fixing .group) × (fixing .group ≤ 16) ⌝ }
+    requires { ⌜ OwnFixed (target .frame) (set coarser (fixing .group - 1) (Fixed (fixing .alignment))) ⌝ }
+    requires { ⌜ Reaches (tableOf (now rows) (now prepared)) (target .frame) (set coarser (fixing .group - 1) (Fixed (fixing .alignment))) best reach ⌝ }
+    ensures { λ r. ⌜ r ≡ max best (fixingMore (tableOf (now (rows .entry)) (now (prepared .entry))) (target .frame) left (set coarser (fixing .group - 1) (Fixed (fixing .alignment)))) ⌝ }
     ensures ready { λ _. ⌜ Ready (now (rows .entry)) (now (prepared .entry)) target (now (memory .exit)) ⌝ }
 {
+    let choices = with_choice(coarser, fixing.group, fixing.alignment);
     if left == 0 {
         return max_with_scenario(rows, prepared, target, choices, reach, best, memory);
     }
@@ -85,22 +97,30 @@ fn refine(
     };
     let group = j as usize;
     let fewer = left - 1;
-    let first = or_zero(next_of(rows, prepared, target, group, 0));
-    if is_last(rows, prepared, target, group, first) {
-        let finer = with_choice(choices, group, first);
-        return refine(rows, prepared, target, finer, fewer, best, reach, memory);
-    }
     let mut most = best;
-    let mut a = first;
-    let mut asked = true;
+    let mut a = or_zero(next_of(rows, prepared, target, group, 0));
+    let mut asked = !is_last(rows, prepared, target, group, a);
     let mut rest = reach;
     loop {
         rest = reach_now(rows, prepared, target, choices, rest, most, asked, memory);
         if rest == 0 {
             return most;
         }
-        let finer = with_choice(choices, group, a);
-        let more = refine(rows, prepared, target, finer, fewer, most, rest, memory);
+        let finer = Fixing {
+            group,
+            alignment: a,
+        };
+        let more = refine(
+            rows,
+            prepared,
+            target,
+            choices,
+            finer,
+            fewer,
+            most,
+            rest,
+            memory,
+        );
         asked = most < more;
         most = more;
         let found = next_of(rows, prepared, target, group, a + 1);
@@ -160,7 +180,21 @@ pub fn refine_own(
         let finer = with_choice(choices, own, a);
         let within = limit_of(rows, prepared, target, finer, limit, memory);
         let reach = reach_before(rows, prepared, target, finer, within, memory);
-        most = refine(rows, prepared, target, finer, fewer, most, reach, memory);
+        let fixing = Fixing {
+            group: own,
+            alignment: a,
+        };
+        most = refine(
+            rows,
+            prepared,
+            target,
+            choices,
+            fixing,
+            fewer,
+            most,
+            reach,
+            memory,
+        );
         let found = next_of(rows, prepared, target, own, a + 1);
         let Found::At(b) = found else {
             return most;

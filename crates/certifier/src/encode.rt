@@ -6,14 +6,16 @@ use lengths_file::lengths_of;
 use row_judgement::Bounded;
 use row_judgement::Judged;
 use row_judgement::Refusal;
+use row_judgement::bound_accepted;
 use row_judgement::judge;
+use row_judgement::judge_accepted;
 use row_judgement::of_table;
-use row_judgement::precise_bound;
 use row_judgement::verdict;
 use table_checks::Checked;
 ghost use mathlib.Core.Path.{_≡_};
 ghost use Prim.Native.Nat.{ℕ, _+_, _*_, _≤_};
 ghost use lib.IntN.{pos, _+ℤ_};
+ghost use Rattle.table_checks.specs.Checks.{Loadable};
 ghost use Rattle.frame_table.specs.Text.{fieldsOf};
 ghost use Rattle.frame_table.specs.Table.{readCheck, areaAfter};
 ghost use Rattle.lengths_file.specs.Lengths.{lengthsOf};
@@ -39,13 +41,14 @@ pub extern "C" fn certifier_judge(lengths: &[u8], table: &[u8], row: u64) -> i64
 
 // Judges the claim of a row of the table, by lengths that were read.
 fn judge_table(lengths: [[u32; 9]; 2], table: &[u8], row: u64) -> i64
+    requires { ⌜ Loadable lengths ⌝ }
     ensures { λ r. ⌜ r ≡ encodeJudged (judgeRead (readCheck (now (table .entry))) lengths (now (table .entry)) row) ⌝ }
 {
     let mut rows = [0u32; table_checks::MOST_NUMBERS];
     let answer = frame_table::read(table, &mut rows);
     match answer {
         Answer::Refused(refusal) => encode_refusal(of_table(refusal)),
-        Answer::Done(n) => encode_judgement_of(lengths, &rows[..n], row),
+        Answer::Done(n) => encode_judged(judge_accepted(lengths, &rows[..n], row)),
     }
 }
 
@@ -64,13 +67,14 @@ pub extern "C" fn certifier_precise_bound(lengths: &[u8], table: &[u8], row: u64
 
 // The precise bound of a row of the table, by lengths that were read.
 fn bound_table(lengths: [[u32; 9]; 2], table: &[u8], row: u64) -> i64
+    requires { ⌜ Loadable lengths ⌝ }
     ensures { λ r. ⌜ r ≡ encodeBounded (boundRead (readCheck (now (table .entry))) lengths (now (table .entry)) row) ⌝ }
 {
     let mut rows = [0u32; table_checks::MOST_NUMBERS];
     let answer = frame_table::read(table, &mut rows);
     match answer {
         Answer::Refused(refusal) => encode_refusal(of_table(refusal)),
-        Answer::Done(n) => encode_bounded(precise_bound(lengths, &rows[..n], row)),
+        Answer::Done(n) => encode_bounded(bound_accepted(lengths, &rows[..n], row)),
     }
 }
 

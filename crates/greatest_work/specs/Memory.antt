@@ -57,17 +57,17 @@ pub record Holds (fs : List Frame) (k : Frame) (v : ℕ) : Type 0 where
   pub some : lowIn v ≤ highIn v
   pub is : (n : ℕ) → lowIn v ≤ n → n ≤ highIn v → greatestWork fs k (groupIn v + 1) n ≡ workIn v
 
--- 2048 stairs are remembered, and for each group one more than an alignment, or 0
+-- 512 stairs are remembered, and for each group one more than an alignment, or 0
 pub record Remembered (fs : List Frame) (k : Frame) (memory : List ℕ) : Type 0 where
-  pub size : length memory ≡ 2064
-  pub stairs : (s : ℕ) → s < 2048 → Holds fs k (getD memory s 0)
-  pub guess : (j : ℕ) → j < 16 → 0 < getD memory (2048 + j) 0 → Mem (getD memory (2048 + j) 0 - 1) (orEmpty (alignments fs k (j + 1)))
-  pub guess-small : (j : ℕ) → j < 16 → getD memory (2048 + j) 0 ≤ 4294967296
+  pub size : length memory ≡ 528
+  pub stairs : (s : ℕ) → s < 512 → Holds fs k (getD memory s 0)
+  pub guess : (j : ℕ) → j < 16 → 0 < getD memory (512 + j) 0 → Mem (getD memory (512 + j) 0 - 1) (orEmpty (alignments fs k (j + 1)))
+  pub guess-small : (j : ℕ) → j < 16 → getD memory (512 + j) 0 ≤ 4294967296
 
 -- one of these stairs has length n of group j + 1 on it, and says w
 pub record Told (memory : List ℕ) (j n w : ℕ) : Type 0 where
   pub place : ℕ
-  pub inside : place < 2048
+  pub inside : place < 512
   pub on : isOn (getD memory place 0) j n ≡ true
   pub is : w ≡ workIn (getD memory place 0)
 

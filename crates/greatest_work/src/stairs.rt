@@ -8,19 +8,19 @@ ghost use Rattle.arith.specs.declared.Found.the-variants.{At};
 ghost use Rattle.greatest_work.specs.Memory.{packed, isOn, isOf, widened, Told, RememberedWith};
 
 // So many numbers are remembered: stairs, and an alignment for each group.
-pub const MEMORY: usize = 2064;
+pub const MEMORY: usize = 528;
 
 // There the alignments start.
-pub const GUESSES: usize = 2048;
+pub const GUESSES: usize = 512;
 
 // So many stairs share a place,
 const WAYS: usize = 4;
 
 // and so many places there are.
-const SETS: usize = 512;
+const SETS: usize = 128;
 
 // So many of them a group has for each of its frames: those of all groups, 64 frames at the most, are just these.
-const FRAME_SETS: usize = 8;
+const FRAME_SETS: usize = 2;
 
 const UNIT: u64 = 1_048_576;
 
@@ -28,7 +28,7 @@ const UNIT: u64 = 1_048_576;
 // into as many parts. Nothing is promised of it, since a stair says itself what it holds of.
 pub fn set_of(before: usize, count: usize, n: u32, cycle: u32) -> usize
     requires { ⌜ (before ≤ 1024) × (count ≤ 64) × (n ≤ 1000001) × (1 ≤ cycle) ⌝ }
-    ensures { λ r. ⌜ r < 512 ⌝ }
+    ensures { λ r. ⌜ r < 128 ⌝ }
 {
     let at = n as usize * (FRAME_SETS * count) / cycle as usize;
     (FRAME_SETS * before + at) % SETS
@@ -79,7 +79,7 @@ fn widen(v: u64, n: u32) -> u64
 
 // The greatest work of group j + 1 in the first n ticks, if a stair tells it.
 pub fn lookup(memory: &[u64], set: usize, j: usize, n: u32) -> Found
-    requires { ⌜ (length (now memory) ≡ 2064) × (set < 512) ⌝ }
+    requires { ⌜ (length (now memory) ≡ 528) × (set < 128) ⌝ }
     ensures { λ r. ⌜ ((w : ℕ) → r ≡ At w → Told (now (memory .entry)) j n w) ⌝ }
 {
     let mut i = 0;
@@ -96,8 +96,8 @@ pub fn lookup(memory: &[u64], set: usize, j: usize, n: u32) -> Found
 // The place for a stair of group j + 1 with this work: where one stands or none yet, or else the last. Lengths are asked for rising, over
 // and over: so the others stay, where those that were used least lately would go just before they are asked for.
 fn place_for(memory: &[u64], set: usize, j: usize, work: u64) -> usize
-    requires { ⌜ (length (now memory) ≡ 2064) × (set < 512) ⌝ }
-    ensures { λ r. ⌜ r < 2048 ⌝ }
+    requires { ⌜ (length (now memory) ≡ 528) × (set < 128) ⌝ }
+    ensures { λ r. ⌜ r < 512 ⌝ }
 {
     let mut i = 0;
     while i < WAYS {
@@ -112,7 +112,7 @@ fn place_for(memory: &[u64], set: usize, j: usize, work: u64) -> usize
 
 // Remembers the greatest work of group j + 1 in the first n ticks: a stair of the same work is widened, or else there is a new one.
 pub fn insert(memory: &mut [u64], set: usize, j: usize, n: u32, work: u64)
-    requires { ⌜ (length (now memory) ≡ 2064) × (set < 512) × (j < 16) × (n < 1048576) ⌝ }
+    requires { ⌜ (length (now memory) ≡ 528) × (set < 128) × (j < 16) × (n < 1048576) ⌝ }
     ensures { λ _. ⌜ RememberedWith j n work (now (memory .entry)) (now (memory .exit)) ⌝ }
 {
     if UNIT <= work {

@@ -25,16 +25,22 @@ pub fn precise_bound(lengths: [[u32; 9]; 2], rows: &[u32], row: u64) -> Bounded
     let checked = table_checks::check_loaded(lengths, rows);
     match checked {
         Checked::Failed(refusal) => Bounded::NotBounded(of_table(refusal)),
-        Checked::Passed => {
-            if (rows.len() / table_checks::ROW) as u64 <= row {
-                return Bounded::NotBounded(Refusal {
-                    cause: Cause::NoSuchRow,
-                    place: 0,
-                });
-            }
-            bound_row(lengths, rows, row as usize)
-        }
+        Checked::Passed => bound_accepted(lengths, rows, row),
     }
+}
+
+// The same of an accepted table, by lengths that passed their check.
+pub fn bound_accepted(lengths: [[u32; 9]; 2], rows: &[u32], row: u64) -> Bounded
+    requires { ⌜ Loadable lengths × Accepted (now rows) ⌝ }
+    ensures { λ r. ⌜ r ≡ boundRow lengths (now (rows .entry)) row ⌝ }
+{
+    if (rows.len() / table_checks::ROW) as u64 <= row {
+        return Bounded::NotBounded(Refusal {
+            cause: Cause::NoSuchRow,
+            place: 0,
+        });
+    }
+    bound_row(lengths, rows, row as usize)
 }
 
 // The precise bound of a row of an accepted table.

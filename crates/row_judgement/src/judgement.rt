@@ -37,16 +37,22 @@ pub fn judge(lengths: [[u32; 9]; 2], rows: &[u32], row: u64) -> Judged
     let checked = table_checks::check_loaded(lengths, rows);
     match checked {
         Checked::Failed(refusal) => Judged::NotJudged(of_table(refusal)),
-        Checked::Passed => {
-            if (rows.len() / table_checks::ROW) as u64 <= row {
-                return Judged::NotJudged(Refusal {
-                    cause: Cause::NoSuchRow,
-                    place: 0,
-                });
-            }
-            Judged::Verdict(judge_row(lengths, rows, row as usize))
-        }
+        Checked::Passed => judge_accepted(lengths, rows, row),
     }
+}
+
+// The same of an accepted table, by lengths that passed their check.
+pub fn judge_accepted(lengths: [[u32; 9]; 2], rows: &[u32], row: u64) -> Judged
+    requires { ⌜ Loadable lengths × Accepted (now rows) ⌝ }
+    ensures { λ r. ⌜ r ≡ judgeRow lengths (now (rows .entry)) row ⌝ }
+{
+    if (rows.len() / table_checks::ROW) as u64 <= row {
+        return Judged::NotJudged(Refusal {
+            cause: Cause::NoSuchRow,
+            place: 0,
+        });
+    }
+    Judged::Verdict(judge_row(lengths, rows, row as usize))
 }
 
 // The judgement of a row of an accepted table.

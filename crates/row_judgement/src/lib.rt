@@ -1,11 +1,13 @@
 // The judgement of a row of a frame table, and its precise bound. Both take any input, and check their lengths and table themselves;
-// judge_row takes accepted ones, for the listing, which judges all its rows.
+// judge_accepted and bound_accepted take accepted ones, for what has read them from files, and judge_row for the listing, which judges all its rows.
 mod bound;
 mod decide;
 mod judgement;
 
+pub use bound::bound_accepted;
 pub use bound::precise_bound;
 pub use judgement::judge;
+pub use judgement::judge_accepted;
 pub use judgement::judge_row;
 pub use judgement::verdict;
 ghost use mathlib.Core.Path.{_≡_};

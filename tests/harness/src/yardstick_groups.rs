@@ -145,7 +145,7 @@ struct Stair {
 
 /// So many stairs share a place, and so many places has a group for each of its frames.
 const WAYS: usize = 4;
-const FRAME_SETS: usize = 8;
+const FRAME_SETS: usize = 2;
 
 /// What is kept of a group's greatest works.
 struct Memory {

@@ -18,6 +18,7 @@ use Rattle.workload.specs.Prepared.{framesIn, tableOf, isInstant, instantsIn}
 use Rattle.alignment_walk.specs.Steps.{waitFrom, extraDemand, Noted}
 use Rattle.alignment_walk.specs.laws.Parts.{ended-at, ended-none}
 use Rattle.alignment_walk.specs.laws.Steps.{noted-next, phase-late, work-split}
+use Rattle.alignment_walk.specs.laws.Walk.{visits-are}
 use Rattle.alignment_walk.proofs.best_alignment.Statement.{statement}
 use Rattle.alignment_walk.proofs.best_alignment.Tie as tie
 
@@ -47,7 +48,7 @@ unfolding greatest orEmpty
 returns c =
     let a = c .before .before .before .before .before .before .args in
     let empty = rw sub-zero at (keep-end (isInstant (framesIn (tableOf (a .rows .now) (a .prepared .now)) (a .part .now))) (a .end) 0 (sym (c .before .before .next-alignment .ensures) ∙ c .enum-told .given .1)) in
-    (rw empty (here refl), (rw empty, (rw empty, (omega arith, omega arith))))
+    (rw empty (here refl), (rw empty, (sym (ap length (visits-are _ (a .end) ∙ empty)), (omega arith, omega arith))))
 
 begin-requires : tie.Need-begin-requires Inv-loop μ-loop
 begin-requires c κs =
@@ -132,7 +133,7 @@ returns-2 c =
     let none = ended-none _ _ _ (v .1 .0) (c .if2 .taken) in
     let most = sym (max-zero _) ∙ walk-end _ _ _ _ _ (l .inv .0) (step j) none in
     let all = sym (add-zero _) ∙ walk-end _ _ _ _ _ (l .inv .6) (length-more (l .count) (l .a)) none in
-    (or-empty (among j), (most, (all, (omega (arith, l .inv .2, greater j, visits (c .before .before .before .before) .1), omega (arith, l .inv .7, l .inv .0 .inside, c .before .before .before .before .before .before .before .before .before .before .before .before .before .before .before .before .before .before .pre .1 .0)))))
+    (or-empty (among j), (most, (all ∙ ap length (sym (visits-are _ _)), (omega (arith, l .inv .2, greater j, visits (c .before .before .before .before) .1), omega (arith, l .inv .7, l .inv .0 .inside, c .before .before .before .before .before .before .before .before .before .before .before .before .before .before .before .before .before .before .pre .1 .0)))))
 
 -- the next alignment
 found : (c : tie.Else2 Inv-loop μ-loop)

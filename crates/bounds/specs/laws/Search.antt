@@ -32,7 +32,9 @@ use Rattle.bus_model.specs.theory.Visits.{isAlignment}
 use Rattle.bus_model.specs.theory.Refine.{free, set-same, own-scenarios, own-kept, refines-group}
 use Rattle.bus_model.specs.theory.OpenGroups.{isAny, isOpen, nextOpen, fixingMore, next-open, free-open, free-refined, more-refined, more-end, more-none, more-turn, more-pruned, more-window, approximate-more, precise-more}
 use Rattle.bus_model.specs.theory.Turns.{turn, firstTurn, first-aligned, turned, window-alike, alike-turn, visit-first, found-listed, first-listed}
-use Rattle.workload.specs.Prepared.{FineTable, framesIn, instantsIn, hyperIn, partOf, tableOf, Prepared, InTable}
+use Rattle.workload.specs.Prepared.{FineTable, framesIn, hyperIn, partOf, tableOf, Prepared, InTable}
+use Rattle.alignment_walk.specs.Walk.{visits}
+use Rattle.alignment_walk.specs.laws.Walk.{visits-factor}
 use Rattle.response_time.specs.Load.{OwnFixed, WindowWithin, Reaches}
 use Rattle.response_time.specs.laws.Searches.{window-small}
 use Rattle.response_time.specs.laws.Within.{reach-finer}
@@ -40,16 +42,16 @@ use Rattle.bounds.specs.Search.{OwnOpen, Limits}
 
 -- ---- the number of scenarios
 
--- how many alignments the rows of group i + 1 give, an empty one counting 1
+-- how many alignments of group i + 1 the walk visits, an empty one counting 1
 abbrev pub countAt : List ℕ → List ℕ → ℕ → ℕ
-countAt rows p i = length (orEmpty (instantsIn (framesIn (tableOf rows p) (partOf p i)) (hyperIn p i)))
+countAt rows p i = length (orEmpty (visits (framesIn (tableOf rows p) (partOf p i)) (hyperIn p i)))
 
 -- Their product is the scenario count.
 pub counts-product : {rows p : List ℕ} {k : Frame} → Prepared rows p k → product (countAt rows p) (range 0 16) ≡ scenarioCount (tableOf rows p) k
-unfolding scenarioCount alignments
+unfolding scenarioCount
 counts-product {rows} {p} {k} g =
     product-shift _ (λ j. length (orEmpty (alignments (tableOf rows p) k j))) 0 16
-    (λ i low high. ap (λ (instants : List ℕ). length (orEmpty instants)) (rw (g .by-group .part i (omega arith), g .by-group .hyper i (omega arith), add-one i)))
+    (λ i low high. rw (g .by-group .part i (omega arith), g .by-group .hyper i (omega arith), add-one i) (visits-factor (tableOf rows p) k (suc i)))
 
 -- Each is at least 1.
 some-alignment : (xs : List ℕ) → 1 ≤ length (orEmpty xs)

@@ -134,7 +134,7 @@ module _ {fs : List Frame} {k : Frame} where
 
 module _ {fs : List Frame} {k : Frame} {memory : List ℕ} (p : Remembered fs k memory) where
   -- A stair may be put in any place, if it holds what it says.
-  pub put-stair : (s v : ℕ) → s < 2048 → Holds fs k v → Remembered fs k (set memory s v)
+  pub put-stair : (s v : ℕ) → s < 512 → Holds fs k v → Remembered fs k (set memory s v)
   put-stair s v inside holds = record {
     size = length-set memory s v ∙ p .size;
     stairs = λ i l. by-place i l (eqb i s) refl;
@@ -142,33 +142,33 @@ module _ {fs : List Frame} {k : Frame} {memory : List ℕ} (p : Remembered fs k 
     guess-small = λ j l. rw (other j) (p .guess-small j l);
   }
     where
-      other : (j : ℕ) → getD (set memory s v) (2048 + j) 0 ≡ getD memory (2048 + j) 0
-      other j = getD-set-other memory s (2048 + j) v 0 (λ q. omega arith)
+      other : (j : ℕ) → getD (set memory s v) (512 + j) 0 ≡ getD memory (512 + j) 0
+      other j = getD-set-other memory s (512 + j) v 0 (λ q. omega arith)
 
-      by-place : (i : ℕ) → i < 2048 → (b : Bool) → eqb i s ≡ b → Holds fs k (getD (set memory s v) i 0)
+      by-place : (i : ℕ) → i < 512 → (b : Bool) → eqb i s ≡ b → Holds fs k (getD (set memory s v) i 0)
       by-place i l true e = rw (eqb-true i s e, getD-set-same memory s v 0 (omega (arith, p .size))) holds
       by-place i l false e = rw (getD-set-other memory s i v 0 (eqb-false i s e)) (p .stairs i l)
 
   -- So may one more than an alignment in its group's.
-  pub put-guess : (j a : ℕ) → j < 16 → a < 4294967296 → Mem a (orEmpty (alignments fs k (j + 1))) → Remembered fs k (set memory (2048 + j) (a + 1))
+  pub put-guess : (j a : ℕ) → j < 16 → a < 4294967296 → Mem a (orEmpty (alignments fs k (j + 1))) → Remembered fs k (set memory (512 + j) (a + 1))
   put-guess j a l small listed = record {
-    size = length-set memory (2048 + j) (a + 1) ∙ p .size;
-    stairs = λ i m. rw (getD-set-other memory (2048 + j) i (a + 1) 0 (λ q. omega arith)) (p .stairs i m);
+    size = length-set memory (512 + j) (a + 1) ∙ p .size;
+    stairs = λ i m. rw (getD-set-other memory (512 + j) i (a + 1) 0 (λ q. omega arith)) (p .stairs i m);
     guess = λ i l′ taken. by-group i l′ (eqb i j) refl .0 taken;
     guess-small = λ i l′. by-group i l′ (eqb i j) refl .1;
   }
     where
       now : ℕ → ℕ
-      now i = getD (set memory (2048 + j) (a + 1)) (2048 + i) 0
+      now i = getD (set memory (512 + j) (a + 1)) (512 + i) 0
 
       by-group : (i : ℕ) → i < 16 → (b : Bool) → eqb i j ≡ b → (0 < now i → Mem (now i - 1) (orEmpty (alignments fs k (i + 1)))) × (now i ≤ 4294967296)
       by-group i l′ true e =
-          let read = getD-set-same memory (2048 + j) (a + 1) 0 (omega (arith, p .size)) in
+          let read = getD-set-same memory (512 + j) (a + 1) 0 (omega (arith, p .size)) in
           let back : a + 1 - 1 ≡ a = omega arith in
           rw (eqb-true i j e, read, back) (λ taken. listed, omega arith)
       by-group i l′ false e =
           let other = eqb-false i j e in
-          rw (getD-set-other memory (2048 + j) (2048 + i) (a + 1) 0 (λ q. other (omega arith))) (p .guess i l′, p .guess-small i l′)
+          rw (getD-set-other memory (512 + j) (512 + i) (a + 1) 0 (λ q. other (omega arith))) (p .guess i l′, p .guess-small i l′)
 
 -- ---- at the start
 
@@ -178,10 +178,10 @@ module _ {fs : List Frame} (table : FineTable fs) (k : Frame) where
   holds-none = record { some = le-refl 0; is = λ n l h. let none : n ≡ 0 = omega arith in rw none (most-none table k 1) }
 
   -- So an array of zeros remembers what it should.
-  pub remembers-none : {memory : List ℕ} {n : ℕ} → n ≡ 2064 → memory ≡ replicate n 0 → Remembered fs k memory
+  pub remembers-none : {memory : List ℕ} {n : ℕ} → n ≡ 528 → memory ≡ replicate n 0 → Remembered fs k memory
   remembers-none {n = n} size zeros = rw zeros (record {
     size = length-replicate n 0 ∙ size;
     stairs = λ s l. rw (zeros-read n s) holds-none;
-    guess = λ j l taken. absurd (omega (arith, zeros-read n (2048 + j), taken));
-    guess-small = λ j l. rw (zeros-read n (2048 + j)) (omega arith);
+    guess = λ j l taken. absurd (omega (arith, zeros-read n (512 + j), taken));
+    guess-small = λ j l. rw (zeros-read n (512 + j)) (omega arith);
   })

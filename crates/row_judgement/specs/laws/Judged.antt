@@ -57,6 +57,11 @@ decided-bound fs i = go (lacksWindow fs (row fs i)) (tooManyScenarios fs (row fs
 
 -- ---- a row
 
+-- Lengths and rows that passed their checks pass them together.
+pub both-loaded : (ls : List (List ℕ)) (rows : List ℕ) → Loadable ls × Accepted rows → loadedCheck ls rows ≡ Passed
+unfolding loadedCheck
+both-loaded ls rows (loadable, accepted) = rw (loadable, accepted)
+
 -- A number below the number of rows is one of a row.
 pub row-inside : (ls : List (List ℕ)) (rows : List ℕ) {r : ℕ} → r < length rows / columns → r < length (framesOf ls rows)
 row-inside ls rows l = rw (length-frames ls rows) l

@@ -2,12 +2,11 @@
 -- what is left out has no response above the greatest.
 use Prim.Native.Nat.{ℕ, suc, _+_, _-_, _≤_, _<_, max}
 use borrow.Author.Needs.{needs}
-use mathlib.Core.Path.{_≡_, sym, ap, subst, _∙_}
+use mathlib.Core.Path.{_≡_, refl, sym, ap, subst, _∙_}
 use native.Mathlib.Omega.{arith}
 use mathlib.Core.List.{List, List·Memᴰ as Mem}
 use lib.ListN.{length, set}
 use Rattle.arith.specs.Lists.{greatest}
-use Rattle.arith.specs.laws.Least.{is-none}
 use Rattle.arith.specs.laws.Walks.{walk-less}
 use Rattle.bus_model.specs.declared.Choice.{Choice}
 use Rattle.bus_model.specs.declared.Choice.the-variants.{Fixed}
@@ -36,7 +35,7 @@ use Rattle.bounds.proofs.refine.+refine.{statement}
 use Rattle.bounds.proofs.refine.+refine.Tie.{close}
 
 abbrev μ-refine : Measures 3 refine-kinds.ps ℕ
-μ-refine κs a = a .1 .1 .1 .1 .0
+μ-refine κs a = a .1 .1 .1 .1 .1 .0
 
 abbrev refine-at : ℕ → In 3 refine-kinds.ps
 refine-at t = and 3 refine-kinds.ps (is 3 refine-kinds.ps μ-refine t) refine.Pre
@@ -46,6 +45,8 @@ refine-below t = and 3 refine-kinds.ps (falls 3 refine-kinds.ps _<_ μ-refine t)
 
 abbrev claims : ℕ → refine-lts.Claims
 claims t = (
+  with-choice-reads.Asked,
+  with-choice-reads.Learnt,
   max-with-scenario-reads.Asked,
   max-with-scenario-reads.Learnt,
   next-open-reads.Asked,
@@ -56,40 +57,56 @@ claims t = (
   or-zero-reads.Learnt,
   is-last-reads.Asked,
   is-last-reads.Learnt,
-  with-choice-reads.Asked,
-  with-choice-reads.Learnt,
-  refine-below t,
-  refine.Post,
   reach-now-reads.Asked,
   reach-now-reads.Learnt,
+  refine-below t,
+  refine.Post,
 )
 
 abbrev refine-Inv-loop : refine-lts.InvT-loop
-refine-Inv-loop rows prepared target choices left best reach memory₀ j group fewer first most₀ a₀ asked₀ rest₀ memory most a asked rest =
+refine-Inv-loop rows prepared target left best reach memory₀ choices j group fewer most₀ a₀ asked₀ rest₀ memory most a asked rest =
     Best (tableOf rows prepared) (target .frame) group (λ b. fixingMore (tableOf rows prepared) (target .frame) (left - 1) (set choices (group - 1) (Fixed b))) best most a × (best ≤ most)
     × Reaches (tableOf rows prepared) (target .frame) choices most rest × Ready rows prepared target memory
 
 abbrev refine-μ-loop : refine-lts.MeasureT-loop
-refine-μ-loop rows prepared target choices left best reach memory₀ j group fewer first most₀ a₀ asked₀ rest₀ memory most a asked rest = turn (tableOf rows prepared) (target .frame) group - a
+refine-μ-loop rows prepared target left best reach memory₀ choices j group fewer most₀ a₀ asked₀ rest₀ memory most a asked rest = turn (tableOf rows prepared) (target .frame) group - a
+
+refine-with-choice-requires : (t : ℕ) → refine-lts.Need-with-choice-requires (claims t) (refine-at t) refine.Post refine-Inv-loop refine-μ-loop
+refine-with-choice-requires t c κs = c .before .before .before .pre .1 .1 .0
+
+-- there are as many choices as groups
+long : (t : ℕ) (c : refine-lts.After-with-choice (claims t) (refine-at t) refine.Post refine-Inv-loop refine-μ-loop) → length (c .with-choice .result) ≡ 16
+long t c = search needs
+
+-- the scenario is what is asked for
+own : (t : ℕ) (c : refine-lts.After-with-choice (claims t) (refine-at t) refine.Post refine-Inv-loop refine-μ-loop) → OwnFixed (c .before .before .before .before .args .target .frame) (c .with-choice .result)
+own t c = subst (OwnFixed (c .before .before .before .before .args .target .frame)) (sym (c .with-choice .ensures)) (c .before .before .before .before .pre .1 .1 .1 .0)
+
+known : (t : ℕ) (c : refine-lts.After-with-choice (claims t) (refine-at t) refine.Post refine-Inv-loop refine-μ-loop) → let x = c .before .before .before .before .args in let fs = tableOf (x .rows .now) (x .prepared .now) in let k = x .target .frame in
+    Reaches fs k (c .with-choice .result) (x .best) (x .reach)
+known t c =
+    let x = c .before .before .before .before .args in
+    subst (λ (cs : List Choice). Reaches (tableOf (x .rows .now) (x .prepared .now)) (x .target .frame) cs (x .best) (x .reach)) (sym (c .with-choice .ensures)) (c .before .before .before .before .pre .1 .1 .1 .1)
+
+told : (t : ℕ) (c : refine-lts.After-with-choice (claims t) (refine-at t) refine.Post refine-Inv-loop refine-μ-loop) {r : ℕ} → let x = c .before .before .before .before .args in let fs = tableOf (x .rows .now) (x .prepared .now) in let k = x .target .frame in
+    r ≡ max (x .best) (fixingMore fs k (x .left) (c .with-choice .result)) → r ≡ max (x .best) (fixingMore fs k (x .left) (set (x .coarser) (x .fixing .group - 1) (Fixed (x .fixing .alignment))))
+told t c is =
+    let x = c .before .before .before .before .args in
+    is ∙ ap (λ (cs : List Choice). max (x .best) (fixingMore (tableOf (x .rows .now) (x .prepared .now)) (x .target .frame) (x .left) cs)) (c .with-choice .ensures)
 
 refine-max-with-scenario-requires : (t : ℕ) → refine-lts.Need-max-with-scenario-requires (claims t) (refine-at t) refine.Post refine-Inv-loop refine-μ-loop
-refine-max-with-scenario-requires t c κs = let p = c .before .before .before .before .before .pre .1 in (p .0, (p .1 .0, p .1 .1))
+refine-max-with-scenario-requires t c κs = (c .before .before .before .before .before .before .pre .1 .0, (own t (c .before .before), known t (c .before .before)))
 
 refine-same-length : (t : ℕ) → refine-lts.Need-same-length (claims t) (refine-at t) refine.Post refine-Inv-loop refine-μ-loop
-refine-same-length t c = c .before .before .max-with-scenario .ensures .1 .remembered .size ∙ sym (c .before .before .before .before .before .before .before .before .pre .1 .0 .remembered .size)
-
--- the choices are as many as the groups
-long : (t : ℕ) (s : refine-lts.Start (claims t) (refine-at t) refine.Post refine-Inv-loop refine-μ-loop) → length (s .args .choices) ≡ 16
-long t s = search needs
+refine-same-length t c = c .before .before .max-with-scenario .ensures .1 .remembered .size ∙ sym (c .before .before .before .before .before .before .before .before .before .pre .1 .0 .remembered .size)
 
 refine-returns : (t : ℕ) → refine-lts.Need-returns (claims t) (refine-at t) refine.Post refine-Inv-loop refine-μ-loop
 refine-returns t c =
-    let s = c .before .before .before .before .before .before .before .before in
-    let p = s .pre .1 in
-    (c .before .before .max-with-scenario .ensures .0 ∙ ap (max (s .args .best)) (sym (rw (c .before .before .before .before .if1 .taken) (open-end (p .0 .prepared .filled .table) (p .0 .listed) (s .args .choices) (long t s)))), c .before .before .max-with-scenario .ensures .1)
+    let p = c .before .before .before .before .before .before .before .before .before .pre .1 in
+    (told t (c .before .before .before .before .before) (c .before .before .max-with-scenario .ensures .0 ∙ ap (max (c .before .before .before .before .before .before .before .before .before .args .best)) (sym (rw (c .before .before .before .before .if1 .taken) (open-end (p .0 .prepared .filled .table) (p .0 .listed) (c .before .before .before .before .before .with-choice .result) (long t (c .before .before .before .before .before)))))), c .before .before .max-with-scenario .ensures .1)
 
 refine-next-open-requires : (t : ℕ) → refine-lts.Need-next-open-requires (claims t) (refine-at t) refine.Post refine-Inv-loop refine-μ-loop
-refine-next-open-requires t c κs = let p = c .before .before .before .before .pre .1 in in-table-fine _ (p .0 .prepared .filled .table) (p .0 .listed)
+refine-next-open-requires t c κs = let p = c .before .before .before .before .before .pre .1 in in-table-fine _ (p .0 .prepared .filled .table) (p .0 .listed)
 
 refine-enum-known-next : (t : ℕ) → refine-lts.Need-enum-known-next (claims t) (refine-at t) refine.Post refine-Inv-loop refine-μ-loop
 refine-enum-known-next t c = search needs
@@ -98,16 +115,15 @@ refine-enum-told : (t : ℕ) → refine-lts.Need-enum-told (claims t) (refine-at
 refine-enum-told t c = search needs
 
 refine-max-with-scenario-requires-2 : (t : ℕ) → refine-lts.Need-max-with-scenario-requires-2 (claims t) (refine-at t) refine.Post refine-Inv-loop refine-μ-loop
-refine-max-with-scenario-requires-2 t c κs = let p = c .before .before .before .before .before .before .before .before .pre .1 in (p .0, (p .1 .0, p .1 .1))
+refine-max-with-scenario-requires-2 t c κs = (c .before .before .before .before .before .before .before .before .before .pre .1 .0, (own t (c .before .before .before .before .before), known t (c .before .before .before .before .before)))
 
 refine-same-length-2 : (t : ℕ) → refine-lts.Need-same-length-2 (claims t) (refine-at t) refine.Post refine-Inv-loop refine-μ-loop
-refine-same-length-2 t c = c .before .before .max-with-scenario2 .ensures .1 .remembered .size ∙ sym (c .before .before .before .before .before .before .before .before .before .before .before .pre .1 .0 .remembered .size)
+refine-same-length-2 t c = c .before .before .max-with-scenario2 .ensures .1 .remembered .size ∙ sym (c .before .before .before .before .before .before .before .before .before .before .before .before .pre .1 .0 .remembered .size)
 
 refine-returns-2 : (t : ℕ) → refine-lts.Need-returns-2 (claims t) (refine-at t) refine.Post refine-Inv-loop refine-μ-loop
 refine-returns-2 t c =
-    let s = c .before .before .before .before .before .before .before .before .before .before .before in
-    let p = s .pre .1 in
-    (c .before .before .max-with-scenario2 .ensures .0 ∙ ap (max (s .args .best)) (sym (open-none (p .0 .prepared .filled .table) (p .0 .listed) (s .args .choices) (long t s) (s .args .left) (sym (c .before .before .before .before .before .before .next-open .ensures) ∙ c .before .before .before .before .enum-told .given .1))), c .before .before .max-with-scenario2 .ensures .1)
+    let p = c .before .before .before .before .before .before .before .before .before .before .before .before .pre .1 in
+    (told t (c .before .before .before .before .before .before .before .before) (c .before .before .max-with-scenario2 .ensures .0 ∙ ap (max (c .before .before .before .before .before .before .before .before .before .before .before .before .args .best)) (sym (open-none (p .0 .prepared .filled .table) (p .0 .listed) (c .before .before .before .before .before .before .before .before .with-choice .result) (long t (c .before .before .before .before .before .before .before .before)) (c .before .before .before .before .before .before .before .before .before .before .before .before .args .left) (sym (c .before .before .before .before .before .before .next-open .ensures) ∙ c .before .before .before .before .enum-told .given .1)))), c .before .before .max-with-scenario2 .ensures .1)
 
 refine-cast-group : (t : ℕ) → refine-lts.Need-cast-group (claims t) (refine-at t) refine.Post refine-Inv-loop refine-μ-loop
 refine-cast-group t c = search needs
@@ -117,97 +133,74 @@ refine-sub-fewer t c = omega (arith, c .before .before .before .before .if1 .lef
 
 -- the next group is one of the groups,
 group : (t : ℕ) (c : refine-lts.After-next (claims t) (refine-at t) refine.Post refine-Inv-loop refine-μ-loop) → (1 ≤ c .next .given .0 .0) × (c .next .given .0 .0 ≤ 16)
-group t c = let s = c .before .before .before .before .before .before .before in open-group (s .pre .1 .0 .prepared .filled .table) (s .pre .1 .0 .listed) (s .args .choices) (long t s) (sym (c .before .before .next-open .ensures) ∙ c .next .given .1)
+group t c = let p = c .before .before .before .before .before .before .before .before .pre .1 in open-group (p .0 .prepared .filled .table) (p .0 .listed) (c .before .before .before .before .with-choice .result) (long t (c .before .before .before .before)) (sym (c .before .before .next-open .ensures) ∙ c .next .given .1)
 
 -- and one group less is left
-fewer : (t : ℕ) (c : refine-lts.After-next (claims t) (refine-at t) refine.Post refine-Inv-loop refine-μ-loop) → suc (c .before .before .before .before .before .before .before .args .left - 1) ≡ c .before .before .before .before .before .before .before .args .left
+fewer : (t : ℕ) (c : refine-lts.After-next (claims t) (refine-at t) refine.Post refine-Inv-loop refine-μ-loop) → suc (c .before .before .before .before .before .before .before .before .args .left - 1) ≡ c .before .before .before .before .before .before .before .before .args .left
 fewer t c = omega (arith, c .before .before .before .if1 .left)
 
 -- the greatest over its alignments is that with one group more
-whole : (t : ℕ) (c : refine-lts.After-next (claims t) (refine-at t) refine.Post refine-Inv-loop refine-μ-loop) → let x = c .before .before .before .before .before .before .before .args in let fs = tableOf (x .rows .now) (x .prepared .now) in let k = x .target .frame in let j = c .next .given .0 .0 in
-    greatest (λ b. fixingMore fs k (x .left - 1) (set (x .choices) (j - 1) (Fixed b))) (orEmpty (firstTurn fs k j)) ≡ fixingMore fs k (x .left) (x .choices)
+whole : (t : ℕ) (c : refine-lts.After-next (claims t) (refine-at t) refine.Post refine-Inv-loop refine-μ-loop) → let x = c .before .before .before .before .before .before .before .before .args in let fs = tableOf (x .rows .now) (x .prepared .now) in let k = x .target .frame in let j = c .next .given .0 .0 in
+    greatest (λ b. fixingMore fs k (x .left - 1) (set (c .before .before .before .before .with-choice .result) (j - 1) (Fixed b))) (orEmpty (firstTurn fs k j)) ≡ fixingMore fs k (x .left) (c .before .before .before .before .with-choice .result)
 whole t c =
-    let s = c .before .before .before .before .before .before .before in
-    rw (fewer t c) at (open-more (s .pre .1 .0 .prepared .filled .table) (s .pre .1 .0 .listed) (s .args .choices) (long t s) (s .args .left - 1) (sym (c .before .before .next-open .ensures) ∙ c .next .given .1))
+    let p = c .before .before .before .before .before .before .before .before .pre .1 in
+    rw (fewer t c) at (open-more (p .0 .prepared .filled .table) (p .0 .listed) (c .before .before .before .before .with-choice .result) (long t (c .before .before .before .before)) (c .before .before .before .before .before .before .before .before .args .left - 1) (sym (c .before .before .next-open .ensures) ∙ c .next .given .1))
 
 -- what the search knows it knows with one of the group's alignments
-deeper : (t : ℕ) (c : refine-lts.After-next (claims t) (refine-at t) refine.Post refine-Inv-loop refine-μ-loop) {a most reach : ℕ} {cs : List Choice} → let x = c .before .before .before .before .before .before .before .args in let fs = tableOf (x .rows .now) (x .prepared .now) in let k = x .target .frame in let j = c .next .given .0 .0 in
-    Mem a (orEmpty (alignments fs k j)) → cs ≡ set (x .choices) (j - 1) (Fixed a) → Reaches fs k (x .choices) most reach → OwnFixed k cs × Reaches fs k cs most reach
-deeper t c listed is left =
-    let s = c .before .before .before .before .before .before .before in
-    let p = s .pre .1 in
+deeper : (t : ℕ) (c : refine-lts.After-next (claims t) (refine-at t) refine.Post refine-Inv-loop refine-μ-loop) {a most reach : ℕ} → let x = c .before .before .before .before .before .before .before .before .args in let fs = tableOf (x .rows .now) (x .prepared .now) in let k = x .target .frame in let j = c .next .given .0 .0 in let cs = set (c .before .before .before .before .with-choice .result) (j - 1) (Fixed a) in
+    Mem a (orEmpty (alignments fs k j)) → Reaches fs k (c .before .before .before .before .with-choice .result) most reach → OwnFixed k cs × Reaches fs k cs most reach
+deeper t c listed left =
+    let p = c .before .before .before .before .before .before .before .before .pre .1 in
     let table = p .0 .prepared .filled .table in
     let next = sym (c .before .before .next-open .ensures) ∙ c .next .given .1 in
-    (next-own table (p .0 .listed) (s .args .choices) (long t s) next listed is (p .1 .0), next-reach table (p .0 .listed) (s .args .choices) (long t s) next listed is (p .1 .0) left)
+    let fixed = own t (c .before .before .before .before) in
+    let many = long t (c .before .before .before .before) in
+    (next-own table (p .0 .listed) (c .before .before .before .before .with-choice .result) many next listed refl fixed, next-reach table (p .0 .listed) (c .before .before .before .before .with-choice .result) many next listed refl fixed left)
 
 refine-next-of-requires : (t : ℕ) → refine-lts.Need-next-of-requires (claims t) (refine-at t) refine.Post refine-Inv-loop refine-μ-loop
-refine-next-of-requires t c κs = let n = group t (c .before) in (c .before .before .before .before .before .before .before .before .pre .1 .0 .prepared, (n .0, n .1, omega arith))
+refine-next-of-requires t c κs = let n = group t (c .before) in (c .before .before .before .before .before .before .before .before .before .pre .1 .0 .prepared, (n .0, n .1, omega arith))
 
 refine-or-zero-requires : (t : ℕ) → refine-lts.Need-or-zero-requires (claims t) (refine-at t) refine.Post refine-Inv-loop refine-μ-loop
 refine-or-zero-requires t c κs = search needs
 
 -- the walk stands at its first alignment
-first : (t : ℕ) (c : refine-lts.After-or-zero (claims t) (refine-at t) refine.Post refine-Inv-loop refine-μ-loop) → let x = c .before .before .before .before .before .before .before .before .before .before .args in let fs = tableOf (x .rows .now) (x .prepared .now) in let k = x .target .frame in let j = c .before .before .before .next .given .0 .0 in
-    Best fs k j (λ b. fixingMore fs k (x .left - 1) (set (x .choices) (j - 1) (Fixed b))) (x .best) (x .best) (c .or-zero .result)
-first t c = best-first _ _ _ _ (c .before .before .before .before .before .before .before .before .before .before .pre .1 .0 .prepared .filled .table .valid) (c .before .next-of .result) (c .before .next-of .ensures) (c .or-zero .ensures)
+first : (t : ℕ) (c : refine-lts.After-or-zero (claims t) (refine-at t) refine.Post refine-Inv-loop refine-μ-loop) → let x = c .before .before .before .before .before .before .before .before .before .before .before .args in let fs = tableOf (x .rows .now) (x .prepared .now) in let k = x .target .frame in let j = c .before .before .before .next .given .0 .0 in
+    Best fs k j (λ b. fixingMore fs k (x .left - 1) (set (c .before .before .before .before .before .before .before .with-choice .result) (j - 1) (Fixed b))) (x .best) (x .best) (c .or-zero .result)
+first t c = best-first _ _ _ _ (c .before .before .before .before .before .before .before .before .before .before .before .pre .1 .0 .prepared .filled .table .valid) (c .before .next-of .result) (c .before .next-of .ensures) (c .or-zero .ensures)
 
 refine-is-last-requires : (t : ℕ) → refine-lts.Need-is-last-requires (claims t) (refine-at t) refine.Post refine-Inv-loop refine-μ-loop
-refine-is-last-requires t c κs = let n = group t (c .before .before .before) in (c .before .before .before .before .before .before .before .before .before .before .pre .1 .0 .prepared, (n .0, n .1, first t (c) .walk .inside))
+refine-is-last-requires t c κs = let n = group t (c .before .before .before) in (c .before .before .before .before .before .before .before .before .before .before .before .pre .1 .0 .prepared, (n .0, n .1, first t (c) .walk .inside))
 
-refine-with-choice-requires : (t : ℕ) → refine-lts.Need-with-choice-requires (claims t) (refine-at t) refine.Post refine-Inv-loop refine-μ-loop
-refine-with-choice-requires t c κs = group t (c .before .before .before .before .before)
+refine-loop-holds : (t : ℕ) → refine-lts.Need-loop-holds (claims t) (refine-at t) refine.Post refine-Inv-loop refine-μ-loop
+refine-loop-holds t c = (first t (c .before), omega arith, known t (c .before .before .before .before .before .before .before .before), c .before .before .before .before .before .before .before .before .before .before .before .before .pre .1 .0)
+
+refine-reach-now-requires : (t : ℕ) → refine-lts.Need-reach-now-requires (claims t) (refine-at t) refine.Post refine-Inv-loop refine-μ-loop
+refine-reach-now-requires t c κs = (c .before .loop .inv .3, (own t (c .before .before .before .before .before .before .before .before .before .before), c .before .loop .inv .2))
+
+refine-same-length-3 : (t : ℕ) → refine-lts.Need-same-length-3 (claims t) (refine-at t) refine.Post refine-Inv-loop refine-μ-loop
+refine-same-length-3 t c = c .before .before .before .reach-now .ensures .1 .remembered .size ∙ sym (c .before .before .before .before .before .before .before .before .before .before .before .before .before .before .before .before .before .before .pre .1 .0 .remembered .size)
+
+refine-returns-3 : (t : ℕ) → refine-lts.Need-returns-3 (claims t) (refine-at t) refine.Post refine-Inv-loop refine-μ-loop
+refine-returns-3 t c =
+    let l = c .before .before .before .before .before .loop in
+    let p = c .before .before .before .before .before .before .before .before .before .before .before .before .before .before .before .before .before .before .pre .1 in
+    let none = reach-none _ _ _ (rw (c .if2 .taken) at (c .before .before .before .reach-now .ensures .0)) in
+    let pruned = open-pruned (p .0 .prepared .filled .table) (p .0 .listed) (c .before .before .before .before .before .before .before .before .before .before .before .before .before .before .with-choice .result) (long t (c .before .before .before .before .before .before .before .before .before .before .before .before .before .before)) (own t (c .before .before .before .before .before .before .before .before .before .before .before .before .before .before)) (known t (c .before .before .before .before .before .before .before .before .before .before .before .before .before .before)) (c .before .before .before .before .before .before .before .before .before .before .before .before .before .before .before .before .before .before .args .left) in
+    (told t (c .before .before .before .before .before .before .before .before .before .before .before .before .before .before) (best-over _ _ _ _ (l .inv .0) (l .inv .1) (whole t (c .before .before .before .before .before .before .before .before .before .before)) (omega (arith, none, pruned))), c .before .before .before .reach-now .ensures .1)
 
 refine-refine-requires : (t : ℕ) → refine-lts.Need-refine-requires (claims t) (refine-at t) refine.Post refine-Inv-loop refine-μ-loop
 refine-refine-requires t c κs =
-    let s = c .before .before .before .before .before .before .before .before .before .before .before .before .before .before in
-    let (own, known) = deeper t (c .before .before .before .before .before .before .before) (first t (c .before .before .before .before) .listed) (c .before .with-choice .ensures) (s .pre .1 .1 .1) in
-    (omega (arith, s .pre .0, fewer t (c .before .before .before .before .before .before .before)), (s .pre .1 .0, (own, known)))
-
-refine-same-length-3 : (t : ℕ) → refine-lts.Need-same-length-3 (claims t) (refine-at t) refine.Post refine-Inv-loop refine-μ-loop
-refine-same-length-3 t c = c .before .before .refine .ensures .1 .remembered .size ∙ sym (c .before .before .before .before .before .before .before .before .before .before .before .before .before .before .before .before .before .pre .1 .0 .remembered .size)
-
-refine-returns-3 : (t : ℕ) → refine-lts.Need-returns-3 (claims t) (refine-at t) refine.Post refine-Inv-loop refine-μ-loop
-refine-returns-3 t c = (
-  best-end _ _ _ _ (first t (c .before .before .before .before .before .before .before)) (rw (c .before .before .before .before .with-choice .ensures) at (c .before .before .refine .ensures .0)) (is-none _ (sym (c .before .before .before .before .before .before .is-last .ensures) ∙ c .before .before .before .before .before .if2 .taken))
-      ∙ ap (max (c .before .before .before .before .before .before .before .before .before .before .before .before .before .before .before .before .before .args .best)) (whole t (c .before .before .before .before .before .before .before .before .before .before)),
-  c .before .before .refine .ensures .1,
-)
-
-refine-loop-holds : (t : ℕ) → refine-lts.Need-loop-holds (claims t) (refine-at t) refine.Post refine-Inv-loop refine-μ-loop
-refine-loop-holds t c = (first t (c .before .before), omega arith, c .before .before .before .before .before .before .before .before .before .before .before .before .pre .1 .1 .1, c .before .before .before .before .before .before .before .before .before .before .before .before .pre .1 .0)
-
-refine-reach-now-requires : (t : ℕ) → refine-lts.Need-reach-now-requires (claims t) (refine-at t) refine.Post refine-Inv-loop refine-μ-loop
-refine-reach-now-requires t c κs = let p = c .before .before .before .before .before .before .before .before .before .before .before .before .before .before .pre .1 in (c .before .loop .inv .3, (p .1 .0, c .before .loop .inv .2))
-
-refine-same-length-4 : (t : ℕ) → refine-lts.Need-same-length-4 (claims t) (refine-at t) refine.Post refine-Inv-loop refine-μ-loop
-refine-same-length-4 t c = c .before .before .before .reach-now .ensures .1 .remembered .size ∙ sym (c .before .before .before .before .before .before .before .before .before .before .before .before .before .before .before .before .before .before .pre .1 .0 .remembered .size)
-
-refine-returns-4 : (t : ℕ) → refine-lts.Need-returns-4 (claims t) (refine-at t) refine.Post refine-Inv-loop refine-μ-loop
-refine-returns-4 t c =
-    let l = c .before .before .before .before .before .loop in
-    let s = c .before .before .before .before .before .before .before .before .before .before .before .before .before .before .before .before .before .before in
-    let p = s .pre .1 in
-    let none = reach-none _ _ _ (rw (c .if3 .taken) at (c .before .before .before .reach-now .ensures .0)) in
-    let pruned = open-pruned (p .0 .prepared .filled .table) (p .0 .listed) (s .args .choices) (long t s) (p .1 .0) (p .1 .1) (s .args .left) in
-    (best-over _ _ _ _ (l .inv .0) (l .inv .1) (whole t (c .before .before .before .before .before .before .before .before .before .before .before)) (omega (arith, none, pruned)), c .before .before .before .reach-now .ensures .1)
-
-refine-with-choice-requires-2 : (t : ℕ) → refine-lts.Need-with-choice-requires-2 (claims t) (refine-at t) refine.Post refine-Inv-loop refine-μ-loop
-refine-with-choice-requires-2 t c κs = group t (c .before .before .before .before .before .before .before .before .before .before .before)
-
-refine-refine-requires-2 : (t : ℕ) → refine-lts.Need-refine-requires-2 (claims t) (refine-at t) refine.Post refine-Inv-loop refine-μ-loop
-refine-refine-requires-2 t c κs =
-    let s = c .before .before .before .before .before .before .before .before .before .before .before .before .before .before .before .before .before .before .before .before in
-    let (own, known) = deeper t (c .before .before .before .before .before .before .before .before .before .before .before .before .before) (c .before .before .before .before .before .before .before .loop .inv .0 .listed) (c .before .with-choice2 .ensures) (c .before .before .before .before .before .reach-now .ensures .0) in
-    (omega (arith, s .pre .0, fewer t (c .before .before .before .before .before .before .before .before .before .before .before .before .before)), (c .before .before .before .before .before .reach-now .ensures .1, (own, known)))
+    let (fixed, left) = deeper t (c .before .before .before .before .before .before .before .before .before .before .before) (c .before .before .before .before .before .before .loop .inv .0 .listed) (c .before .before .before .before .reach-now .ensures .0) in
+    (omega (arith, c .before .before .before .before .before .before .before .before .before .before .before .before .before .before .before .before .before .before .before .pre .0, fewer t (c .before .before .before .before .before .before .before .before .before .before .before)), (c .before .before .before .before .reach-now .ensures .1, (group t (c .before .before .before .before .before .before .before .before .before .before .before), (fixed, left))))
 
 refine-add-next-of : (t : ℕ) → refine-lts.Need-add-next-of (claims t) (refine-at t) refine.Post refine-Inv-loop refine-μ-loop
 refine-add-next-of t c =
-    let n = group t (c .before .before .before .before .before .before .before .before .before .before .before .before .before .before .before .before) in
-    let table = c .before .before .before .before .before .before .before .before .before .before .before .before .before .before .before .before .before .before .before .before .before .before .before .pre .1 .0 .prepared .filled .table in
-    omega (arith, c .before .before .before .before .before .before .before .before .before .before .loop .inv .0 .walk .inside, table .hyper _ (n .0) (n .1), turn-le (table .valid) (c .before .before .before .before .before .before .before .before .before .before .before .before .before .before .before .before .before .before .before .before .before .before .before .args .target .frame) (c .before .before .before .before .before .before .before .before .before .before .before .before .before .before .before .before .next .given .0 .0))
+    let n = group t (c .before .before .before .before .before .before .before .before .before .before .before .before .before .before) in
+    let table = c .before .before .before .before .before .before .before .before .before .before .before .before .before .before .before .before .before .before .before .before .before .before .pre .1 .0 .prepared .filled .table in
+    omega (arith, c .before .before .before .before .before .before .before .before .before .loop .inv .0 .walk .inside, table .hyper _ (n .0) (n .1), turn-le (table .valid) (c .before .before .before .before .before .before .before .before .before .before .before .before .before .before .before .before .before .before .before .before .before .before .args .target .frame) (c .before .before .before .before .before .before .before .before .before .before .before .before .before .before .next .given .0 .0))
 
 refine-next-of-requires-2 : (t : ℕ) → refine-lts.Need-next-of-requires-2 (claims t) (refine-at t) refine.Post refine-Inv-loop refine-μ-loop
-refine-next-of-requires-2 t c κs = let n = group t (c .before .before .before .before .before .before .before .before .before .before .before .before .before .before .before .before) in (c .before .before .before .before .before .before .before .before .before .before .before .before .before .before .before .before .before .before .before .before .before .before .before .pre .1 .0 .prepared, (n .0, n .1, omega (arith, c .before .before .before .before .before .before .before .before .before .before .loop .inv .0 .walk .inside)))
+refine-next-of-requires-2 t c κs = let n = group t (c .before .before .before .before .before .before .before .before .before .before .before .before .before .before) in (c .before .before .before .before .before .before .before .before .before .before .before .before .before .before .before .before .before .before .before .before .before .before .pre .1 .0 .prepared, (n .0, n .1, omega (arith, c .before .before .before .before .before .before .before .before .before .loop .inv .0 .walk .inside)))
 
 refine-enum-known-found : (t : ℕ) → refine-lts.Need-enum-known-found (claims t) (refine-at t) refine.Post refine-Inv-loop refine-μ-loop
 refine-enum-known-found t c = search needs
@@ -215,26 +208,26 @@ refine-enum-known-found t c = search needs
 refine-enum-told-2 : (t : ℕ) → refine-lts.Need-enum-told-2 (claims t) (refine-at t) refine.Post refine-Inv-loop refine-μ-loop
 refine-enum-told-2 t c = search needs
 
-refine-same-length-5 : (t : ℕ) → refine-lts.Need-same-length-5 (claims t) (refine-at t) refine.Post refine-Inv-loop refine-μ-loop
-refine-same-length-5 t c = c .before .before .before .before .before .refine2 .ensures .1 .remembered .size ∙ sym (c .before .before .before .before .before .before .before .before .before .before .before .before .before .before .before .before .before .before .before .before .before .before .before .before .before .before .pre .1 .0 .remembered .size)
+refine-same-length-4 : (t : ℕ) → refine-lts.Need-same-length-4 (claims t) (refine-at t) refine.Post refine-Inv-loop refine-μ-loop
+refine-same-length-4 t c = c .before .before .before .before .before .refine .ensures .1 .remembered .size ∙ sym (c .before .before .before .before .before .before .before .before .before .before .before .before .before .before .before .before .before .before .before .before .before .before .before .before .before .pre .1 .0 .remembered .size)
 
-refine-returns-5 : (t : ℕ) → refine-lts.Need-returns-5 (claims t) (refine-at t) refine.Post refine-Inv-loop refine-μ-loop
-refine-returns-5 t c = (
-  best-end _ _ _ _ (c .before .before .before .before .before .before .before .before .before .before .before .before .before .loop .inv .0) (rw (c .before .before .before .before .before .before .before .with-choice2 .ensures) at (c .before .before .before .before .before .refine2 .ensures .0)) (sym (c .before .before .next-of2 .ensures) ∙ c .enum-told2 .given .1)
-      ∙ ap (max (c .before .before .before .before .before .before .before .before .before .before .before .before .before .before .before .before .before .before .before .before .before .before .before .before .before .before .args .best)) (whole t (c .before .before .before .before .before .before .before .before .before .before .before .before .before .before .before .before .before .before .before)),
-  c .before .before .before .before .before .refine2 .ensures .1,
+refine-returns-4 : (t : ℕ) → refine-lts.Need-returns-4 (claims t) (refine-at t) refine.Post refine-Inv-loop refine-μ-loop
+refine-returns-4 t c = (
+  told t (c .before .before .before .before .before .before .before .before .before .before .before .before .before .before .before .before .before .before .before .before .before) (best-end _ _ _ _ (c .before .before .before .before .before .before .before .before .before .before .before .before .loop .inv .0) (c .before .before .before .before .before .refine .ensures .0) (sym (c .before .before .next-of2 .ensures) ∙ c .enum-told2 .given .1)
+      ∙ ap (max (c .before .before .before .before .before .before .before .before .before .before .before .before .before .before .before .before .before .before .before .before .before .before .before .before .before .args .best)) (whole t (c .before .before .before .before .before .before .before .before .before .before .before .before .before .before .before .before .before))),
+  c .before .before .before .before .before .refine .ensures .1,
 )
 
 refine-loop-less : (t : ℕ) → refine-lts.Need-loop-less (claims t) (refine-at t) refine.Post refine-Inv-loop refine-μ-loop
-refine-loop-less t c = walk-less _ _ _ _ _ (c .before .before .before .before .before .before .before .before .before .before .before .before .before .before .loop .inv .0 .walk) (sym (c .before .before .before .next-of2 .ensures) ∙ c .before .found .given .1)
+refine-loop-less t c = walk-less _ _ _ _ _ (c .before .before .before .before .before .before .before .before .before .before .before .before .before .loop .inv .0 .walk) (sym (c .before .before .before .next-of2 .ensures) ∙ c .before .found .given .1)
 
 refine-loop-again : (t : ℕ) → refine-lts.Need-loop-again (claims t) (refine-at t) refine.Post refine-Inv-loop refine-μ-loop
 refine-loop-again t c =
-    let l = c .before .before .before .before .before .before .before .before .before .before .before .before .before .before .loop in (
-      best-more _ _ _ _ (l .inv .0) (rw (c .before .before .before .before .before .before .before .before .with-choice2 .ensures) at (c .before .before .before .before .before .before .refine2 .ensures .0)) (c .before .before .before .before .before .before .before .before .before .before .before .before .before .before .before .before .before .before .before .before .before .before .before .before .before .before .before .pre .1 .0 .prepared .filled .table .valid) (sym (c .before .before .before .next-of2 .ensures) ∙ c .before .found .given .1),
-      omega (arith, l .inv .1, c .before .before .before .before .before .before .refine2 .ensures .0),
-      reach-more (omega (arith, c .before .before .before .before .before .before .refine2 .ensures .0)) (c .before .before .before .before .before .before .before .before .before .before .before .before .reach-now .ensures .0),
-      c .before .before .before .before .before .before .refine2 .ensures .1,
+    let l = c .before .before .before .before .before .before .before .before .before .before .before .before .before .loop in (
+      best-more _ _ _ _ (l .inv .0) (c .before .before .before .before .before .before .refine .ensures .0) (c .before .before .before .before .before .before .before .before .before .before .before .before .before .before .before .before .before .before .before .before .before .before .before .before .before .before .pre .1 .0 .prepared .filled .table .valid) (sym (c .before .before .before .next-of2 .ensures) ∙ c .before .found .given .1),
+      omega (arith, l .inv .1, c .before .before .before .before .before .before .refine .ensures .0),
+      reach-more (omega (arith, c .before .before .before .before .before .before .refine .ensures .0)) (c .before .before .before .before .before .before .before .before .before .before .before .reach-now .ensures .0),
+      c .before .before .before .before .before .before .refine .ensures .1,
     )
 
 pub +refine-spec : {M : Type 1} → statement M
@@ -243,6 +236,7 @@ pub +refine-spec : {M : Type 1} → statement M
     refine.Post
     refine-Inv-loop
     refine-μ-loop
+    (refine-with-choice-requires t)
     (refine-max-with-scenario-requires t)
     (refine-same-length t)
     (refine-returns t)
@@ -257,21 +251,16 @@ pub +refine-spec : {M : Type 1} → statement M
     (refine-next-of-requires t)
     (refine-or-zero-requires t)
     (refine-is-last-requires t)
-    (refine-with-choice-requires t)
-    (refine-refine-requires t)
-    (refine-same-length-3 t)
-    (refine-returns-3 t)
     (refine-loop-holds t)
     (refine-reach-now-requires t)
-    (refine-same-length-4 t)
-    (refine-returns-4 t)
-    (refine-with-choice-requires-2 t)
-    (refine-refine-requires-2 t)
+    (refine-same-length-3 t)
+    (refine-returns-3 t)
+    (refine-refine-requires t)
     (refine-add-next-of t)
     (refine-next-of-requires-2 t)
     (refine-enum-known-found t)
     (refine-enum-told-2 t)
-    (refine-same-length-5 t)
-    (refine-returns-5 t)
+    (refine-same-length-4 t)
+    (refine-returns-4 t)
     (refine-loop-less t)
     (refine-loop-again t)

@@ -1,6 +1,6 @@
 -- The loop has the greatest response over the alignments of the own group that are visited.
 use Prim.Native.Nat.{ℕ, suc, _+_, _-_, _≤_, _<_, max}
-use mathlib.Core.Path.{_≡_, sym, ap, _∙_}
+use mathlib.Core.Path.{_≡_, refl, sym, ap, _∙_}
 use native.Mathlib.Omega.{arith}
 use borrow.Author.Needs.{needs}
 use lib.ListN.{length, set}
@@ -61,7 +61,7 @@ refine-requires : tie.Need-refine-requires Inv-loop μ-loop
 refine-requires c κs =
     let s = c .before .before .before .before .before .before .before .before .before .before .before .before .before .before .before .before in
     let p = s .pre in
-    (c .before .before .before .before .before .limit-of .ensures .1, (own-set (p .0 .prepared .filled .table) (p .0 .listed) (s .args .choices) (long s) (p .1 .0) (c .before .before .before .before .before .before .before .before .loop .inv .0 .listed) (c .before .before .before .before .before .before .before .with-choice .ensures), c .before .reach-before .ensures (c .before .before .before .before .before .before .before .before .loop .most)))
+    (c .before .before .before .before .before .limit-of .ensures .1, (group s, (own-set (p .0 .prepared .filled .table) (p .0 .listed) (s .args .choices) (long s) (p .1 .0) (c .before .before .before .before .before .before .before .before .loop .inv .0 .listed) refl, rw (← c .before .before .before .before .before .before .before .with-choice .ensures) (c .before .reach-before .ensures (c .before .before .before .before .before .before .before .before .loop .most)))))
 
 add-next-of : tie.Need-add-next-of Inv-loop μ-loop
 add-next-of c =
@@ -88,7 +88,7 @@ returns c =
     let p = s .pre in
     let fewer : suc (s .args .left - 1) ≡ s .args .left = omega (arith, p .1 .1 .1 .1) in
     let whole = rw fewer at (open-more (p .0 .prepared .filled .table) (p .0 .listed) (s .args .choices) (long s) (s .args .left - 1) (own-next (p .0 .prepared .filled .table) (p .0 .listed) (s .args .choices) (long s) (p .1 .0))) in (
-      best-end _ _ _ _ (c .before .before .before .before .before .before .before .before .before .before .before .before .before .before .loop .inv .0) (rw (c .before .before .before .before .before .before .before .before .before .before .before .before .before .with-choice .ensures) at (c .before .before .before .before .before .refine .ensures .0)) (sym (c .before .before .next-of2 .ensures) ∙ c .enum-told .given .1) ∙ ap (max (s .args .best)) whole,
+      best-end _ _ _ _ (c .before .before .before .before .before .before .before .before .before .before .before .before .before .before .loop .inv .0) (c .before .before .before .before .before .refine .ensures .0) (sym (c .before .before .next-of2 .ensures) ∙ c .enum-told .given .1) ∙ ap (max (s .args .best)) whole,
       c .before .before .before .before .before .refine .ensures .1,
     )
 
@@ -97,7 +97,7 @@ loop-less c = walk-less _ _ _ _ _ (c .before .before .before .before .before .be
 
 loop-again : tie.Need-loop-again Inv-loop μ-loop
 loop-again c =
-    (best-more _ _ _ _ (c .before .before .before .before .before .before .before .before .before .before .before .before .before .before .before .loop .inv .0) (rw (c .before .before .before .before .before .before .before .before .before .before .before .before .before .before .with-choice .ensures) at (c .before .before .before .before .before .before .refine .ensures .0)) (c .before .before .before .before .before .before .before .before .before .before .before .before .before .before .before .before .before .before .before .before .before .before .before .pre .0 .prepared .filled .table .valid) (sym (c .before .before .before .next-of2 .ensures) ∙ c .before .found .given .1), c .before .before .before .before .before .before .refine .ensures .1)
+    (best-more _ _ _ _ (c .before .before .before .before .before .before .before .before .before .before .before .before .before .before .before .loop .inv .0) (c .before .before .before .before .before .before .refine .ensures .0) (c .before .before .before .before .before .before .before .before .before .before .before .before .before .before .before .before .before .before .before .before .before .before .before .pre .0 .prepared .filled .table .valid) (sym (c .before .before .before .next-of2 .ensures) ∙ c .before .found .given .1), c .before .before .before .before .before .before .refine .ensures .1)
 
 pub refine-own-spec : {M : Type 1} → statement M
 refine-own-spec =

@@ -35,11 +35,11 @@ table c = let r = c .before .before .before .before .read in read-rows _ _ _ ref
 array-share-prefix-rows : tie.Need-array-share-prefix-rows
 array-share-prefix-rows c = table c .room
 
-slice-aggregate-precise-bound : tie.Need-slice-aggregate-precise-bound
-slice-aggregate-precise-bound c = table (c .before) .size
+slice-aggregate-bound-accepted : tie.Need-slice-aggregate-bound-accepted
+slice-aggregate-bound-accepted c = table (c .before) .size
 
-precise-bound-requires : tie.Need-precise-bound-requires
-precise-bound-requires c κs = search needs
+bound-accepted-requires : tie.Need-bound-accepted-requires
+bound-accepted-requires c κs = (c .before .before .before .before .before .before .before .before .pre, table (c .before) .accepted)
 
 encode-bounded-requires : tie.Need-encode-bounded-requires
 encode-bounded-requires c κs = search needs
@@ -57,7 +57,7 @@ returns-2 c =
     let t = table (c .before .before .before) in
     let a = c .before .before .before .before .before .before .before .before .before .before .args in
     kept _ (c .encode-bounded .ok) ∙ c .encode-bounded .ensures
-    ∙ ap encodeBounded (c .before .precise-bound .ensures .0 ∙ rw (t .passed) (ap (λ (rows : List ℕ). boundRow (a .lengths) rows (a .row)) (t .rows)))
+    ∙ ap encodeBounded (c .before .bound-accepted .ensures ∙ rw (t .passed) (ap (λ (rows : List ℕ). boundRow (a .lengths) rows (a .row)) (t .rows)))
 
 pub bound-table-spec : {M : Type 1} → statement M
 bound-table-spec =
@@ -70,8 +70,8 @@ bound-table-spec =
     encode-refusal-requires
     enum-known-answer-2
     array-share-prefix-rows
-    slice-aggregate-precise-bound
-    precise-bound-requires
+    slice-aggregate-bound-accepted
+    bound-accepted-requires
     encode-bounded-requires
     returns
     returns-2)

@@ -36,7 +36,7 @@ lengths-of-requires : tie.Need-lengths-of-requires
 lengths-of-requires c κs = search needs
 
 judge-table-requires : tie.Need-judge-table-requires
-judge-table-requires c κs = search needs
+judge-table-requires c κs = loaded c .loadable
 
 returns : tie.Need-returns
 unfolding encodeJudged judgeFile judgeRead

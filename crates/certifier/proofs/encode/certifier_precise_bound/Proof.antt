@@ -36,7 +36,7 @@ lengths-of-requires : tie.Need-lengths-of-requires
 lengths-of-requires c κs = search needs
 
 bound-table-requires : tie.Need-bound-table-requires
-bound-table-requires c κs = search needs
+bound-table-requires c κs = loaded c .loadable
 
 returns : tie.Need-returns
 unfolding encodeBounded boundFile boundRead

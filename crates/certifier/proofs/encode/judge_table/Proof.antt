@@ -1,11 +1,13 @@
 -- The file is read into rows of its own; a refusal of the file is encoded, and a table that was read is judged and its judgement encoded.
 use Prim.Native.Nat.{ℕ}
-use mathlib.Core.Path.{refl, ap, _∙_}
+use mathlib.Core.Path.{refl, sym, ap, subst, _∙_}
 use mathlib.Core.List.{List}
 use borrow.Author.Needs.{needs}
 use Rattle.arith.specs.laws.Signed.{kept}
 use Rattle.row_judgement.specs.Judge.{judgeRow}
 use Rattle.certifier.specs.Encode.{judgeRead, encodeJudged, encodeRefusal}
+use Rattle.certifier.specs.Steps.{Encodable}
+use Rattle.certifier.specs.laws.Small.{judged-encodable}
 use Rattle.frame_table.specs.laws.Reading.{ReadRows, read-refused, read-rows}
 use Rattle.certifier.proofs.encode.judge_table.Statement.{statement}
 use Rattle.certifier.proofs.encode.judge_table.Tie as tie
@@ -35,11 +37,14 @@ table c = let r = c .before .before .before .before .read in read-rows _ _ _ ref
 array-share-prefix-rows : tie.Need-array-share-prefix-rows
 array-share-prefix-rows c = table c .room
 
-slice-aggregate-encode-judgement-of : tie.Need-slice-aggregate-encode-judgement-of
-slice-aggregate-encode-judgement-of c = table (c .before) .size
+slice-aggregate-judge-accepted : tie.Need-slice-aggregate-judge-accepted
+slice-aggregate-judge-accepted c = table (c .before) .size
 
-encode-judgement-of-requires : tie.Need-encode-judgement-of-requires
-encode-judgement-of-requires c κs = search needs
+judge-accepted-requires : tie.Need-judge-accepted-requires
+judge-accepted-requires c κs = (c .before .before .before .before .before .before .before .before .pre, table (c .before) .accepted)
+
+encode-judged-requires : tie.Need-encode-judged-requires
+encode-judged-requires c κs = subst Encodable (sym (c .judge-accepted .ensures)) (judged-encodable _ _ _)
 
 returns : tie.Need-returns
 unfolding encodeJudged judgeRead
@@ -51,10 +56,10 @@ returns c =
 returns-2 : tie.Need-returns-2
 unfolding judgeRead
 returns-2 c =
-    let t = table (c .before .before) in
-    let a = c .before .before .before .before .before .before .before .before .before .args in
-    kept _ (c .encode-judgement-of .ok) ∙ c .encode-judgement-of .ensures
-    ∙ ap encodeJudged (rw (t .passed) (ap (λ (rows : List ℕ). judgeRow (a .lengths) rows (a .row)) (t .rows)))
+    let t = table (c .before .before .before) in
+    let a = c .before .before .before .before .before .before .before .before .before .before .args in
+    kept _ (c .encode-judged .ok) ∙ c .encode-judged .ensures
+    ∙ ap encodeJudged (c .before .judge-accepted .ensures ∙ rw (t .passed) (ap (λ (rows : List ℕ). judgeRow (a .lengths) rows (a .row)) (t .rows)))
 
 pub judge-table-spec : {M : Type 1} → statement M
 judge-table-spec =
@@ -67,7 +72,8 @@ judge-table-spec =
     encode-refusal-requires
     enum-known-answer-2
     array-share-prefix-rows
-    slice-aggregate-encode-judgement-of
-    encode-judgement-of-requires
+    slice-aggregate-judge-accepted
+    judge-accepted-requires
+    encode-judged-requires
     returns
     returns-2)

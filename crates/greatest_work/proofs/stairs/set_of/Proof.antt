@@ -12,7 +12,7 @@ mul-at c = search needs
 mul-at-2 : tie.Need-mul-at-2
 mul-at-2 c =
     let s = c in
-    let product : s .args .n * (8 * s .args .count) ≤ 1000001 * 512 = mul-le-mul {n₂ = 1000001} {m₂ = 512} (s .pre .2) (omega (arith, s .pre .1)) in
+    let product : s .args .n * (2 * s .args .count) ≤ 1000001 * 128 = mul-le-mul {n₂ = 1000001} {m₂ = 128} (s .pre .2) (omega (arith, s .pre .1)) in
     omega arith
 
 div-at : tie.Need-div-at
@@ -24,8 +24,8 @@ mul-result c = search needs
 add-result : tie.Need-add-result
 add-result c =
     let s = c in
-    let product : s .args .n * (8 * s .args .count) ≤ 1000001 * 512 = mul-le-mul {n₂ = 1000001} {m₂ = 512} (s .pre .2) (omega (arith, s .pre .1)) in
-    omega (arith, s .pre .0, div-le-self (s .args .n * (8 * s .args .count)) (s .args .cycle))
+    let product : s .args .n * (2 * s .args .count) ≤ 1000001 * 128 = mul-le-mul {n₂ = 1000001} {m₂ = 128} (s .pre .2) (omega (arith, s .pre .1)) in
+    omega (arith, s .pre .0, div-le-self (s .args .n * (2 * s .args .count)) (s .args .cycle))
 
 returns : tie.Need-returns
 returns c = search needs

@@ -1,12 +1,8 @@
--- A table that a check turns back is refused with its cause, then a missing row; otherwise the row's bound is answered.
+-- A table that a check turns back is refused with its cause, and of another the row's bound is answered.
 use borrow.Author.Needs.{needs}
-use mathlib.Core.Path.{_≡_, sym, _∙_}
-use borrow.Author.Tests.{lt-leb, le-leb}
-use Rattle.table_checks.specs.Checks.{loadedCheck}
-use Rattle.table_checks.specs.declared.Checked.the-variants.{Passed}
+use mathlib.Core.Path.{sym, _∙_}
 use Rattle.table_checks.specs.laws.Accepted.{loaded-both}
 use Rattle.row_judgement.specs.Judge.{boundRow, boundChecked}
-use Rattle.row_judgement.specs.laws.Judged.{row-inside}
 use Rattle.row_judgement.specs.laws.Returns.{bounded-told}
 use Rattle.row_judgement.proofs.bound.precise_bound.Statement.{statement}
 use Rattle.row_judgement.proofs.bound.precise_bound.Tie as tie
@@ -23,35 +19,21 @@ of-table-requires c κs = search needs
 enum-told : tie.Need-enum-told
 enum-told c = search needs
 
-abbrev start : tie.After-check-loaded → tie.Start
-start c = c .before .before
-
--- the table passed
-passed : (c : tie.After-enum-told) → let s = start (c .before .before) in loadedCheck (s .args .lengths) (s .args .rows .now) ≡ Passed
-passed c = sym (c .before .before .check-loaded .ensures .0) ∙ c .enum-told .given .1
+bound-accepted-requires : tie.Need-bound-accepted-requires
+bound-accepted-requires c κs =
+    let a = c .before .before .before .before .args in
+    loaded-both (a .lengths) (a .rows .now) (sym (c .before .before .check-loaded .ensures .0) ∙ c .enum-told .given .1)
 
 returns : tie.Need-returns
 unfolding boundRow boundChecked
 returns c =
-    let s = start (c .before .before .before) in
-    bounded-told (s .args .lengths) (s .args .rows .now) (s .args .row) (rw (passed (c .before), le-leb _ _ (c .if1 .taken)))
-
-bound-row-requires : tie.Need-bound-row-requires
-bound-row-requires c κs =
-    let s = start (c .before .before .before) in
-    (loaded-both (s .args .lengths) (s .args .rows .now) (passed (c .before)), row-inside (s .args .lengths) (s .args .rows .now) (c .if1 .left))
+    let a = c .before .before .before .before .before .before .args in
+    bounded-told (a .lengths) (a .rows .now) (a .row) (rw (sym (c .before .before .before .before .check-loaded .ensures .0) ∙ c .before .before .checked .given .1, c .of-table .ensures))
 
 returns-2 : tie.Need-returns-2
-unfolding boundRow boundChecked
 returns-2 c =
-    let s = start (c .before .before .before .before) in
-    bounded-told (s .args .lengths) (s .args .rows .now) (s .args .row) (rw (sym (c .before .before .before .before .check-loaded .ensures .0) ∙ c .before .before .checked .given .1, c .of-table .ensures))
-
-returns-3 : tie.Need-returns-3
-unfolding boundRow boundChecked
-returns-3 c =
-    let s = start (c .before .before .before .before) in
-    bounded-told (s .args .lengths) (s .args .rows .now) (s .args .row) (rw (passed (c .before .before), lt-leb _ _ (c .before .if1 .left)) (c .bound-row .ensures))
+    let a = c .before .before .before .before .before .args in
+    bounded-told (a .lengths) (a .rows .now) (a .row) (c .bound-accepted .ensures)
 
 pub precise-bound-spec : {M : Type 1} → statement M
 precise-bound-spec =
@@ -61,7 +43,6 @@ precise-bound-spec =
     enum-known-checked
     of-table-requires
     enum-told
+    bound-accepted-requires
     returns
-    bound-row-requires
-    returns-2
-    returns-3)
+    returns-2)
