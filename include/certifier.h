@@ -1,6 +1,6 @@
 /*
- * The picker bus certifier for C: judges the claims of a frame table, lists them, writes its load sheet, and checks bus logs
- * against it.
+ * The picker bus certifier for C: judges the claims of a frame table, shows what breaks them, lists them, writes its load
+ * sheet, and checks bus logs against it.
  *
  * Lengths are a file of two lines, kind 11 and then kind 29, each of nine numbers in columns 5 wide and a line feed: the
  * largest length in ticks of a frame with 0 to 8 payload bytes. They are CERTIFIER_LENGTHS bytes.
@@ -36,6 +36,20 @@ extern "C" {
  * minus (number * 10000 + place). The functions below take the answer apart.
  */
 int64_t certifier_judge(const uint8_t *lengths, size_t lengths_len, const uint8_t *table, size_t table_len, uint64_t row);
+
+/*
+ * Judges the claim of a row, as certifier_judge does, and shows the case that breaks it: where the verdict is 3,
+ * CERTIFIER_CASE numbers are written to those that `shown` points at, of which there are `shown_len`: the alignment of each
+ * group from 1 to 16, 0 for one that has none, and then the number of the instance whose response exceeds the claim,
+ * counted from 1. Scenarios run with groups rising and alignments rising, the last group changing fastest: the first
+ * that exceeds the claim is shown, with its first instance that does. For every other verdict the area is left as it is,
+ * and need not be of any size. Answers what certifier_judge answers, but for the area's refusal, which comes last.
+ */
+int64_t certifier_explain(const uint8_t *lengths, size_t lengths_len, const uint8_t *table, size_t table_len, uint64_t row,
+                          uint32_t *shown, size_t shown_len);
+
+/* The numbers of a case. */
+#define CERTIFIER_CASE 17
 
 /*
  * The precise bound of a row, in ticks, or, where the call is turned back, minus (number * 10000 + place).

@@ -34,6 +34,7 @@ pub fn find(
 ) -> Bound
     requires { ⌜ Ready (now rows) (now prepared) target (now memory) ⌝ }
     ensures { λ r. ⌜ r ≡ boundFor (tableOf (now (rows .entry)) (now (prepared .entry))) (target .frame) claim ⌝ }
+    ensures ready { λ _. ⌜ Ready (now (rows .entry)) (now (prepared .entry)) target (now (memory .exit)) ⌝ }
 {
     let free = [Choice::Any; 16];
     let limit = busy_window(rows, prepared, target, free, memory);

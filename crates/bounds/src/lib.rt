@@ -1,10 +1,12 @@
 // The bounds of a frame's response time over all scenarios, computed over an accepted table.
 mod alignments;
+mod case;
 mod count;
 mod deciding;
 mod refine;
 mod windows;
 
+pub use case::first_case;
 pub use deciding::find;
 
 // The bound that decides about a claim.

@@ -10,8 +10,10 @@ use bus_model::Choice;
 use response_time::PATIENCE;
 use response_time::busy_window;
 use response_time::max_with_scenario;
+use response_time::own_choice;
 use response_time::reach_before;
 use response_time::sweep;
+use workload::GROUPS;
 use workload::Target;
 ghost use mathlib.Core.Path.{_≡_};
 ghost use mathlib.Core.Bool.{false};
@@ -22,6 +24,8 @@ ghost use Rattle.bus_model.specs.declared.Choice.the-variants.{Fixed};
 ghost use Rattle.bus_model.specs.Bounds.{busyWindow};
 ghost use Rattle.bus_model.specs.Judgement.{lacksWindow};
 ghost use Rattle.bus_model.specs.theory.OpenGroups.{fixingMore};
+ghost use Rattle.bus_model.specs.theory.Refine.{free};
+ghost use Rattle.bus_model.specs.theory.Work.{RefinedBy};
 ghost use Rattle.workload.specs.Prepared.{tableOf};
 ghost use Rattle.greatest_work.specs.Ready.{Ready};
 ghost use Rattle.response_time.specs.Load.{OwnFixed, WindowWithin, Reaches};
@@ -201,4 +205,36 @@ pub fn refine_own(
         };
         a = b;
     }
+}
+
+// The same from any choices, where all open groups take each of their alignments.
+pub fn refine_all(
+    rows: &[u32],
+    prepared: &[u32],
+    target: Target,
+    choices: [Choice; 16],
+    best: u32,
+    memory: &mut [u64],
+) -> u32
+    requires { ⌜ Ready (now rows) (now prepared) target (now memory) ⌝ }
+    requires { ⌜ RefinedBy (tableOf (now rows) (now prepared)) (target .frame) free choices ⌝ }
+    requires { ⌜ lacksWindow (tableOf (now rows) (now prepared)) (target .frame) ≡ false ⌝ }
+    ensures { λ r. ⌜ r ≡ max best (fixingMore (tableOf (now (rows .entry)) (now (prepared .entry))) (target .frame) 16 choices) ⌝ }
+    ensures ready { λ _. ⌜ Ready (now (rows .entry)) (now (prepared .entry)) target (now (memory .exit)) ⌝ }
+{
+    let own = own_choice(target.frame, choices);
+    let Choice::Fixed(a) = own else {
+        let none = Found::Nothing;
+        return refine_own(rows, prepared, target, choices, GROUPS, best, none, memory);
+    };
+    let limit = limit_of(rows, prepared, target, choices, Found::Nothing, memory);
+    let reach = reach_before(rows, prepared, target, choices, limit, memory);
+    let k = target.frame;
+    let fixing = Fixing {
+        group: k.group as usize,
+        alignment: a,
+    };
+    refine(
+        rows, prepared, target, choices, fixing, GROUPS, best, reach, memory,
+    )
 }

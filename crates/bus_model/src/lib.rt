@@ -1,4 +1,5 @@
 // The types that the definitions in specs/ share with the code of the crates above.
+use arith::Found;
 
 // A frame of the table, by the numbers that the bus rule and the bounds read.
 pub struct Frame {
@@ -38,4 +39,11 @@ pub struct Judgement {
     pub outcome: Outcome,
     pub bound: u32,
     pub margin: i64,
+}
+
+// The case that breaks a claim: the alignment of each group from 1 on, an empty one as 0, and the first instance whose response exceeds the
+// claim, counted from 1. Where there is none, the instance is nothing and the alignments are 0.
+pub struct Case {
+    pub instance: Found,
+    pub alignments: [u32; 16],
 }

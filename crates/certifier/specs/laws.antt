@@ -7,4 +7,5 @@ pub mod SimulateEntry
 pub mod Before
 pub mod Ungrouped
 pub mod Offsets
+pub mod ExplainEntry
 pub mod LogEntry

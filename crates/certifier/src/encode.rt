@@ -113,7 +113,7 @@ pub fn encode_refusal(refusal: Refusal) -> i64
 }
 
 // The judgement in one number, or the refusal.
-fn encode_judged(judged: Judged) -> i64
+pub fn encode_judged(judged: Judged) -> i64
     requires { ⌜ Encodable judged ⌝ }
     ensures { λ r. ⌜ r ≡ encodeJudged judged ⌝ }
 {

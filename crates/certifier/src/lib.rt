@@ -3,6 +3,7 @@
 // checks its lengths and its table itself. The encode functions give the numbers that the entries answer.
 mod busiest_entry;
 mod encode;
+mod explain_entry;
 mod frame_entry;
 mod listing;
 mod log_entry;
@@ -17,11 +18,13 @@ pub use encode::encode_answer;
 pub use encode::encode_bounded;
 pub use encode::encode_judgement_of;
 pub use encode::encode_refusal;
+pub use explain_entry::certifier_explain;
 pub use frame_entry::certifier_frame_length;
 pub use listing::LINE;
 pub use listing::REFUSAL_LINE;
 pub use listing::list;
 pub use listing::list_input;
+pub use listing::write_line;
 pub use listing::write_refusal;
 pub use listing::write_refusal_line;
 pub use log_entry::certifier_check_log;

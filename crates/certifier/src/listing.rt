@@ -110,7 +110,7 @@ fn write_row(lengths: [[u32; 9]; 2], rows: &[u32], i: usize, line: &mut [u8])
 }
 
 // Writes identifier, verdict, bound and margin, and a line feed.
-fn write_line(identifier: u32, judgement: Judgement, line: &mut [u8])
+pub fn write_line(identifier: u32, judgement: Judgement, line: &mut [u8])
     requires { ⌜ length (now line) ≡ 31 ⌝ }
     ensures { λ _. ⌜ now (line .exit) ≡ listingLine identifier judgement ⌝ }
 {

@@ -25,7 +25,7 @@ ghost use Rattle.greatest_work.specs.Ready.{Ready};
 ghost use Rattle.response_time.specs.Load.{OwnFixed, Reaches};
 
 // The response of an instance that starts at a delay and was released at a tick.
-fn response(delay: u32, length: u32, released: u32) -> u32
+pub fn response(delay: u32, length: u32, released: u32) -> u32
     requires { ⌜ (delay ≤ 1000000) × (length ≤ 400) ⌝ }
     ensures { λ r. ⌜ r ≡ delay + length - released ⌝ }
 {

@@ -40,7 +40,7 @@ pub fn is_open(choice: Choice) -> bool
 }
 
 // The choice of k's own group.
-fn own_choice(k: Frame, choices: [Choice; 16]) -> Choice
+pub fn own_choice(k: Frame, choices: [Choice; 16]) -> Choice
     requires { ⌜ Fine k ⌝ }
     ensures { λ r. ⌜ r ≡ choiceOf choices (k .group) ⌝ }
 {

@@ -3,4 +3,5 @@ pub mod Refusal
 pub mod Judge
 pub mod Decide
 pub mod Returns
+pub mod Explain
 pub mod laws

@@ -3,3 +3,4 @@ pub mod Judged
 pub mod Returns
 pub mod Ungrouped
 pub mod Offsets
+pub mod Explain

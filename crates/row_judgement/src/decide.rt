@@ -7,10 +7,26 @@ use workload::Target;
 ghost use mathlib.Core.Path.{_≡_};
 ghost use Prim.Native.Nat.{_<_};
 ghost use lib.ListN.{length};
+ghost use Rattle.bus_model.specs.Bounds.{blocking};
 ghost use Rattle.bus_model.specs.Frame.{row};
 ghost use Rattle.table_checks.specs.Frames.{framesOf};
 ghost use Rattle.table_checks.specs.Checks.{Loadable, Accepted};
+ghost use Rattle.workload.specs.Prepared.{tableOf, Prepared};
 ghost use Rattle.bounds.specs.Find.{boundFor};
+
+// Prepares the area for a row of an accepted table, and answers what is judged there.
+pub fn prepare_row(lengths: [[u32; 9]; 2], rows: &[u32], i: usize, prepared: &mut [u32]) -> Target
+    requires { ⌜ Loadable lengths × Accepted (now rows) ⌝ }
+    requires { ⌜ (i < length (framesOf lengths (now rows))) × (length (now prepared) ≡ 320) ⌝ }
+    ensures { λ r. ⌜ tableOf (now (rows .entry)) (now (prepared .exit)) ≡ framesOf lengths (now (rows .entry)) ⌝ }
+    ensures target { λ r. ⌜ r .frame ≡ row (framesOf lengths (now (rows .entry))) i ⌝ }
+    ensures prepared { λ r. ⌜ Prepared (now (rows .entry)) (now (prepared .exit)) (r .frame) × (r .blocked ≡ blocking (tableOf (now (rows .entry)) (now (prepared .exit))) (r .frame)) ⌝ }
+{
+    let k = table_checks::frame(lengths, rows, i);
+    workload::prepare(lengths, rows, k, prepared);
+    let blocked = workload::frame_blocking(rows, prepared, k);
+    Target { frame: k, blocked }
+}
 
 // The bound of a row of an accepted table that decides about a claim, or, where there is none, the precise one.
 pub fn decide(lengths: [[u32; 9]; 2], rows: &[u32], i: usize, claim: Found) -> Bound
@@ -18,11 +34,8 @@ pub fn decide(lengths: [[u32; 9]; 2], rows: &[u32], i: usize, claim: Found) -> B
     requires { ⌜ i < length (framesOf lengths (now rows)) ⌝ }
     ensures { λ r. ⌜ r ≡ boundFor (framesOf lengths (now (rows .entry))) (row (framesOf lengths (now (rows .entry))) i) claim ⌝ }
 {
-    let k = table_checks::frame(lengths, rows, i);
     let mut prepared = [0u32; AREA];
     let mut memory = [0u64; MEMORY];
-    workload::prepare(lengths, rows, k, &mut prepared);
-    let blocked = workload::frame_blocking(rows, &prepared, k);
-    let target = Target { frame: k, blocked };
+    let target = prepare_row(lengths, rows, i, &mut prepared);
     bounds::find(rows, &prepared, target, claim, &mut memory)
 }

@@ -66,7 +66,7 @@ pub fn judge_row(lengths: [[u32; 9]; 2], rows: &[u32], i: usize) -> Judgement
 }
 
 // The judgement of a claim by the bound that decides about it.
-fn judged_by(bound: Bound, claim: u32) -> Judgement
+pub fn judged_by(bound: Bound, claim: u32) -> Judgement
     ensures { λ r. ⌜ r ≡ judgedBy claim bound ⌝ }
 {
     match bound {

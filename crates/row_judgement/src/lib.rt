@@ -1,11 +1,14 @@
-// The judgement of a row of a frame table, and its precise bound. Both take any input, and check their lengths and table themselves;
-// judge_accepted and bound_accepted take accepted ones, for what has read them from files, and judge_row for the listing, which judges all its rows.
+// The judgement of a row of a frame table, with the case that breaks its claim or without, and its precise bound. All take any input, and
+// check their lengths and table themselves; judge_accepted and bound_accepted take accepted ones, for what has read them from files, and
+// judge_row for the listing, which judges all its rows.
 mod bound;
 mod decide;
+mod explanation;
 mod judgement;
 
 pub use bound::bound_accepted;
 pub use bound::precise_bound;
+pub use explanation::explain;
 pub use judgement::judge;
 pub use judgement::judge_accepted;
 pub use judgement::judge_row;
@@ -33,6 +36,12 @@ pub struct Refusal {
 pub enum Judged {
     Verdict(bus_model::Judgement),
     NotJudged(Refusal),
+}
+
+// What explaining a row answers: what judging it does, and the case that breaks its claim, if its verdict is that the claim is too small.
+pub struct Explained {
+    pub judged: Judged,
+    pub breaking: bus_model::Case,
 }
 
 // What computing a row's precise bound answers.

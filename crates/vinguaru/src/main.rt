@@ -14,6 +14,7 @@ enum Command {
     CheckLog,
     Busiest,
     Simulate,
+    Explain,
     Unknown,
 }
 
@@ -25,7 +26,8 @@ fn main() {
         Command::CheckLog => check_log(),
         Command::Busiest => busiest(),
         Command::Simulate => simulate(),
-        Command::Unknown => explain(),
+        Command::Explain => explain(),
+        Command::Unknown => print_usage(),
     }
 }
 
@@ -46,14 +48,17 @@ fn read_command() -> Command {
     if is_called(b"simulate", 2) {
         return Command::Simulate;
     }
+    if is_called(b"explain", 1) {
+        return Command::Explain;
+    }
     Command::Unknown
 }
 
 // Says how the program is used.
-fn explain() {
+fn print_usage() {
     io::write_all(
         2,
-        b"usage: vinguaru COMMAND\nINPUT is a file of lengths, 92 bytes, and behind it that of a table.\ncommands:\n  load-sheet < INPUT                 each node's bus load, and the greatest of them\n  frame-length KIND IDENTIFIER HEX   the exact length of a frame on the wire; HEX are its payload's bytes, - for none\n  check-log LOGFILE < INPUT          the groups' starts with which a bus log is the beginning of a schedule\n  busiest LOGFILE WIDTH < INPUT      the busiest stretch of so many ticks of a bus log, and what it shows of each row\n  simulate SEED LINES < INPUT        a log of so many lines, drawn from a seed by the bus rule\n",
+        b"usage: vinguaru COMMAND\nINPUT is a file of lengths, 92 bytes, and behind it that of a table.\ncommands:\n  load-sheet < INPUT                 each node's bus load, and the greatest of them\n  frame-length KIND IDENTIFIER HEX   the exact length of a frame on the wire; HEX are its payload's bytes, - for none\n  check-log LOGFILE < INPUT          the groups' starts with which a bus log is the beginning of a schedule\n  busiest LOGFILE WIDTH < INPUT      the busiest stretch of so many ticks of a bus log, and what it shows of each row\n  simulate SEED LINES < INPUT        a log of so many lines, drawn from a seed by the bus rule\n  explain ROW < INPUT                the judgement of a row, counted from 0, and the case that breaks its claim\n",
     );
 }
 
@@ -111,7 +116,7 @@ fn frame_length() {
         &mut line,
     );
     match reply {
-        Reply::Malformed => explain(),
+        Reply::Malformed => print_usage(),
         Reply::Answered(answer) => console::print_answer(b"vinguaru", answer, &line),
     }
 }
@@ -159,7 +164,7 @@ fn busiest() {
         &mut text,
     );
     match reply {
-        busiest_command::Reply::Malformed => explain(),
+        busiest_command::Reply::Malformed => print_usage(),
         busiest_command::Reply::Answered(answer) => {
             console::print_answer(b"vinguaru", answer, &text)
         }
@@ -190,9 +195,29 @@ fn simulate() {
     let mut log = [0u8; simulator::LONGEST];
     let reply = simulate_command::write_log(&seed[..s], &lines[..n], &bytes[..size], &mut log);
     match reply {
-        simulate_command::Reply::Malformed => explain(),
+        simulate_command::Reply::Malformed => print_usage(),
         simulate_command::Reply::Answered(answer) => {
             console::print_answer(b"vinguaru", answer, &log)
+        }
+    }
+}
+
+// Prints the judgement of a row with the case that breaks its claim, or its refusal.
+fn explain() {
+    let mut row = io::buffer();
+    let r = os::arg(2, &mut row);
+    let mut bytes = [0u8; BUFFER];
+    let input = console::read_input(b"vinguaru", &mut bytes);
+    if !input.held {
+        return;
+    }
+    let size = input.size;
+    let mut text = [0u8; explain_command::LONGEST];
+    let reply = explain_command::write_input(&bytes[..size], &row[..r], &mut text);
+    match reply {
+        explain_command::Reply::Malformed => print_usage(),
+        explain_command::Reply::Answered(answer) => {
+            console::print_answer(b"vinguaru", answer, &text)
         }
     }
 }

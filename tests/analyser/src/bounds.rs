@@ -40,13 +40,13 @@ impl Release {
 }
 
 /// An alignment of a group with its better frames.
-struct Alignment {
-    instant: u64,
+pub(crate) struct Alignment {
+    pub(crate) instant: u64,
     better: Vec<Release>,
 }
 
 impl Alignment {
-    fn work(&self, end: u64) -> u64 {
+    pub(crate) fn work(&self, end: u64) -> u64 {
         self.better.iter().map(|release| release.work(end)).sum()
     }
 }
@@ -73,15 +73,15 @@ impl Worst {
 }
 
 /// Work of other groups queued in 0..end-1.
-type Others<'a> = &'a dyn Fn(u64) -> u64;
+pub(crate) type Others<'a> = &'a dyn Fn(u64) -> u64;
 
 /// The bus as the frame of one row meets it.
 pub struct View<'a> {
     lengths: &'a LengthTable,
     frame: &'a Row,
     blocking: u64,
-    own: usize,
-    groups: Vec<Vec<Alignment>>,
+    pub(crate) own: usize,
+    pub(crate) groups: Vec<Vec<Alignment>>,
 }
 
 impl<'a> View<'a> {
@@ -209,7 +209,7 @@ impl<'a> View<'a> {
         Some(())
     }
 
-    fn other_groups(&self) -> impl Iterator<Item = usize> + '_ {
+    pub(crate) fn other_groups(&self) -> impl Iterator<Item = usize> + '_ {
         (0..self.groups.len()).filter(|group| *group != self.own)
     }
 
@@ -219,13 +219,13 @@ impl<'a> View<'a> {
     }
 
     /// The greatest sum that any alignment of a group gives in 0..end-1.
-    fn greatest(&self, group: usize, end: u64) -> u64 {
+    pub(crate) fn greatest(&self, group: usize, end: u64) -> u64 {
         let sums = self.groups[group].iter().map(|pick| pick.work(end));
         sums.max().unwrap_or(0)
     }
 
     /// A scenario by its number: one alignment for each group.
-    fn scenario(&self, mut number: u64) -> Vec<&Alignment> {
+    pub(crate) fn scenario(&self, mut number: u64) -> Vec<&Alignment> {
         let mut picks = Vec::with_capacity(self.groups.len());
         for group in self.groups.iter().rev() {
             let count = group.len() as u64;
@@ -237,21 +237,24 @@ impl<'a> View<'a> {
     }
 
     /// The greatest response of the frame at one alignment of its group.
-    fn worst(&self, own: &Alignment, others: Others, limit: u64) -> Option<Worst> {
+    pub(crate) fn worst(&self, own: &Alignment, others: Others, limit: u64) -> Option<Worst> {
+        Some(self.responses(own, others, limit)?.fold(Worst::NONE, Worst::or))
+    }
+
+    /// Its responses there, for q = 1, 2, ...
+    pub(crate) fn responses<'b>(
+        &'b self,
+        own: &'b Alignment,
+        others: Others<'b>,
+        limit: u64,
+    ) -> Option<impl Iterator<Item = Worst> + 'b> {
         let frame = Release::new(self.lengths, self.frame, own.instant);
         let window = self.window(own, &frame, others, limit)?;
-        let mut worst = Worst::NONE;
-        let mut queueing = frame.distance;
-        for q in 1.. {
-            if queueing >= window {
-                break;
-            }
+        let queueings = (frame.distance..window).step_by(frame.period as usize);
+        Some(queueings.zip(1..).map(move |(queueing, q)| {
             let start = self.start(own, &frame, others, q);
-            let response = start + frame.length - queueing;
-            worst = worst.or(Worst { response, q });
-            queueing += frame.period;
-        }
-        Some(worst)
+            Worst { response: start + frame.length - queueing, q }
+        }))
     }
 
     /// The least L from 1 to the limit that holds blocking and all work ahead.

@@ -7,6 +7,9 @@ pub mod busiest;
 pub mod cases;
 #[cfg(test)]
 mod examples;
+pub mod explain;
+#[cfg(test)]
+mod explain_examples;
 pub mod frame_length;
 pub mod frame_length_cases;
 #[cfg(test)]

@@ -1,5 +1,6 @@
 //! Document 01 followed tick by tick, slow and sharing nothing with the fast path.
 
+use crate::explain::Case;
 use crate::judgement::{Judgement, Limits, Verdict};
 use crate::lengths::LengthTable;
 use crate::table::{Refusal, Row};
@@ -105,6 +106,8 @@ pub struct Answer {
     pub exact: Option<u64>,
     pub scenarios: u64,
     pub judgement: Judgement,
+    /// The first response above the claim, unless the verdict is 11 or 12; whatever else it is.
+    pub case: Option<Case>,
 }
 
 /// One row of a table; `instants` holds the alignments of each group.
@@ -129,9 +132,11 @@ pub fn answer(lengths: &LengthTable, rows: &[Row], row: usize, limits: Limits) -
         longest_window: limits.window,
     };
     let rough = literal.rough();
-    let (exact, scenarios) = literal.exact();
+    let Enumerated { exact, scenarios, case } = literal.enumerate();
     let judgement = judgement(judged[7], rough, exact, scenarios, limits);
-    Answer { rough, exact, scenarios, judgement }
+    let decided = !matches!(judgement.verdict, Verdict::NoWindow | Verdict::Undecided);
+    let case = case.filter(|_| decided);
+    Answer { rough, exact, scenarios, judgement, case }
 }
 
 fn judgement(
@@ -186,28 +191,33 @@ impl Literal<'_> {
     }
 
     fn rough(&self) -> Option<u64> {
-        let mut greatest = 0;
+        let mut bound = 0;
         for instant in &self.instants[self.own()] {
             let mut choices = self.instants.clone();
             choices[self.own()] = vec![*instant];
-            greatest = greatest.max(self.greatest_response(&choices)?);
+            bound = bound.max(greatest(&self.responses(&choices)?));
         }
-        Some(greatest)
+        Some(bound)
     }
 
-    /// The exact bound and the number of scenarios gone through.
-    fn exact(&self) -> (Option<u64>, u64) {
+    /// Goes through all scenarios, the last group changing fastest.
+    fn enumerate(&self) -> Enumerated {
         let mut odometer = vec![0; self.instants.len()];
-        let mut greatest = Some(0);
-        let mut scenarios = 0;
+        let mut found = Enumerated { exact: Some(0), scenarios: 0, case: None };
         loop {
-            let pick = |group: usize| vec![self.instants[group][odometer[group]]];
-            let choices: Vec<Vec<u64>> = (0..odometer.len()).map(pick).collect();
-            let response = self.greatest_response(&choices);
-            greatest = greatest.and_then(|so_far| Some(response?.max(so_far)));
-            scenarios += 1;
+            let picks = self.instants.iter().zip(&odometer);
+            let alignments: Vec<u64> = picks.map(|(instants, pick)| instants[*pick]).collect();
+            let choices: Vec<Vec<u64>> = alignments.iter().map(|at| vec![*at]).collect();
+            let responses = self.responses(&choices);
+            let late = responses.iter().flatten().position(|r| *r > self.judged[7].into());
+            if let (Some(before), None) = (late, &found.case) {
+                found.case = Some(Case { alignments, q: before as u64 + 1 });
+            }
+            let greatest = responses.map(|responses| greatest(&responses));
+            found.exact = found.exact.and_then(|so_far| Some(greatest?.max(so_far)));
+            found.scenarios += 1;
             if !self.advance(&mut odometer) {
-                return (greatest, scenarios);
+                return found;
             }
         }
     }
@@ -223,18 +233,19 @@ impl Literal<'_> {
         false
     }
 
-    fn greatest_response(&self, choices: &[Vec<u64>]) -> Option<u64> {
+    /// The responses for q = 1, 2, ...
+    fn responses(&self, choices: &[Vec<u64>]) -> Option<Vec<u64>> {
         let window = self.window(choices)?;
         let distance = self.distance(self.judged, choices[self.own()][0]);
-        let mut greatest = 0;
+        let mut responses = Vec::new();
         let mut q = 1;
         while distance + (q - 1) * u64::from(self.judged[5]) < window {
             let queueing = distance + (q - 1) * u64::from(self.judged[5]);
             let end = self.start(choices, q) + length(self.lengths, self.judged);
-            greatest = greatest.max(end - queueing);
+            responses.push(end - queueing);
             q += 1;
         }
-        Some(greatest)
+        Some(responses)
     }
 
     /// Tries L = 1, 2, 3, ...; tick L - 1 is the last that counts.
@@ -287,6 +298,17 @@ impl Literal<'_> {
         let ahead = i64::from(row[6]) - instant as i64;
         ahead.rem_euclid(i64::from(row[5])) as u64
     }
+}
+
+/// What all scenarios come to: the exact bound, their number, and the first response above the claim.
+struct Enumerated {
+    exact: Option<u64>,
+    scenarios: u64,
+    case: Option<Case>,
+}
+
+fn greatest(responses: &[u64]) -> u64 {
+    responses.iter().copied().max().unwrap_or(0)
 }
 
 fn sum(running: &[Running]) -> u64 {

@@ -1,8 +1,8 @@
 //! The analyser's commands.
 
 use analyser::{
-    busiest, cases, frame_length, frame_length_cases, judge_cases, judgement, lengths, listing,
-    load_sheet, log_cases, log_check, million, replay, self_check, table_cases,
+    busiest, cases, explain, frame_length, frame_length_cases, judge_cases, judgement, lengths,
+    listing, load_sheet, log_cases, log_check, million, replay, self_check, table_cases,
 };
 use std::io::{self, Read, Write};
 use std::process::ExitCode;
@@ -12,6 +12,7 @@ const USAGE: &str = "usage:
   analyser load-sheet < lengths and table
   analyser judge ROW < lengths and table
   analyser precise ROW < lengths and table
+  analyser explain ROW < lengths and table
   analyser frame-length KIND IDENTIFIER HEX
   analyser check-log LOGFILE < lengths and table
   analyser busiest LOGFILE WIDTH < lengths and table
@@ -53,6 +54,7 @@ fn run(words: &[&str]) -> io::Result<bool> {
             let bound = judgement::precise_bound_file(lengths, file, number(row)?);
             print(format!("{}\n", listing::bound_number(bound)).as_bytes())
         }
+        ["explain", row] => print(explain::explain(&input()?, number(row)?).as_bytes()),
         ["frame-length", kind, identifier, hex] => {
             let line = frame_length::line(kind, identifier, hex);
             print(line.ok_or_else(|| io::Error::other(USAGE))?.as_bytes())

@@ -2,7 +2,8 @@
 //! through two readers; damaged tables through the checks and a list of all that is wrong; and logs.
 
 use crate::bounds::View;
-use crate::judgement::{judge_row, Limits};
+use crate::explain::explain_view;
+use crate::judgement::{judge_row, Limits, Search};
 use crate::lengths::{self, LengthTable, STANDARD};
 use crate::literal;
 use crate::literal_table::{faults_of_file, faults_of_words, refusal};
@@ -26,6 +27,8 @@ struct Tally {
     rough_only_without_window: u64,
     /// Files of lengths that are accepted, that break the notation, and the limits.
     files: [u64; 3],
+    /// Cases that break a claim: at the first instance, and at a later one.
+    cases: [u64; 2],
     /// Rows of tables where groups are nodes, and where a group has several.
     groups: [u64; 2],
     /// Rows of tables with late frames.
@@ -86,10 +89,13 @@ fn compare(lengths: &LengthTable, rows: &[Row], row: usize, limits: Limits, tall
     let pruned = rough.and_then(|_| view.exact_pruned(limits.window));
     let judgement = judge_row(lengths, rows, row, limits);
     let slow = literal::answer(lengths, rows, row, limits);
+    let [plain, quick] = [Search::Plain, Search::Pruned].map(|s| explain_view(s, &view, limits));
     let same = fast == (slow.rough, slow.exact)
         && (rough.is_none() || pruned == slow.exact)
         && view.scenario_count() == slow.scenarios
-        && judgement == slow.judgement;
+        && judgement == slow.judgement
+        && (plain.judgement, &plain.case) == (judgement, &slow.case)
+        && quick == plain;
     tally.rows += 1;
     tally.groups[0] += u64::from(rows.iter().all(|row| row[NODE] == row[GROUP]));
     tally.groups[1] += u64::from(has_several_nodes(rows));
@@ -99,6 +105,9 @@ fn compare(lengths: &LengthTable, rows: &[Row], row: usize, limits: Limits, tall
         eprintln!("row {row} differs in {rows:?} with lengths {lengths:?}");
     }
     tally.verdicts[judgement.verdict as usize] += 1;
+    if let Some(case) = slow.case {
+        tally.cases[usize::from(case.q > 1)] += 1;
+    }
     tally.apart += u64::from(fast.0 != fast.1);
     tally.later_queueings += u64::from(exact.is_some_and(|worst| worst.q > 1));
     tally.rough_only_without_window += u64::from(rough.is_none() && exact.is_some());
@@ -192,6 +201,8 @@ impl Tally {
         eprintln!("rough and exact bound differ: {}", self.apart);
         eprintln!("exact bound by a later q only: {}", self.later_queueings);
         eprintln!("only the rough bound has no window: {}", self.rough_only_without_window);
+        let [first, later] = self.cases;
+        eprintln!("cases at the first instance: {first}, at a later one: {later}");
         let [good, notation, limits] = self.files;
         eprintln!("files of lengths: {good} good, {notation} with 13, {limits} with 14");
         let [alike, several] = self.groups;

@@ -225,7 +225,7 @@ fn without_area<L: Element, I: Element>(
 }
 
 /// Calls with an area of a size, which ends as the analyser has it; lengths and input stay.
-fn with_area<L: Element, I: Element, O: Element>(
+pub fn with_area<L: Element, I: Element, O: Element>(
     random: &mut Random,
     lengths: &[L],
     input: &[I],

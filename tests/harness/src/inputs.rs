@@ -222,7 +222,7 @@ fn rows_at(rows: &[Row], row: u64) -> std::ops::Range<usize> {
 }
 
 /// Mostly the row itself; otherwise beside the last, or what fewer bits would take for a row.
-fn row_number(random: &mut Random, row: u64, lines: u64) -> u64 {
+pub fn row_number(random: &mut Random, row: u64, lines: u64) -> u64 {
     match random.below(20) {
         0 => lines,
         1 => lines - 1,

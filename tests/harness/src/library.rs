@@ -17,6 +17,15 @@ extern "C" {
         len: usize,
         row: u64,
     ) -> i64;
+    fn certifier_explain(
+        lengths: *const u8,
+        lengths_len: usize,
+        table: *const u8,
+        len: usize,
+        row: u64,
+        shown: *mut u32,
+        shown_len: usize,
+    ) -> i64;
     fn certifier_list(
         lengths: *const u8,
         lengths_len: usize,
@@ -101,6 +110,17 @@ pub fn judge(lengths: &mut Lent<u8>, file: &mut Lent<u8>, row: u64) -> i64 {
 pub fn precise_bound(lengths: &mut Lent<u8>, file: &mut Lent<u8>, row: u64) -> i64 {
     let [(loaded, size), (table, len)] = [area_or_null(lengths), area_or_null(file)];
     unsafe { certifier_precise_bound(loaded, size, table, len, row) }
+}
+
+pub fn explain(
+    lengths: &mut Lent<u8>,
+    file: &mut Lent<u8>,
+    row: u64,
+    shown: &mut Lent<u32>,
+) -> i64 {
+    let [(loaded, size), (table, len)] = [area_or_null(lengths), area_or_null(file)];
+    let (area, room) = area_or_null(shown);
+    unsafe { certifier_explain(loaded, size, table, len, row, area, room) }
 }
 
 pub fn list(lengths: &mut Lent<u8>, file: &mut Lent<u8>, out: &mut Lent<u8>) -> i64 {

@@ -2,11 +2,15 @@
 
 mod answer;
 mod bench;
+mod bench_explain;
 mod bench_sets;
 mod bench_tables;
 mod call;
 mod compare;
 mod damage;
+mod explain;
+mod explain_inputs;
+mod explain_tally;
 mod frame_lengths;
 mod group_orders;
 mod inputs;
@@ -39,9 +43,12 @@ const USAGE: &str = "usage:
   harness replay-before SEED NUMBER [--save FILE]
   harness simulate SEED COUNT
   harness frame-lengths SEED COUNT
+  harness explain SEED COUNT [--save FILE]
+  harness replay-explain SEED NUMBER [--save FILE]
   harness logs SEED COUNT [--save FILE]
   harness replay-logs SEED NUMBER [--save FILE]
   harness bench
+  harness bench-explain
   harness repeats
   harness slow SEED MINUTES [--save FILE]
   harness time library|yardstick|analyser|plain.. < lengths and table";
@@ -76,11 +83,18 @@ fn run(words: &[&str]) -> io::Result<bool> {
         }
         ["simulate", seed, count] => Ok(simulate::simulate(number(seed)?, number(count)?)),
         ["frame-lengths", seed, count] => Ok(frame_lengths::run(number(seed)?, number(count)?)),
+        ["explain", seed, count, rest @ ..] => {
+            explain::run(number(seed)?, number(count)?, save(rest)?)
+        }
+        ["replay-explain", seed, input, rest @ ..] => {
+            explain::replay(number(seed)?, number(input)?, save(rest)?)
+        }
         ["logs", seed, count, rest @ ..] => logs::run(number(seed)?, number(count)?, save(rest)?),
         ["replay-logs", seed, input, rest @ ..] => {
             logs::replay(number(seed)?, number(input)?, save(rest)?)
         }
         ["bench"] => bench::bench(),
+        ["bench-explain"] => Ok(bench_explain::bench()),
         ["repeats"] => Ok(repeats::repeats()),
         ["slow", seed, minutes, rest @ ..] => {
             slow::search(number(seed)?, number(minutes)?, save(rest)?)

@@ -52,7 +52,7 @@ abbrev frame64 : Frame
 frame64 = row listing 3
 
 -- three groups of one frame each; the second instance of the last frame responds later than its first
-abbrev three : List Frame
+abbrev pub three : List Frame
 three =
     record { group = 1; priority = 1; length = 10; period = 25; offset = 0 } ∷
     record { group = 2; priority = 2; length = 10; period = 35; offset = 0 } ∷

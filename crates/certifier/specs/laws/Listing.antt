@@ -15,7 +15,8 @@ use Rattle.bus_model.specs.Judgement.{verdict}
 use Rattle.table_checks.specs.Columns.{columns}
 use Rattle.certifier.specs.Listing.{listingLine, lineOf, linesFrom, listingOf, refusalLine}
 
-length-line : (identifier : ℕ) (j : Judgement) → length (listingLine identifier j) ≡ 31
+-- A line has 31 characters.
+pub length-line : (identifier : ℕ) (j : Judgement) → length (listingLine identifier j) ≡ 31
 unfolding listingLine
 length-line identifier j = simp (length-append, length-write, length-signed)
 

@@ -26,7 +26,9 @@ use Rattle.bus_model.specs.Valid.{Valid}
 use Rattle.bus_model.specs.Bounds.{windowLimit, ahead, better, blocking, distance, choiceOf, demand, work, windowLoad, busyWindow, delayLoad, queueingDelay, ownDistance, instanceResponse, responseTime}
 use Rattle.bus_model.specs.theory.Frames.{better-ahead}
 use Rattle.bus_model.specs.theory.Work.{RefinedBy, work-mono, work-refine, work-own}
-use Rattle.bus_model.specs.theory.Response.{window-at, own-distance, delay-at, delay-within}
+use Rattle.bus_model.specs.Case.{exceedingInstance}
+use Rattle.bus_model.specs.theory.Cases.{exceeding-is, exceeding-none}
+use Rattle.bus_model.specs.theory.Response.{window-at, own-distance, delay-at, delay-within, response-at}
 use Rattle.bus_model.specs.theory.Iteration.{delay-next}
 use Rattle.workload.specs.declared.Search.{Search}
 use Rattle.workload.specs.declared.Search.the-variants.{Window, Instance}
@@ -275,13 +277,64 @@ module _ {fs : List Frame} {k : Frame} {cs : List Choice} {l instances : ℕ} (v
       pub loop-ends : delay + k .length ≤ 1000000
       loop-ends = omega (arith, its-delay .1, window-small fs k cs (v .window))
 
+      -- its response runs from its release to there,
+      pub loop-response : {response : ℕ} → response ≡ delay + k .length - (ownDistance k cs + q * k .period) → response ≡ instanceResponse fs k cs q
+      unfolding instanceResponse orZero
+      loop-response response-is = response-is ∙ rw (its-delay .0)
+
       -- and with its response counted the next one's turn is there.
       pub loop-more : {next response : ℕ} → response ≡ delay + k .length - (ownDistance k cs + q * k .period) → next ≡ max best response
           → InstanceLoop fs k cs l instances given next (delay + k .length) (q + 1)
-      unfolding instanceResponse orZero
-      loop-more {response = response} response-is next-is =
-          let its : response ≡ instanceResponse fs k cs q = response-is ∙ rw (its-delay .0) in
+      loop-more response-is next-is =
           record {
-            counts = count-more _ _ _ _ (turn .counts) inside (greatest-more _ best q (next-is ∙ ap (max best) its));
+            counts = count-more _ _ _ _ (turn .counts) inside (greatest-more _ best q (next-is ∙ ap (max best) (loop-response response-is)));
             later = λ w t. delay-next valid k cs q delay (λ x u. delay-least fs k cs q delay x (its-delay .0) u) w (rw add-one at t);
+          }
+
+-- ---- the first of them whose response exceeds a claim
+
+-- Instance q is next: no response before it exceeds the claim.
+pub record ClaimLoop (fs : List Frame) (k : Frame) (cs : List Choice) (l instances claim from q : ℕ) : Type 0 where
+  pub turn : InstanceLoop fs k cs l instances claim claim from q
+  pub within : (i : ℕ) → i < q → instanceResponse fs k cs i ≤ claim
+
+module _ {fs : List Frame} {k : Frame} {cs : List Choice} {l instances claim : ℕ} (v : Windowed fs k cs l instances) where
+  pub claim-start : ClaimLoop fs k cs l instances claim 0 0
+  claim-start = record { turn = loop-start v; within = λ i less. absurd (omega arith) }
+
+  module _ {from q : ℕ} (turn : ClaimLoop fs k cs l instances claim from q) where
+    -- Some that do not exceed it are passed over.
+    pub claim-skip : (c : ℕ) → ((i : ℕ) → i < c → instanceResponse fs k cs (q + i) ≤ claim) → ClaimLoop fs k cs l instances claim from (min (q + c) instances)
+    claim-skip c each =
+        record {
+          turn = loop-skip c (turn .turn) each;
+          within = λ i less. elim (decLt i q) [
+            | yes before ↦ turn .within i before
+            | no after ↦ let is : q + (i - q) ≡ i = omega arith in rw is at (each (i - q) (omega arith))
+          ];
+        }
+
+    -- Where the last one is passed, there is none.
+    pub claim-end : instances ≤ q → Nothing ≡ exceedingInstance fs k claim cs
+    claim-end over = let all = loop-end (turn .turn) over in sym (exceeding-none fs k claim cs (omega (arith, response-at fs k cs l (v .window))))
+
+    module _ (inside : q < instances) {delay : ℕ} {found : Found} (search : found ≡ least (holds fs k cs (Instance q)) (1000000 - from) from) (is : delay ≡ orZero found)
+        {response : ℕ} (response-is : response ≡ delay + k .length - (ownDistance k cs + q * k .period)) where
+      -- The first that exceeds it is found,
+      pub claim-here : claim < response → At (q + 1) ≡ exceedingInstance fs k claim cs
+      claim-here more =
+          let its = loop-response v (turn .turn) inside search is response-is in
+          sym (rw (add-one q) (exceeding-is fs k claim cs l (v .window) q (rw (v .number) at inside) (omega arith) (turn .within)))
+
+      -- and one that does not is counted.
+      pub claim-more : response ≤ claim → ClaimLoop fs k cs l instances claim (delay + k .length) (q + 1)
+      claim-more le =
+          let its = loop-response v (turn .turn) inside search is response-is in
+          let last : (i : ℕ) → i ≡ q → instanceResponse fs k cs i ≤ claim = λ i same. rw same (omega arith) in
+          record {
+            turn = loop-more v (turn .turn) inside search is response-is (omega arith);
+            within = λ i less. elim (decLt i q) [
+              | yes before ↦ turn .within i before
+              | no after ↦ last i (omega arith)
+            ];
           }

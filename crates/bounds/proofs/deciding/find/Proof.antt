@@ -24,7 +24,7 @@ same-length c = search needs
 
 returns : tie.Need-returns
 unfolding boundFor
-returns c = rw (sym (c .before .before .before .lacks-window .ensures .0) ∙ c .if1 .taken)
+returns c = (rw (sym (c .before .before .before .lacks-window .ensures .0) ∙ c .if1 .taken), c .before .before .before .lacks-window .ensures .1)
 
 refine-own-requires : tie.Need-refine-own-requires
 refine-own-requires c κs =
@@ -44,7 +44,7 @@ has c = sym (c .before .before .before .lacks-window .ensures .0) ∙ c .if1 .le
 
 returns-2 : tie.Need-returns-2
 unfolding boundFor
-returns-2 c = let p = c .before .before .before .before .before .before .before .before .before .before .before .before .before .before .before .before .before .before .pre in rw (has (c .before .before .before .before .before .before), ← one-fixed (p .prepared .filled .table) (p .listed) (c .before .before .before .before .refine-own .ensures .0), sym (c .before .is-met .ensures) ∙ c .if2 .taken)
+returns-2 c = let p = c .before .before .before .before .before .before .before .before .before .before .before .before .before .before .before .before .before .before .pre in (rw (has (c .before .before .before .before .before .before), ← one-fixed (p .prepared .filled .table) (p .listed) (c .before .before .before .before .refine-own .ensures .0), sym (c .before .is-met .ensures) ∙ c .if2 .taken), c .before .before .before .before .refine-own .ensures .1)
 
 scenario-count-requires : tie.Need-scenario-count-requires
 scenario-count-requires c κs = c .before .before .before .before .before .before .before .before .before .before .before .before .before .before .before .before .before .before .pre .prepared
@@ -57,7 +57,7 @@ unfolding boundFor tooManyScenarios scenarioLimit
 returns-3 c =
     let p = c .before .before .before .before .before .before .before .before .before .before .before .before .before .before .before .before .before .before .before .before .pre in
     let a = c .before .before .before .before .before .before .before .before .before .before .before .before .before .before .before .before .before .before .before .before .args in
-    rw (has (c .before .before .before .before .before .before .before .before), ← one-fixed (p .prepared .filled .table) (p .listed) (c .before .before .before .before .before .before .refine-own .ensures .0), sym (c .before .before .before .is-met .ensures) ∙ c .before .before .if2 .left, lt-ltb 65536 (scenarioCount (tableOf (a .rows .now) (a .prepared .now)) (a .target .frame)) (omega (arith, c .before .scenario-count .ensures, c .if3 .taken)))
+    (rw (has (c .before .before .before .before .before .before .before .before), ← one-fixed (p .prepared .filled .table) (p .listed) (c .before .before .before .before .before .before .refine-own .ensures .0), sym (c .before .before .before .is-met .ensures) ∙ c .before .before .if2 .left, lt-ltb 65536 (scenarioCount (tableOf (a .rows .now) (a .prepared .now)) (a .target .frame)) (omega (arith, c .before .scenario-count .ensures, c .if3 .taken))), c .before .before .before .before .before .before .refine-own .ensures .1)
 
 refine-own-requires-2 : tie.Need-refine-own-requires-2
 refine-own-requires-2 c κs =
@@ -73,7 +73,7 @@ returns-4 c =
     let p = c .before .before .before .before .before .before .before .before .before .before .before .before .before .before .before .before .before .before .before .before .before .before .before .before .pre in
     let a = c .before .before .before .before .before .before .before .before .before .before .before .before .before .before .before .before .before .before .before .before .before .before .before .before .args in
     let t = p .prepared .filled .table in
-    rw (has (c .before .before .before .before .before .before .before .before .before .before .before .before), ← one-fixed t (p .listed) (c .before .before .before .before .before .before .before .before .before .before .refine-own .ensures .0), sym (c .before .before .before .before .before .before .before .is-met .ensures) ∙ c .before .before .before .before .before .before .if2 .left, le-ltb 65536 (scenarioCount (tableOf (a .rows .now) (a .prepared .now)) (a .target .frame)) (omega (arith, c .before .before .before .before .before .scenario-count .ensures, c .before .before .before .before .if3 .left)), ← all-fixed t (p .listed) (c .before .before .refine-own2 .ensures .0))
+    (rw (has (c .before .before .before .before .before .before .before .before .before .before .before .before), ← one-fixed t (p .listed) (c .before .before .before .before .before .before .before .before .before .before .refine-own .ensures .0), sym (c .before .before .before .before .before .before .before .is-met .ensures) ∙ c .before .before .before .before .before .before .if2 .left, le-ltb 65536 (scenarioCount (tableOf (a .rows .now) (a .prepared .now)) (a .target .frame)) (omega (arith, c .before .before .before .before .before .scenario-count .ensures, c .before .before .before .before .if3 .left)), ← all-fixed t (p .listed) (c .before .before .refine-own2 .ensures .0)), c .before .before .refine-own2 .ensures .1)
 
 pub find-spec : {M : Type 1} → statement M
 find-spec =

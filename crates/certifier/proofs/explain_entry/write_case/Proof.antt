@@ -1,0 +1,72 @@
+-- After i turns the first i alignments stand over the first i numbers of the area; the instance comes last.
+use Prim.Native.Nat.{_-_, _≤_}
+use mathlib.Core.Path.{_≡_, refl}
+use native.Mathlib.Omega.{arith}
+use borrow.Author.Needs.{needs}
+use lib.ListN.{length, length-set}
+use Rattle.arith.specs.laws.Overwriting.{over, over-element, over-all, begun-element}
+use Rattle.certifier.proofs.explain_entry.write_case.Statement.{statement}
+use Rattle.certifier.proofs.explain_entry.write_case.Tie as tie
+
+abbrev Inv-loop : tie.InvT-loop
+Inv-loop q shown₀ alignments i₀ shown i = (shown ≡ over alignments i shown₀) × (i ≤ 16) × (length shown ≡ length shown₀)
+
+abbrev μ-loop : tie.MeasureT-loop
+μ-loop q shown₀ alignments i₀ shown i = 16 - i
+
+loop-holds : tie.Need-loop-holds Inv-loop μ-loop
+loop-holds c = (refl, search needs, refl)
+
+mul-shown : tie.Need-mul-shown Inv-loop μ-loop
+mul-shown c = search needs
+
+array-read-shown : tie.Need-array-read-shown Inv-loop μ-loop
+array-read-shown c = search needs
+
+mul-shown-2 : tie.Need-mul-shown-2 Inv-loop μ-loop
+mul-shown-2 c = search needs
+
+slice-write-shown : tie.Need-slice-write-shown Inv-loop μ-loop
+slice-write-shown c = search needs
+
+add-i : tie.Need-add-i Inv-loop μ-loop
+add-i c = search needs
+
+loop-less : tie.Need-loop-less Inv-loop μ-loop
+loop-less c = search needs
+
+-- the alignments are as many as the groups
+long : (s : tie.Start Inv-loop μ-loop) → length (s .args .t1) ≡ 16
+long s = search needs
+
+loop-again : tie.Need-loop-again Inv-loop μ-loop
+loop-again c = (over-element _ _ _ 16 (long (c .before .before)) _ _ (c .before .loop .inv .0) (c .loop-test .taken) (search needs) refl, search needs, search needs)
+
+slice-write-shown-2 : tie.Need-slice-write-shown-2 Inv-loop μ-loop
+slice-write-shown-2 c = search needs
+
+same-length : tie.Need-same-length Inv-loop μ-loop
+same-length c = simp length-set (search needs)
+
+returns : tie.Need-returns Inv-loop μ-loop
+returns c =
+    let s = c .before .before in
+    begun-element (s .args .t1) (s .args .shown .now) (c .before .loop .shown) 16 (record { count = long s; is = over-all _ _ _ 16 (long s) _ (c .before .loop .inv .0) (c .before .loop .inv .1) (c .loop-test .left) }) (s .args .q) (omega (arith, s .pre)) .is
+
+pub write-case-spec : {M : Type 1} → statement M
+write-case-spec =
+    tie.close
+    (tie.spec
+    Inv-loop
+    μ-loop
+    loop-holds
+    mul-shown
+    array-read-shown
+    mul-shown-2
+    slice-write-shown
+    add-i
+    loop-less
+    loop-again
+    slice-write-shown-2
+    same-length
+    returns)

@@ -1,0 +1,3 @@
+-- What is proved of the text.
+pub mod Lines
+pub mod Text

@@ -1,0 +1,30 @@
+-- The area is prepared for the frame of the row.
+use mathlib.Core.Path.{_≡_, sym, _∙_}
+use borrow.Author.Needs.{needs}
+use Rattle.row_judgement.proofs.decide.prepare_row.Statement.{statement}
+use Rattle.row_judgement.proofs.decide.prepare_row.Tie as tie
+
+frame-requires : tie.Need-frame-requires
+frame-requires c κs = search needs
+
+prepare-requires : tie.Need-prepare-requires
+prepare-requires c κs = search needs
+
+frame-blocking-requires : tie.Need-frame-blocking-requires
+frame-blocking-requires c κs = c .before .before .before .prepare .ensures .1 .filled
+
+same-length : tie.Need-same-length
+same-length c = search needs
+
+returns : tie.Need-returns
+returns c = (c .before .before .before .before .prepare .ensures .0, (c .before .before .before .before .before .before .frame .ensures, (c .before .before .before .before .prepare .ensures .1, c .frame-blocking .ensures)))
+
+pub prepare-row-spec : {M : Type 1} → statement M
+prepare-row-spec =
+    tie.close
+    (tie.spec
+    frame-requires
+    prepare-requires
+    frame-blocking-requires
+    same-length
+    returns)

@@ -1,0 +1,105 @@
+-- The claim of the row, by the bound that decides about it; where its verdict is 3, the case is found with what is prepared and remembered.
+use Prim.Native.Nat.{_+_, _*_, _≤_, _<_}
+use mathlib.Core.Path.{_≡_, ap, _∙_}
+use native.Mathlib.Omega.{arith}
+use borrow.Author.Needs.{needs}
+use lib.ListN.{length}
+use Rattle.bus_model.specs.Frame.{row}
+use Rattle.bus_model.specs.Judgement.{judge, verdict}
+use Rattle.table_checks.specs.Columns.{columns, mostNumbers, claimColumn}
+use Rattle.table_checks.specs.Frames.{framesOf}
+use Rattle.row_judgement.specs.Judge.{claimOf}
+use Rattle.row_judgement.specs.laws.Judged.{claim-inside}
+use Rattle.row_judgement.specs.laws.Explain.{ready-new, judged-row, small-has, small-beside, other-beside}
+use Rattle.row_judgement.proofs.explanation.explain_row.Statement.{statement}
+use Rattle.row_judgement.proofs.explanation.explain_row.Tie as tie
+
+place : (c : tie.Start) → (columns * c .args .i + claimColumn < length (c .args .rows .now)) × (length (c .args .rows .now) ≤ mostNumbers)
+place c = claim-inside (c .args .lengths) (c .args .rows .now) (c .pre .0 .1) (c .pre .1)
+
+mul-claim : tie.Need-mul-claim
+mul-claim c = record { fits = omega (arith, place (c .before)) }
+
+add-claim : tie.Need-add-claim
+add-claim c = record { fits = omega (arith, place (c .before)) }
+
+mul-claim-2 : tie.Need-mul-claim-2
+mul-claim-2 c = record { fits = omega (arith, place (c .before)) }
+
+shared-slice-read-claim : tie.Need-shared-slice-read-claim
+shared-slice-read-claim c = omega (arith, place (c .before .before))
+
+slice-aggregate-prepare-row : tie.Need-slice-aggregate-prepare-row
+slice-aggregate-prepare-row c = search needs
+
+prepare-row-requires : tie.Need-prepare-row-requires
+prepare-row-requires c κs = (c .before .before .before .pre .0, (c .before .before .before .pre .1, search needs))
+
+slice-aggregate-find : tie.Need-slice-aggregate-find
+slice-aggregate-find c = search needs
+
+slice-aggregate-find-2 : tie.Need-slice-aggregate-find-2
+slice-aggregate-find-2 c = search needs
+
+find-requires : tie.Need-find-requires
+find-requires c κs = ready-new (c .before .before .before .before .before .before .before .args .lengths) (c .before .before .before .prepare-row .ensures .0) (c .before .before .before .prepare-row .ensures .1 .0) (c .before .before .before .prepare-row .ensures .1 .1) (c .before .before .before .before .before .before .before .pre .1)
+
+judged-by-requires : tie.Need-judged-by-requires
+judged-by-requires c κs = search needs
+
+verdict-requires : tie.Need-verdict-requires
+verdict-requires c κs = search needs
+
+slice-aggregate-first-case : tie.Need-slice-aggregate-first-case
+slice-aggregate-first-case c = search needs
+
+slice-aggregate-first-case-2 : tie.Need-slice-aggregate-first-case-2
+slice-aggregate-first-case-2 c = search needs
+
+-- the judgement is that of the row
+judged : (c : tie.After-judged-by) → c .judged-by .result ≡ judge (framesOf (c .before .before .before .before .before .before .before .before .before .before .args .lengths) (c .before .before .before .before .before .before .before .before .before .before .args .rows .now)) (row (framesOf (c .before .before .before .before .before .before .before .before .before .before .args .lengths) (c .before .before .before .before .before .before .before .before .before .before .args .rows .now)) (c .before .before .before .before .before .before .before .before .before .before .args .i)) (claimOf (c .before .before .before .before .before .before .before .before .before .before .args .rows .now) (c .before .before .before .before .before .before .before .before .before .before .args .i))
+judged c = judged-row (c .before .before .before .before .before .before .before .before .before .before .args .lengths) (c .before .before .before .before .before .before .before .before .before .before .args .rows .now) (c .before .before .before .before .before .before .before .before .before .before .args .i) (c .before .before .before .before .before .before .prepare-row .ensures .0) (c .before .before .before .before .before .before .prepare-row .ensures .1 .0) (c .before .before .find .ensures .0) (c .judged-by .ensures)
+
+-- its verdict is 3
+small : (c : tie.Then1) → verdict (c .before .before .judged-by .result .outcome) ≡ 3
+small c = omega (arith, c .before .verdict .ensures, c .if1 .taken)
+
+first-case-requires : tie.Need-first-case-requires
+first-case-requires c κs =
+    let a = c .before .before .before .before .before .before .before .before .before .before .before .before .before .before .args in
+    (c .before .before .before .before .before .before .find .ensures .1, small-has (a .lengths) (a .rows .now) (a .i) (c .before .before .before .before .before .before .before .before .before .before .prepare-row .ensures .0) (c .before .before .before .before .before .before .before .before .before .before .prepare-row .ensures .1 .0) (judged (c .before .before .before .before)) (small (c .before .before)))
+
+returns : tie.Need-returns
+returns c =
+    let a = c .before .before .before .before .before .before .before .before .before .before .before .before .before .before .before .before .args in
+    small-beside (a .lengths) (a .rows .now) (a .i) (c .before .before .before .before .before .before .before .before .before .before .before .before .prepare-row .ensures .0) (c .before .before .before .before .before .before .before .before .before .before .before .before .prepare-row .ensures .1 .0) (judged (c .before .before .before .before .before .before)) (small (c .before .before .before .before)) (c .before .first-case .ensures)
+
+no-case-requires : tie.Need-no-case-requires
+no-case-requires c κs = search needs
+
+returns-2 : tie.Need-returns-2
+returns-2 c =
+    let a = c .before .before .before .before .before .before .before .before .before .before .before .before .before .args in
+    other-beside (a .lengths) (a .rows .now) (a .i) (c .before .before .before .before .before .before .before .before .before .prepare-row .ensures .0) (c .before .before .before .before .before .before .before .before .before .prepare-row .ensures .1 .0) (judged (c .before .before .before)) (λ is. omega (arith, c .before .before .verdict .ensures, c .before .if1 .left)) (c .no-case .ensures)
+
+pub explain-row-spec : {M : Type 1} → statement M
+explain-row-spec =
+    tie.close
+    (tie.spec
+    mul-claim
+    add-claim
+    mul-claim-2
+    shared-slice-read-claim
+    slice-aggregate-prepare-row
+    prepare-row-requires
+    slice-aggregate-find
+    slice-aggregate-find-2
+    find-requires
+    judged-by-requires
+    verdict-requires
+    slice-aggregate-first-case
+    slice-aggregate-first-case-2
+    first-case-requires
+    returns
+    no-case-requires
+    returns-2)
