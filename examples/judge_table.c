@@ -92,6 +92,9 @@ static void print_judgement(size_t line, int64_t answer)
     case CERTIFIER_CLAIM_TOO_SMALL:
         printf("the claim is too small: the bound is %d, %d ticks more\n", bound, -margin);
         break;
+    case CERTIFIER_BY_LEVEL_BOUND:
+        printf("certified by the bound %d between the two, %d ticks to spare\n", bound, margin);
+        break;
     case CERTIFIER_UNDECIDED:
         printf("undecided: too many scenarios, the approximate bound %d is %d ticks above the claim\n", bound, -margin);
         break;

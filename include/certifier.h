@@ -129,13 +129,14 @@ int64_t certifier_busiest(const uint8_t *lengths, size_t lengths_len, const uint
 /* The bytes of the longest sheet of a log. */
 #define CERTIFIER_BUSIEST_MOST 2711
 
-/* What a claim is found to be. In the first two cases the frame is certified: it is never late. */
+/* What a claim is found to be. By one of the bounds (1, 2, 4) the frame is certified: it is never late. */
 enum certifier_verdict {
     CERTIFIER_BY_APPROXIMATE_BOUND = 1,
     CERTIFIER_BY_PRECISE_BOUND = 2,
     CERTIFIER_CLAIM_TOO_SMALL = 3,
+    CERTIFIER_BY_LEVEL_BOUND = 4, /* too many scenarios for the precise bound: one between the two certifies */
     CERTIFIER_NO_WINDOW = 11, /* the bus is overloaded for this frame: bound and margin are 0 */
-    CERTIFIER_UNDECIDED = 12  /* too many scenarios for the precise bound: the bound is the approximate one */
+    CERTIFIER_UNDECIDED = 12  /* too many scenarios, and that one does not: the bound is the approximate one */
 };
 
 /* Why a call is turned back, and what the place is. */

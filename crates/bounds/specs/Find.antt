@@ -7,18 +7,24 @@ use Rattle.arith.specs.declared.Found.{Found}
 use Rattle.arith.specs.declared.Found.the-variants.{At, Nothing}
 use Rattle.bus_model.specs.declared.Frame.{Frame}
 use Rattle.bus_model.specs.Bounds.{approximateBound, preciseBound}
-use Rattle.bus_model.specs.Judgement.{lacksWindow, tooManyScenarios}
+use Rattle.bus_model.specs.Levels.{levelBound}
+use Rattle.bus_model.specs.Judgement.{lacksWindow, tooManyScenarios, deepestLevel}
 use Rattle.bounds.specs.declared.Bound.{Bound}
-use Rattle.bounds.specs.declared.Bound.the-variants.{NoWindow, Approximate, TooMany, Precise}
+use Rattle.bounds.specs.declared.Bound.the-variants.{NoWindow, Approximate, Level, TooMany, Precise}
 
 -- whether the claim, if there is one, meets a bound
 abbrev pub meets : Found → ℕ → Bool
 meets (At c) b = leb b c
 meets Nothing b = false
 
--- no bound without windows; else the approximate one, where the claim meets it; else that of too many scenarios, or the precise one
+-- the bound of level m, where the claim meets it, and otherwise that there are too many scenarios, with the approximate bound b
+abbrev pub levelFor : List Frame → Frame → ℕ → Found → ℕ → Bound
+levelFor fs k m claim b = cond (meets claim (levelBound fs k m)) (Level (levelBound fs k m)) (TooMany b)
+
+-- no bound without windows; else the approximate one, where the claim meets it; else that of the deepest level, where there are too many
+-- scenarios, or the precise one
 unfoldable pub boundFor : List Frame → Frame → Found → Bound
 boundFor fs k claim =
     cond (lacksWindow fs k) NoWindow
     (cond (meets claim (approximateBound fs k)) (Approximate (approximateBound fs k))
-    (cond (tooManyScenarios fs k) (TooMany (approximateBound fs k)) (Precise (preciseBound fs k))))
+    (cond (tooManyScenarios fs k) (levelFor fs k (deepestLevel fs k) claim (approximateBound fs k)) (Precise (preciseBound fs k))))

@@ -1,7 +1,7 @@
 // The bound that decides about a claim.
 use crate::Bound;
-use crate::count::SCENARIO_LIMIT;
-use crate::count::scenario_count;
+use crate::count::LAST_LEVEL;
+use crate::count::deepest_level;
 use crate::refine::refine_own;
 use crate::windows::lacks_window;
 use arith::Found;
@@ -10,9 +10,12 @@ use response_time::busy_window;
 use workload::GROUPS;
 use workload::Target;
 ghost use mathlib.Core.Path.{_≡_};
+ghost use mathlib.Core.Bool.{false};
+ghost use Prim.Native.Nat.{_<_};
+ghost use Rattle.bus_model.specs.Judgement.{lacksWindow};
 ghost use Rattle.workload.specs.Prepared.{tableOf};
 ghost use Rattle.greatest_work.specs.Ready.{Ready};
-ghost use Rattle.bounds.specs.Find.{meets, boundFor};
+ghost use Rattle.bounds.specs.Find.{meets, levelFor, boundFor};
 
 // Whether the claim, if there is one, meets a bound.
 fn is_met(claim: Found, bound: u32) -> bool
@@ -21,6 +24,35 @@ fn is_met(claim: Found, bound: u32) -> bool
     match claim {
         Found::At(c) => bound <= c,
         Found::Nothing => false,
+    }
+}
+
+// The bound of a level, where the claim meets it, and otherwise that the scenarios are too many, with the approximate bound. Without a claim
+// nothing is searched.
+fn by_level(
+    rows: &[u32],
+    prepared: &[u32],
+    target: Target,
+    level: usize,
+    claim: Found,
+    rough: u32,
+    memory: &mut [u64],
+) -> Bound
+    requires { ⌜ Ready (now rows) (now prepared) target (now memory) ⌝ }
+    requires { ⌜ (lacksWindow (tableOf (now rows) (now prepared)) (target .frame) ≡ false) × (level < 16) ⌝ }
+    ensures { λ r. ⌜ r ≡ levelFor (tableOf (now (rows .entry)) (now (prepared .entry))) (target .frame) level claim rough ⌝ }
+    ensures ready { λ _. ⌜ Ready (now (rows .entry)) (now (prepared .entry)) target (now (memory .exit)) ⌝ }
+{
+    let Found::At(c) = claim else {
+        return Bound::TooMany(rough);
+    };
+    let free = [Choice::Any; 16];
+    let none = Found::Nothing;
+    let bound = refine_own(rows, prepared, target, free, level + 1, 0, none, memory);
+    if bound <= c {
+        Bound::Level(bound)
+    } else {
+        Bound::TooMany(rough)
     }
 }
 
@@ -45,9 +77,11 @@ pub fn find(
     if is_met(claim, rough) {
         return Bound::Approximate(rough);
     }
-    if SCENARIO_LIMIT < scenario_count(rows, prepared, target) {
-        return Bound::TooMany(rough);
+    let level = deepest_level(rows, prepared, target);
+    if level == LAST_LEVEL {
+        let none = Found::Nothing;
+        let precise = refine_own(rows, prepared, target, free, GROUPS, 0, none, memory);
+        return Bound::Precise(precise);
     }
-    let none = Found::Nothing;
-    Bound::Precise(refine_own(rows, prepared, target, free, GROUPS, 0, none, memory))
+    by_level(rows, prepared, target, level, claim, rough, memory)
 }

@@ -15,7 +15,9 @@ pub enum Bound {
     NoWindow,
     // The approximate bound, which the claim meets.
     Approximate(u32),
-    // The approximate bound, where the scenarios are too many for the precise one.
+    // The bound of the deepest level that is looked at, where the scenarios are too many for the precise one and the claim meets it.
+    Level(u32),
+    // The approximate bound, where it does not.
     TooMany(u32),
     Precise(u32),
 }

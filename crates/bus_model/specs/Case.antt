@@ -14,7 +14,7 @@ use Rattle.bus_model.specs.declared.Frame.{Frame}
 use Rattle.bus_model.specs.declared.Choice.{Choice}
 use Rattle.bus_model.specs.declared.Choice.the-variants.{Fixed, Any}
 use Rattle.bus_model.specs.declared.Outcome.{Outcome}
-use Rattle.bus_model.specs.declared.Outcome.the-variants.{CertifiedApproximate, CertifiedPrecise, ClaimTooSmall, Undecided, NoWindow}
+use Rattle.bus_model.specs.declared.Outcome.the-variants.{CertifiedApproximate, CertifiedPrecise, ClaimTooSmall, CertifiedLevel, Undecided, NoWindow}
 use Rattle.bus_model.specs.declared.Case.{Case}
 
 -- no case
@@ -54,5 +54,6 @@ unfoldable pub caseOf : List Frame → Frame → ℕ → Outcome → Case
 caseOf fs k claim (CertifiedApproximate b) = noCase
 caseOf fs k claim (CertifiedPrecise b) = noCase
 caseOf fs k claim (ClaimTooSmall b) = firstCase fs k claim
+caseOf fs k claim (CertifiedLevel b) = noCase
 caseOf fs k claim (Undecided b) = noCase
 caseOf fs k claim NoWindow = noCase

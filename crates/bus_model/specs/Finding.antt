@@ -5,7 +5,8 @@ use mathlib.Core.Bool.{cond}
 use lib.Dec.{leb}
 use lib.IntN.{ℤ, pos, _-ℤ_}
 use Rattle.bus_model.specs.Bounds.{approximateBound, preciseBound}
-use Rattle.bus_model.specs.Judgement.{lacksWindow, tooManyScenarios, verdict}
+use Rattle.bus_model.specs.Levels.{levelBound}
+use Rattle.bus_model.specs.Judgement.{lacksWindow, tooManyScenarios, deepestLevel, verdict}
 use Rattle.bus_model.specs.declared.Frame.{Frame}
 use Rattle.bus_model.specs.declared.Judgement.{Judgement}
 
@@ -22,12 +23,13 @@ findingOf j = record { verdict = verdict (j .outcome); bound = j .bound; margin 
 abbrev pub finding : ℕ → ℕ → ℕ → Finding
 finding verdict bound claim = record { verdict = verdict; bound = bound; margin = pos claim -ℤ pos bound }
 
--- "Order": no window (11); 1 by the rough bound; undecided (12); 2 or 3 by the exact bound
+-- "Order": no window (11); 1 by the rough bound; 4 by the deepest level, or undecided (12); 2 or 3 by the exact bound
 unfoldable pub findingFor : List Frame → Frame → ℕ → Finding
 findingFor fs k claim =
     let rough = approximateBound fs k in
     let exact = preciseBound fs k in
+    let deepest = levelBound fs k (deepestLevel fs k) in
     cond (lacksWindow fs k) (record { verdict = 11; bound = 0; margin = pos 0 })
     (cond (leb rough claim) (finding 1 rough claim)
-    (cond (tooManyScenarios fs k) (finding 12 rough claim)
+    (cond (tooManyScenarios fs k) (cond (leb deepest claim) (finding 4 deepest claim) (finding 12 rough claim))
     (cond (leb exact claim) (finding 2 exact claim) (finding 3 exact claim))))

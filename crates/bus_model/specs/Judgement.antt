@@ -8,12 +8,13 @@ use mathlib.Core.Logic.{_↔_, _⊎_}
 use lib.Dec.{eqb, leb, ltb}
 use lib.IntN.{ℤ, pos, _-ℤ_}
 use lib.Signed.{_<ℤ_}
-use Rattle.arith.specs.Lists.{exists}
+use Rattle.arith.specs.Lists.{greatest, keep, exists, range}
 use Rattle.arith.specs.Least.{isNone}
-use Rattle.bus_model.specs.Bounds.{busyWindow, scenarios, ownGroup, approximateBound, preciseBound, scenarioCount}
+use Rattle.bus_model.specs.Bounds.{groups, busyWindow, scenarios, ownGroup, approximateBound, preciseBound, scenarioCount}
+use Rattle.bus_model.specs.Levels.{levelBound, levelCount}
 use Rattle.bus_model.specs.declared.Frame.{Frame}
 use Rattle.bus_model.specs.declared.Outcome.{Outcome}
-use Rattle.bus_model.specs.declared.Outcome.the-variants.{CertifiedApproximate, CertifiedPrecise, ClaimTooSmall, Undecided, NoWindow}
+use Rattle.bus_model.specs.declared.Outcome.the-variants.{CertifiedApproximate, CertifiedPrecise, ClaimTooSmall, CertifiedLevel, Undecided, NoWindow}
 use Rattle.bus_model.specs.declared.Judgement.{Judgement}
 
 -- the greatest scenario count that is decided
@@ -32,9 +33,19 @@ tooManyScenarios fs k = ltb scenarioLimit (scenarioCount fs k)
 unfoldable pub preciseOutcome : List Frame → Frame → ℕ → Outcome
 preciseOutcome fs k claim = let b = preciseBound fs k in cond (leb b claim) (CertifiedPrecise b) (ClaimTooSmall b)
 
--- where the rough bound b exceeds the claim: "undecided, if the scenario count exceeds 65536 (bound is the rough one)"
+-- "the deepest level whose product of fixed alignments is at most 65536"; that of the rough bound where none is
+unfoldable pub deepestLevel : List Frame → Frame → ℕ
+deepestLevel fs k = greatest (λ m. m) (keep (λ m. leb (levelCount fs k m) scenarioLimit) (range 0 groups))
+
+-- where there are too many scenarios: "verdict 4, with that bound, if it is within the claim, and otherwise 12 as before", with the rough
+-- bound b
+unfoldable pub crowdedOutcome : List Frame → Frame → ℕ → ℕ → Outcome
+crowdedOutcome fs k claim b = let c = levelBound fs k (deepestLevel fs k) in cond (leb c claim) (CertifiedLevel c) (Undecided b)
+
+-- where the rough bound b exceeds the claim: "undecided, if the scenario count exceeds 65536 (bound is the rough one)", unless a level
+-- certifies
 unfoldable pub refinedOutcome : List Frame → Frame → ℕ → ℕ → Outcome
-refinedOutcome fs k claim b = cond (tooManyScenarios fs k) (Undecided b) (preciseOutcome fs k claim)
+refinedOutcome fs k claim b = cond (tooManyScenarios fs k) (crowdedOutcome fs k claim b) (preciseOutcome fs k claim)
 
 -- where the windows exist: "1, if rough bound ≤ claim"
 unfoldable pub windowedOutcome : List Frame → Frame → ℕ → Outcome
@@ -49,6 +60,7 @@ unfoldable pub verdict : Outcome → ℕ
 verdict (CertifiedApproximate b) = 1
 verdict (CertifiedPrecise b) = 2
 verdict (ClaimTooSmall b) = 3
+verdict (CertifiedLevel b) = 4
 verdict (Undecided b) = 12
 verdict NoWindow = 11
 
@@ -57,6 +69,7 @@ unfoldable pub boundUsed : Outcome → ℕ
 boundUsed (CertifiedApproximate b) = b
 boundUsed (CertifiedPrecise b) = b
 boundUsed (ClaimTooSmall b) = b
+boundUsed (CertifiedLevel b) = b
 boundUsed (Undecided b) = b
 boundUsed NoWindow = 0
 
@@ -65,6 +78,7 @@ unfoldable pub marginOf : ℕ → Outcome → ℤ
 marginOf claim (CertifiedApproximate b) = pos claim -ℤ pos b
 marginOf claim (CertifiedPrecise b) = pos claim -ℤ pos b
 marginOf claim (ClaimTooSmall b) = pos claim -ℤ pos b
+marginOf claim (CertifiedLevel b) = pos claim -ℤ pos b
 marginOf claim (Undecided b) = pos claim -ℤ pos b
 marginOf claim NoWindow = pos 0
 
@@ -76,6 +90,6 @@ judge fs k claim = let o = outcomeOf fs k claim in record { outcome = o; bound =
 abbrev pub MarginSign : Judgement → Type 0
 MarginSign j = (j .margin <ℤ pos 0) ↔ ((verdict (j .outcome) ≡ 3) ⊎ (verdict (j .outcome) ≡ 12))
 
--- "certified": "verdict 1 or 2"
+-- "certified": "verdict 1 or 2"; "verdict 4 certifies just as 1 and 2 do"
 unfoldable pub certifies : Outcome → Bool
-certifies o = eqb (verdict o) 1 || eqb (verdict o) 2
+certifies o = eqb (verdict o) 1 || eqb (verdict o) 2 || eqb (verdict o) 4

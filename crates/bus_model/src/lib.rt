@@ -30,6 +30,8 @@ pub enum Outcome {
     CertifiedPrecise(u32),
     // "Claim too small".
     ClaimTooSmall(u32),
+    // Certified by the bound of a level between the two.
+    CertifiedLevel(u32),
     Undecided(u32),
     NoWindow,
 }

@@ -4,10 +4,10 @@ use mathlib.Core.Bool.{cond}
 use lib.Dec.{leb}
 use lib.IntN.{pos, _-ℤ_}
 use Rattle.bus_model.specs.declared.Outcome.{Outcome}
-use Rattle.bus_model.specs.declared.Outcome.the-variants.{CertifiedApproximate, CertifiedPrecise, ClaimTooSmall, Undecided, NoWindow}
+use Rattle.bus_model.specs.declared.Outcome.the-variants.{CertifiedApproximate, CertifiedPrecise, ClaimTooSmall, CertifiedLevel, Undecided, NoWindow}
 use Rattle.bus_model.specs.declared.Judgement.{Judgement}
 use Rattle.bounds.specs.declared.Bound.{Bound}
-use Rattle.bounds.specs.declared.Bound.the-variants.{NoWindow as LacksWindow, Approximate, TooMany, Precise}
+use Rattle.bounds.specs.declared.Bound.the-variants.{NoWindow as LacksWindow, Approximate, Level, TooMany, Precise}
 use Rattle.row_judgement.specs.declared.Cause.the-variants.{NoWindow as CauseNoWindow, TooManyScenarios}
 use Rattle.row_judgement.specs.declared.Bounded.{Bounded}
 use Rattle.row_judgement.specs.declared.Bounded.the-variants.{Bound as Is, NotBounded}
@@ -20,6 +20,7 @@ beside claim outcome b = record { outcome = outcome; bound = b; margin = pos cla
 unfoldable pub judgedBy : ℕ → Bound → Judgement
 judgedBy claim LacksWindow = record { outcome = NoWindow; bound = 0; margin = pos 0 }
 judgedBy claim (Approximate b) = beside claim (CertifiedApproximate b) b
+judgedBy claim (Level b) = beside claim (CertifiedLevel b) b
 judgedBy claim (TooMany b) = beside claim (Undecided b) b
 judgedBy claim (Precise b) = cond (leb b claim) (beside claim (CertifiedPrecise b) b) (beside claim (ClaimTooSmall b) b)
 
@@ -27,5 +28,6 @@ judgedBy claim (Precise b) = cond (leb b claim) (beside claim (CertifiedPrecise 
 unfoldable pub boundedBy : ℕ → Bound → Bounded
 boundedBy i LacksWindow = NotBounded (record { cause = CauseNoWindow; place = i })
 boundedBy i (Approximate b) = Is b
+boundedBy i (Level b) = Is b
 boundedBy i (TooMany b) = NotBounded (record { cause = TooManyScenarios; place = i })
 boundedBy i (Precise b) = Is b

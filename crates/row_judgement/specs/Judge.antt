@@ -40,7 +40,7 @@ judgeChecked Passed ls rows r =
 unfoldable pub judgeRow : List (List ℕ) → List ℕ → ℕ → Judged
 judgeRow ls rows r = judgeChecked (loadedCheck ls rows) ls rows r
 
--- "certified": verdict 1 or 2
+-- "certified": verdict 1, 2 or 4
 unfoldable pub certified : Judged → Bool
 certified (Verdict j) = certifies (j .outcome)
 certified (NotJudged f) = false

@@ -62,6 +62,7 @@ fn bounded(bound: Bound, i: u32) -> Bounded
             place: i,
         }),
         Bound::Approximate(b) => Bounded::Bound(b),
+        Bound::Level(b) => Bounded::Bound(b),
         Bound::TooMany(_) => Bounded::NotBounded(Refusal {
             cause: Cause::TooManyScenarios,
             place: i,

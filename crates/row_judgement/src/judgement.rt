@@ -76,6 +76,7 @@ pub fn judged_by(bound: Bound, claim: u32) -> Judgement
             margin: 0,
         },
         Bound::Approximate(b) => judged(Outcome::CertifiedApproximate(b), b, claim),
+        Bound::Level(b) => judged(Outcome::CertifiedLevel(b), b, claim),
         Bound::TooMany(b) => judged(Outcome::Undecided(b), b, claim),
         Bound::Precise(b) => {
             if b <= claim {
@@ -98,7 +99,7 @@ fn judged(outcome: Outcome, bound: u32, claim: u32) -> Judgement
     }
 }
 
-// The verdict's number in document 01.
+// The verdict's number in documents 01 and 02.
 pub fn verdict(outcome: Outcome) -> u32
     ensures { λ r. ⌜ r ≡ verdict outcome ⌝ }
 {
@@ -106,6 +107,7 @@ pub fn verdict(outcome: Outcome) -> u32
         Outcome::CertifiedApproximate(_) => 1,
         Outcome::CertifiedPrecise(_) => 2,
         Outcome::ClaimTooSmall(_) => 3,
+        Outcome::CertifiedLevel(_) => 4,
         Outcome::NoWindow => 11,
         Outcome::Undecided(_) => 12,
     }

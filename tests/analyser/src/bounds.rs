@@ -107,6 +107,10 @@ impl<'a> View<'a> {
         }
     }
 
+    pub fn identifier(&self) -> u32 {
+        self.frame[IDENTIFIER]
+    }
+
     pub fn claim(&self) -> u64 {
         self.frame[CLAIM].into()
     }
@@ -168,29 +172,39 @@ impl<'a> View<'a> {
 
     /// The exact bound, passing over scenarios that cannot exceed one already seen.
     pub fn exact_pruned(&self, limit: u64) -> Option<u64> {
-        let groups: Vec<usize> = self.other_groups().collect();
-        let branching = |g: &usize| self.groups[*g].len() > 1;
-        let (rest, fixed): (Vec<usize>, Vec<usize>) = groups.into_iter().partition(branching);
+        self.level_pruned(self.groups.len(), limit)
+    }
+
+    /// The bound of a level, which fixes so many groups, passing over alignments that cannot exceed
+    /// others already seen.
+    pub(crate) fn level_pruned(&self, depth: usize, limit: u64) -> Option<u64> {
+        let order = self.level_order();
+        let is_open = |group: &usize| self.groups[*group].len() > 1;
+        let (fixed, open) = order[1..].split_at(depth - 1);
+        let rest: Vec<usize> = fixed.iter().copied().filter(is_open).collect();
+        let open: Vec<usize> = open.iter().copied().filter(is_open).collect();
+        let alone = order[1..].iter().filter(|group| !is_open(group));
+        let alone: Vec<&Alignment> = alone.map(|group| &self.groups[*group][0]).collect();
         let mut best = 0;
         for own in &self.groups[self.own] {
-            let mut picks = fixed.iter().map(|g| &self.groups[*g][0]).collect();
-            self.refine(own, &mut picks, &rest, limit, &mut best)?;
+            self.refine(own, &mut alone.clone(), [&rest, &open], limit, &mut best)?;
         }
         Some(best)
     }
 
-    /// Fixes the first of the remaining groups, unless all at their greatest is too little.
+    /// Fixes the first of the groups that remain to be, unless all at their greatest is too little;
+    /// others stay open.
     fn refine<'b>(
         &'b self,
         own: &Alignment,
         picks: &mut Vec<&'b Alignment>,
-        rest: &[usize],
+        [rest, open]: [&[usize]; 2],
         limit: u64,
         best: &mut u64,
     ) -> Option<()> {
         let at_most = |end| {
             let fixed: u64 = picks.iter().map(|pick| pick.work(end)).sum();
-            let open: u64 = rest.iter().map(|g| self.greatest(*g, end)).sum();
+            let open: u64 = rest.iter().chain(open).map(|g| self.greatest(*g, end)).sum();
             fixed + open
         };
         let worst = self.worst(own, &at_most, limit)?;
@@ -203,7 +217,7 @@ impl<'a> View<'a> {
         };
         for alignment in &self.groups[*next] {
             picks.push(alignment);
-            self.refine(own, picks, rest, limit, best)?;
+            self.refine(own, picks, [rest, open], limit, best)?;
             picks.pop();
         }
         Some(())

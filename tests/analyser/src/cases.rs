@@ -1,7 +1,7 @@
 //! Cases as one stream of bytes, and a line expected for each.
 
 use crate::bounds::View;
-use crate::judgement::{judge, precise_bound, LIMITS};
+use crate::judgement::{judge, precise_bound, Search, LIMITS};
 use crate::lengths::STANDARD;
 use crate::listing::{judgement_columns, refusal_columns};
 use crate::table::{self, Refusal};
@@ -80,10 +80,20 @@ impl Case {
         }
         let judged = judge(&STANDARD, &self.words(), row)?;
         let verdict = judged.verdict as u32;
-        if verdict == 2 || verdict == 3 {
-            self.check_plainly(judged.bound);
+        match verdict {
+            2 | 3 => self.check_plainly(judged.bound),
+            4 => self.check_level_plainly(judged.bound),
+            _ => (),
         }
         Ok((verdict, judgement_columns(judged)))
+    }
+
+    /// Finds the bound of the deepest level again by plain enumeration.
+    fn check_level_plainly(&self, bound: u64) {
+        let rows = table::check(&self.words()).expect("an accepted table");
+        let view = View::new(&STANDARD, &rows, self.number);
+        let depth = view.deepest_level(LIMITS.scenarios);
+        assert_eq!(view.level(Search::Plain, depth, LIMITS.window), Some(bound));
     }
 
     /// Finds the exact bound again by plain enumeration.

@@ -4,7 +4,7 @@ use crate::bounds::View;
 use crate::cases::Case;
 use crate::judgement::LIMITS;
 use crate::lengths::{LengthTable, STANDARD};
-use crate::random::{clustered, dense, set_claim, stretched, Random};
+use crate::random::{carts, clustered, dense, set_claim, stretched, Random};
 use crate::table::{self, Row, CLAIM, GROUP, GROUPS, IDENTIFIER, NODE, OFFSET, PERIOD};
 use crate::table_cases::{edited_rows, good_rows, part_rows, pattern_rows, WHOLE_CASE};
 
@@ -305,6 +305,7 @@ impl Cases {
         self.fill(28, wide, apart, &[(j, 2, 15), (j, 3, 5), (p, 0, 5)]);
         self.fill(29, long, any, &[(j, 1, 10), (j, 3, 10), (j, 12, 15), (p, 12, 10)]);
         self.fill(30, short, any, &[(j, 11, 20), (p, 11, 5)]);
+        self.fill(31, three_carts, lowest, &[(j, 1, 10), (j, 4, 40), (j, 12, 20), (p, 12, 5)]);
     }
 
     /// Adds rows of random tables until each outcome has its number of cases.
@@ -383,6 +384,17 @@ pub fn wide(random: &mut Random, lengths: &LengthTable) -> Vec<Row> {
 
 pub fn long(random: &mut Random, _: &LengthTable) -> Vec<Row> {
     stretched(random, 3, 120, 800)
+}
+
+/// Whether a row is that of the carts which is judged.
+fn lowest(view: &View) -> bool {
+    view.identifier() == 500
+}
+
+/// Carts of many alignments, so that the levels end before the last ones.
+pub fn three_carts(random: &mut Random, lengths: &LengthTable) -> Vec<Row> {
+    let groups = random.between(3, 4);
+    carts(random, lengths, groups, (8, 30))
 }
 
 pub fn short(random: &mut Random, _: &LengthTable) -> Vec<Row> {

@@ -1,4 +1,5 @@
-//! Judging a claim: the rough bound first, the exact bound second.
+//! Judging a claim: the rough bound first, the exact bound second; where there are too many scenarios
+//! for that, the bound of a level.
 
 use crate::bounds::View;
 use crate::lengths::{self, LengthTable};
@@ -19,6 +20,7 @@ pub enum Verdict {
     CertifiedRough = 1,
     CertifiedExact = 2,
     TooSmall = 3,
+    CertifiedLevel = 4,
     NoWindow = 11,
     Undecided = 12,
 }
@@ -72,7 +74,12 @@ pub fn judge_view(search: Search, view: &View, limits: Limits) -> Judgement {
         return Judgement::new(Verdict::CertifiedRough, rough.response, claim);
     }
     if view.scenario_count() > limits.scenarios {
-        return Judgement::new(Verdict::Undecided, rough.response, claim);
+        let level = level_bound(search, view, limits);
+        return if level <= claim {
+            Judgement::new(Verdict::CertifiedLevel, level, claim)
+        } else {
+            Judgement::new(Verdict::Undecided, rough.response, claim)
+        };
     }
     let exact = exact_bound(search, view, limits);
     let verdict = if exact <= claim { Verdict::CertifiedExact } else { Verdict::TooSmall };
@@ -86,6 +93,13 @@ fn exact_bound(search: Search, view: &View, limits: Limits) -> u64 {
         Search::Pruned => view.exact_pruned(limits.window),
     };
     exact.expect("a window for the rough bound serves every scenario")
+}
+
+/// The bound of the deepest level whose product is within the limit. None has a longer window than the
+/// rough bound.
+fn level_bound(search: Search, view: &View, limits: Limits) -> u64 {
+    let level = view.level(search, view.deepest_level(limits.scenarios), limits.window);
+    level.expect("a window for the rough bound serves every level")
 }
 
 /// Judges a row of rows in memory.

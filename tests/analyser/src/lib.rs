@@ -22,6 +22,9 @@ mod late_examples;
 pub mod lengths;
 #[cfg(test)]
 mod lengths_examples;
+#[cfg(test)]
+mod level_examples;
+pub mod levels;
 pub mod listing;
 pub mod literal;
 pub mod literal_bus;

@@ -133,27 +133,28 @@ pub fn answer(lengths: &LengthTable, rows: &[Row], row: usize, limits: Limits) -
     };
     let rough = literal.rough();
     let Enumerated { exact, scenarios, case } = literal.enumerate();
-    let judgement = judgement(judged[7], rough, exact, scenarios, limits);
+    let level = literal.level(literal.levels_within(limits.scenarios));
+    let judgement = judgement(judged[7], [rough, exact, level], scenarios, limits);
     let decided = !matches!(judgement.verdict, Verdict::NoWindow | Verdict::Undecided);
     let case = case.filter(|_| decided);
     Answer { rough, exact, scenarios, judgement, case }
 }
 
-fn judgement(
-    claim: u32,
-    rough: Option<u64>,
-    exact: Option<u64>,
-    scenarios: u64,
-    limits: Limits,
-) -> Judgement {
+/// By the rough bound, the exact one, and that of a level.
+fn judgement(claim: u32, bounds: [Option<u64>; 3], scenarios: u64, limits: Limits) -> Judgement {
     let claim = i64::from(claim);
-    let (verdict, bound) = match (rough, exact) {
+    let [rough, exact, level] = bounds.map(|bound| bound.map(|ticks| ticks as i64));
+    let (verdict, bound) = match (rough, scenarios > limits.scenarios) {
         (None, _) => (Verdict::NoWindow, claim),
-        (Some(rough), _) if rough as i64 <= claim => (Verdict::CertifiedRough, rough as i64),
-        (Some(rough), _) if scenarios > limits.scenarios => (Verdict::Undecided, rough as i64),
-        (_, Some(exact)) if exact as i64 <= claim => (Verdict::CertifiedExact, exact as i64),
-        (_, Some(exact)) => (Verdict::TooSmall, exact as i64),
-        (_, None) => panic!("a scenario without a window below a rough bound"),
+        (Some(rough), _) if rough <= claim => (Verdict::CertifiedRough, rough),
+        (Some(rough), true) => match level.expect("a window for the rough bound") {
+            level if level <= claim => (Verdict::CertifiedLevel, level),
+            _ => (Verdict::Undecided, rough),
+        },
+        (Some(_), false) => match exact.expect("a window for the rough bound") {
+            exact if exact <= claim => (Verdict::CertifiedExact, exact),
+            exact => (Verdict::TooSmall, exact),
+        },
     };
     Judgement {
         verdict,
@@ -220,6 +221,39 @@ impl Literal<'_> {
                 return found;
             }
         }
+    }
+
+    /// The groups that a level fixes: k's own, then the others rising, for as long as the product of their
+    /// alignments is at most a number.
+    fn levels_within(&self, most: u64) -> Vec<usize> {
+        let mut fixed = vec![self.own()];
+        let mut product = self.instants[self.own()].len() as u64;
+        for group in (0..16).filter(|group| *group != self.own()) {
+            product *= self.instants[group].len() as u64;
+            if product > most {
+                break;
+            }
+            fixed.push(group);
+        }
+        fixed
+    }
+
+    /// The bound with some groups fixed, at every combination, and all others at any alignment.
+    fn level(&self, fixed: Vec<usize>) -> Option<u64> {
+        let mut choices = vec![self.instants.clone()];
+        for group in fixed {
+            let split = |choice: Vec<Vec<u64>>| {
+                let at = |instant: &u64| {
+                    let mut choice = choice.clone();
+                    choice[group] = vec![*instant];
+                    choice
+                };
+                self.instants[group].iter().map(at).collect::<Vec<_>>()
+            };
+            choices = choices.into_iter().flat_map(split).collect();
+        }
+        let bounds = choices.iter().map(|choice| Some(greatest(&self.responses(choice)?)));
+        bounds.collect::<Option<Vec<u64>>>().map(|bounds| greatest(&bounds))
     }
 
     fn advance(&self, odometer: &mut [usize]) -> bool {

@@ -1,7 +1,7 @@
 //! Random tables of several shapes from a fixed seed.
 
 use crate::bounds::View;
-use crate::judgement::Limits;
+use crate::judgement::{Limits, Search};
 use crate::lengths::{length, LengthTable, STANDARD};
 use crate::table::{
     self, Row, CLAIM, GROUP, GROUPS, IDENTIFIER, KIND, NODE, NODES, OFFSET, PERIOD,
@@ -181,6 +181,42 @@ pub fn stretched(random: &mut Random, groups: u64, multiple: u64, base: u64) -> 
     finish(random, rows)
 }
 
+/// Carts that each queue a long frame, and later a short one with a long one behind it: their greatest
+/// sums are often more than any alignment gives. So many of their patterns make a cart's hyperperiod,
+/// by a frame that ranks below all others. The last row is judged; it has a group of its own.
+pub fn carts(
+    random: &mut Random,
+    lengths: &LengthTable,
+    groups: u64,
+    times: (u64, u64),
+) -> Vec<Row> {
+    let groups = random.groups(groups + 1);
+    let long = length(lengths, &[0, 0, 0, 11, 8, 0, 0, 0]);
+    let short = length(lengths, &[0, 0, 0, 11, 0, 0, 0, 0]);
+    let wait = (groups.len() as u64 - 2) * long + short;
+    let period = 4 * (wait + 4 * long) + random.below(1000);
+    let mut rows = Vec::new();
+    for (cart, group) in (0..).zip(&groups[1..]) {
+        let gap = random.between(wait, wait + long + short);
+        for (n, payload, offset) in [(0, 8, 0), (1, 0, period / 3), (2, 8, period / 3 + gap)] {
+            let identifier = 3 * cart + n;
+            rows.push([*group, *group, identifier, 11, payload, period as u32, offset as u32, 500]);
+        }
+        let times = random.between(times.0, times.1).min(1_000_000 / period);
+        if times > 1 {
+            let period = (period * times) as u32;
+            rows.push([*group, *group, 1000 + cart, 11, 0, period, 0, 500]);
+        }
+    }
+    random.shuffle(&mut rows);
+    let own = groups[0];
+    if random.percent(50) {
+        rows.push([own, own, 400, 11, random.below(4) as u32, period as u32, 7, 500]);
+    }
+    rows.push([own, own, 500, 11, random.below(9) as u32, period as u32, 0, 500]);
+    rows
+}
+
 /// Gives nodes and identifiers, lets some frames begin late, and mixes the lines.
 fn finish(random: &mut Random, mut rows: Vec<Row>) -> Vec<Row> {
     give_nodes(random, &mut rows);
@@ -284,19 +320,17 @@ pub fn set_claim(
         return;
     };
     let rough = rough.response;
-    let exact = if view.scenario_count() > limits.scenarios {
-        random.between(1, rough)
-    } else {
-        view.exact_pruned(limits.window).unwrap_or(rough)
-    };
+    // The exact bound, unless there are too many scenarios for it.
+    let depth = view.deepest_level(limits.scenarios);
+    let deepest = view.level(Search::Pruned, depth, limits.window).unwrap_or(rough);
     let claim = match random.below(8) {
         0 => rough,
         1 => rough - 1,
-        2 => exact,
-        3 => exact - 1,
-        4 => exact + 1,
-        5 => random.between(exact, rough),
-        6 => random.between(1, exact),
+        2 => deepest,
+        3 => deepest - 1,
+        4 => deepest + 1,
+        5 => random.between(deepest, rough),
+        6 => random.between(1, deepest),
         _ => random.between(1, 2 * rough),
     };
     rows[row][CLAIM] = claim.clamp(1, 1_000_000) as u32;

@@ -8,7 +8,7 @@ use crate::lengths::{self, LengthTable, STANDARD};
 use crate::literal;
 use crate::literal_table::{faults_of_file, faults_of_words, refusal};
 use crate::log_self_check;
-use crate::random::{clustered, dense, own_lengths, set_claim, stretched, Random};
+use crate::random::{carts, clustered, dense, own_lengths, set_claim, stretched, Random};
 use crate::table::{
     self, Refusal, Row, FIELDS, GROUP, GROUPS, IDENTIFIER, NODE, OFFSET, PAYLOAD, PERIOD,
 };
@@ -49,7 +49,7 @@ pub fn self_check(seed: u64, count: u64) -> bool {
         }
         let limits = Limits {
             window: random.pick(&[400, 1000, 2000, 4000, 4000]),
-            scenarios: random.pick(&[12, 65_536, 65_536, 65_536]),
+            scenarios: random.pick(&[4, 12, 30, 65_536, 65_536, 65_536]),
         };
         tally.tables += 1;
         for row in 0..rows.len() {
@@ -67,11 +67,12 @@ pub fn self_check(seed: u64, count: u64) -> bool {
 
 fn small_table(random: &mut Random, lengths: &LengthTable) -> Vec<Row> {
     let groups = random.between(1, 3);
-    match random.below(10) {
+    match random.below(11) {
         0..=3 => clustered(random, lengths, groups.max(2), 5, (110, 500)),
         4 => clustered(random, lengths, groups.max(2), 4, (88, 100)),
         5..=7 => dense(random, lengths, 4),
         8 => stretched(random, groups, 6, 250),
+        10 => carts(random, lengths, groups + 1, (1, 1)),
         _ => stretched(random, groups, 9, 1),
     }
 }
@@ -95,7 +96,8 @@ fn compare(lengths: &LengthTable, rows: &[Row], row: usize, limits: Limits, tall
         && view.scenario_count() == slow.scenarios
         && judgement == slow.judgement
         && (plain.judgement, &plain.case) == (judgement, &slow.case)
-        && quick == plain;
+        && quick == plain
+        && (rough.is_none() || levels_fall(&view, limits.window, fast));
     tally.rows += 1;
     tally.groups[0] += u64::from(rows.iter().all(|row| row[NODE] == row[GROUP]));
     tally.groups[1] += u64::from(has_several_nodes(rows));
@@ -111,6 +113,17 @@ fn compare(lengths: &LengthTable, rows: &[Row], row: usize, limits: Limits, tall
     tally.apart += u64::from(fast.0 != fast.1);
     tally.later_queueings += u64::from(exact.is_some_and(|worst| worst.q > 1));
     tally.rough_only_without_window += u64::from(rough.is_none() && exact.is_some());
+}
+
+/// From the rough bound to the exact one no level's bound exceeds the one above it, by both searches.
+fn levels_fall(view: &View, limit: u64, (rough, exact): (Option<u64>, Option<u64>)) -> bool {
+    let bound = |search, depth| view.level(search, depth, limit);
+    let levels: Vec<Option<u64>> = (1..=16).map(|depth| bound(Search::Plain, depth)).collect();
+    let pruned = (1..=16).map(|depth| bound(Search::Pruned, depth));
+    levels[0] == rough
+        && levels[15] == exact
+        && levels.windows(2).all(|pair| pair[1] <= pair[0])
+        && pruned.eq(levels.iter().copied())
 }
 
 fn has_several_nodes(rows: &[Row]) -> bool {
@@ -195,7 +208,7 @@ fn compare_readers(file: &[u8], tally: &mut Tally) {
 
 impl Tally {
     fn print(&self) {
-        for verdict in [1, 2, 3, 11, 12] {
+        for verdict in [1, 2, 3, 4, 11, 12] {
             eprintln!("verdict {verdict:>2}: {}", self.verdicts[verdict]);
         }
         eprintln!("rough and exact bound differ: {}", self.apart);

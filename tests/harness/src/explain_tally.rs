@@ -10,7 +10,7 @@ use analyser::{lengths, table};
 use std::collections::BTreeMap;
 
 /// Verdicts, and refusals below 0.
-const POSSIBLE: &[i64] = &[1, 2, 3, 11, 12, -1, -2, -3, -4, -5, -6, -7, -8, -9, -13, -14, -15];
+const POSSIBLE: &[i64] = &[1, 2, 3, 4, 11, 12, -1, -2, -3, -4, -5, -6, -7, -8, -9, -13, -14, -15];
 
 /// Wrong readings of which case is shown are told apart in rows with so many scenarios at most.
 const MOST_READ: u64 = 2000;

@@ -4,7 +4,7 @@ use crate::answer::{refusal, Judged};
 use crate::call::Call;
 use crate::simulate::is_together;
 use analyser::bounds::View;
-use analyser::judgement::LIMITS;
+use analyser::judgement::{Search, LIMITS};
 use analyser::lengths::{LengthTable, FILE, PAYLOADS, STANDARD};
 use analyser::random::first_bits;
 use analyser::table::{
@@ -119,6 +119,16 @@ const ALL: &[(&str, Test, Test)] = &[
         |s| s.scenarios.is_some_and(|count| is_beside(count, LIMITS.scenarios)),
     ),
     (
+        "level's product 65536",
+        |s| s.level.as_ref().is_some_and(|level| level.product == LIMITS.scenarios),
+        |s| s.level.as_ref().is_some_and(|level| is_beside(level.next, LIMITS.scenarios)),
+    ),
+    (
+        "claim of a level",
+        |s| s.is_judged(4, 0),
+        |s| s.level.as_ref().is_some_and(|level| level.is_one_more),
+    ),
+    (
         "own lengths",
         |s| s.serves_lengths(|lengths| *lengths == STANDARD),
         |s| s.serves_lengths(|lengths| *lengths != STANDARD),
@@ -168,6 +178,27 @@ struct Seen<'a> {
     window: Option<u64>,
     /// The scenario count, where the answer hangs on it.
     scenarios: Option<u64>,
+    /// The deepest level, where the answer hangs on it.
+    level: Option<Level>,
+}
+
+/// The products of the deepest level and of the next one, and whether its bound is one more than the claim.
+struct Level {
+    product: u64,
+    next: u64,
+    is_one_more: bool,
+}
+
+impl Level {
+    fn new(view: &View) -> Level {
+        let depth = view.deepest_level(LIMITS.scenarios);
+        let bound = view.level(Search::Pruned, depth, LIMITS.window);
+        Level {
+            product: view.level_product(depth),
+            next: view.level_product(depth + 1),
+            is_one_more: bound == Some(view.claim() + 1),
+        }
+    }
 }
 
 impl<'a> Seen<'a> {
@@ -177,7 +208,16 @@ impl<'a> Seen<'a> {
         let judged = judges.then(|| Judged::new(answer));
         let rows = call.rows();
         let lengths = call.lengths().and_then(Result::ok);
-        let seen = Seen { call, rows, refusal, lengths, judged, window: None, scenarios: None };
+        let seen = Seen {
+            call,
+            rows,
+            refusal,
+            lengths,
+            judged,
+            window: None,
+            scenarios: None,
+            level: None,
+        };
         match call.row() {
             Some(row) if seen.is_served() || seen.is_refused(11) || seen.is_refused(12) => {
                 seen.with_row(row as usize)
@@ -194,7 +234,8 @@ impl<'a> Seen<'a> {
         let verdict = self.judged.as_ref().map(|judged| judged.verdict);
         let hangs_on_count = !self.is_refused(11) && !matches!(verdict, Some(1 | 11));
         let scenarios = hangs_on_count.then(|| view.scenario_count());
-        Seen { window, scenarios, ..self }
+        let level = matches!(verdict, Some(4 | 12)).then(|| Level::new(&view));
+        Seen { window, scenarios, level, ..self }
     }
 
     fn is_served(&self) -> bool {

@@ -16,6 +16,7 @@ mod group_orders;
 mod inputs;
 mod lengths;
 mod lent;
+mod levels;
 mod library;
 mod limits;
 mod log_call;
@@ -47,6 +48,7 @@ const USAGE: &str = "usage:
   harness replay-explain SEED NUMBER [--save FILE]
   harness logs SEED COUNT [--save FILE]
   harness replay-logs SEED NUMBER [--save FILE]
+  harness levels SEED COUNT
   harness bench
   harness bench-explain
   harness repeats
@@ -93,6 +95,7 @@ fn run(words: &[&str]) -> io::Result<bool> {
         ["replay-logs", seed, input, rest @ ..] => {
             logs::replay(number(seed)?, number(input)?, save(rest)?)
         }
+        ["levels", seed, count] => Ok(levels::measure(number(seed)?, number(count)?)),
         ["bench"] => bench::bench(),
         ["bench-explain"] => Ok(bench_explain::bench()),
         ["repeats"] => Ok(repeats::repeats()),

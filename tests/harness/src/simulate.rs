@@ -31,8 +31,8 @@ struct Tally {
     together: [u64; 2],
     /// Late frames that are certified, and their instances.
     late_frames: [u64; 2],
-    /// Frames certified by the rough bound, and by the exact one.
-    certified: [u64; 2],
+    /// Frames certified by the rough bound, by the exact one, and by a level's.
+    certified: [u64; 3],
     schedules: u64,
     instances: u64,
     late: u64,
@@ -146,7 +146,7 @@ impl Tally {
 
     /// Whether everything that is counted has occurred.
     fn is_complete(&self) -> bool {
-        let [rough, exact] = self.certified;
+        let [rough, exact, level] = self.certified;
         let [own, own_certified] = self.own;
         let lengths = ![self.tables - own, own, own_certified].contains(&0);
         let [together, certified] = self.together;
@@ -154,14 +154,16 @@ impl Tally {
         lengths
             && groups
             && !self.late_frames.contains(&0)
-            && ![rough, exact, self.instances, self.just_in_time, self.bounds, self.ticked]
+            && ![rough, exact, level, self.instances, self.just_in_time, self.bounds, self.ticked]
                 .contains(&0)
     }
 
     fn print(&self) {
         let Tally { tables, schedules, instances, late, .. } = self;
-        let [rough, exact] = self.certified;
-        println!("{rough} frames certified by the rough bound, {exact} by the exact one");
+        let [rough, exact, level] = self.certified;
+        println!(
+            "{rough} frames certified by the rough bound, {exact} by the exact one, {level} by a level's"
+        );
         let [own, own_certified] = self.own;
         println!("{own} tables by own lengths, {own_certified} frames certified by them");
         let [together, certified] = self.together;
@@ -176,15 +178,16 @@ impl Tally {
     }
 }
 
-/// The rows that the library certifies with verdict 1, and with 2, of those not too much work.
-fn certified_rows(random: &mut Random, drawn: &Drawn) -> [Vec<usize>; 2] {
+/// The rows that the library certifies with verdict 1, with 2 and with 4, of those not too much work.
+fn certified_rows(random: &mut Random, drawn: &Drawn) -> [Vec<usize>; 3] {
     let mut lengths = Lent::new(random, &drawn.lengths.concat());
     let mut words = Lent::new(random, &drawn.rows.concat());
-    let mut by_verdict = [Vec::new(), Vec::new()];
+    let mut by_verdict = [Vec::new(), Vec::new(), Vec::new()];
     for row in (0..drawn.rows.len()).filter(|row| drawn.is_cheap(*row)) {
         match Judged::new(library::judge_rows(&mut lengths, &mut words, row as u64)).verdict {
             1 => by_verdict[0].push(row),
             2 => by_verdict[1].push(row),
+            4 => by_verdict[2].push(row),
             _ => (),
         }
     }

@@ -15,6 +15,11 @@ use analyser::table::{
 /// The greatest effort for a row of any shape.
 const MOST_EFFORT: u64 = 300_000;
 
+/// So many alignments of open groups are about as much work as one combination, and of so many
+/// combinations of a level one is looked at.
+const OPEN: u64 = 64;
+const RULED_OUT: u64 = 16;
+
 /// Load in parts of this.
 const WHOLE: u64 = 1_000_000;
 
@@ -45,7 +50,8 @@ pub fn draw_by(random: &mut Random, lengths: LengthTable) -> Drawn {
     let mut drawn = match random.below(100) {
         0..=5 => near_the_limit(random),
         6..=9 => many_scenarios(random),
-        10..=39 => bounds_apart(random, lengths),
+        10..=17 => many_undecided(random, lengths),
+        18..=39 => bounds_apart(random, lengths),
         _ => cheap_row(random, lengths),
     };
     begin_late(random, &mut drawn.rows);
@@ -83,6 +89,19 @@ fn bounds_apart(random: &mut Random, lengths: LengthTable) -> Drawn {
             if cheap && apart(&View::new(&lengths, &rows, row)) {
                 return Drawn { lengths, rows, row };
             }
+        }
+    }
+}
+
+/// Three or four carts of many alignments; some of the levels decide, and some end before the cart that
+/// would.
+fn many_undecided(random: &mut Random, lengths: LengthTable) -> Drawn {
+    loop {
+        let mut rows = judge_cases::three_carts(random, &lengths);
+        let row = rows.len() - 1;
+        if table::check(&rows.concat()).is_ok() && is_cheap(&lengths, &rows, row) {
+            give_nodes(random, &mut rows);
+            return Drawn { lengths, rows, row };
         }
     }
 }
@@ -141,14 +160,24 @@ fn effort(lengths: &LengthTable, rows: &[Row], row: usize) -> u64 {
     let view = View::new(lengths, rows, row);
     let counts: Vec<u64> = view.alignment_counts().collect();
     let own = counts[rows[row][GROUP] as usize - 1];
-    let count = view.scenario_count();
-    let scenarios = if count > LIMITS.scenarios { 0 } else { count };
-    let search = steps(lengths, rows, row) * (own * counts.iter().sum::<u64>() + scenarios);
+    let alignments = counts.iter().sum::<u64>();
+    let steps = steps(lengths, rows, row);
+    let search = steps * (own * alignments + combinations(&view, alignments));
     if search > MOST_EFFORT {
         return search;
     }
     let window = view.rough_window(LIMITS.window).unwrap_or(0);
     search * (1 + window / u64::from(rows[row][PERIOD]))
+}
+
+/// The scenarios, or the combinations of a level, with something for the groups that it leaves open.
+fn combinations(view: &View, alignments: u64) -> u64 {
+    let product = view.level_product(view.deepest_level(LIMITS.scenarios));
+    if view.scenario_count() > LIMITS.scenarios {
+        product * (1 + alignments / OPEN) / RULED_OUT
+    } else {
+        product
+    }
 }
 
 /// About how many steps a search takes: the more, the nearer the load is to 1.
@@ -206,7 +235,7 @@ fn near_the_limit(random: &mut Random) -> Drawn {
 
 /// Scenario counts at, below and above 65536, some of them powers of 2^32, with short windows.
 fn many_scenarios(random: &mut Random) -> Drawn {
-    let counts = match random.below(12) {
+    let counts = match random.below(16) {
         0 => vec![256, 256],
         1 => vec![217, 151, 2],
         2 => vec![226, 145, 2],
@@ -216,6 +245,9 @@ fn many_scenarios(random: &mut Random) -> Drawn {
         6 => vec![256; 4],
         7 => vec![16; 8],
         8 => vec![16; 16],
+        // Of a level: 4 × 128 × 128 = 65536, and 145 × 226 × 2 = 65540.
+        9..=10 => vec![128, 128, 2, 4],
+        11..=12 => vec![226, 2, 2, 145],
         _ => factors(random),
     };
     let payload = random.below(9) as u32;

@@ -34,7 +34,7 @@ impl fmt::Display for Outcome {
     }
 }
 
-/// All that an operation can come to, by document 01 and document 02's requests 2 and 6.
+/// All that an operation can come to, by document 01 and document 02's requests 2, 6 and 13.
 fn possible(operation: Operation) -> Vec<Outcome> {
     use Operation::*;
     let refusals: &[u32] = match operation {
@@ -51,7 +51,7 @@ fn possible(operation: Operation) -> Vec<Outcome> {
     };
     let refused = refusals.iter().map(|number| Outcome::Refused(*number));
     let other = match operation {
-        JudgeFile | JudgeRows => [1, 2, 3, 11, 12].map(Outcome::Verdict).to_vec(),
+        JudgeFile | JudgeRows => [1, 2, 3, 4, 11, 12].map(Outcome::Verdict).to_vec(),
         _ => vec![Outcome::Done],
     };
     refused.chain(other).collect()

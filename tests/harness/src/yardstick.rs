@@ -120,6 +120,8 @@ const PATIENCE: usize = 256;
 struct View {
     blocking: u64,
     scenarios: u64,
+    /// How many groups of the list below the deepest level fixes besides the own one.
+    fixed: usize,
     /// The frame's own group, which has the frame first, and the others with several alignments.
     groups: Vec<Group>,
     /// The frames of other groups with one alignment.
@@ -132,7 +134,8 @@ impl View {
         let below = rows.iter().filter(|other| rank(other) > rank(frame));
         let blocking = below.map(|row| length(lengths, row) - 1).max().unwrap_or(0);
         let others = (1..=GROUPS).filter(|group| *group != frame[GROUP]);
-        let mut view = View { blocking, scenarios: 1, groups: Vec::new(), lone: Vec::new() };
+        let (groups, lone) = (Vec::new(), Vec::new());
+        let mut view = View { blocking, scenarios: 1, fixed: 0, groups, lone };
         for group in [frame[GROUP]].into_iter().chain(others) {
             let of_group = rows.iter().filter(|row| row[GROUP] == group);
             let mut ahead: Vec<&Row> = of_group.filter(|row| rank(row) <= rank(frame)).collect();
@@ -150,6 +153,8 @@ impl View {
         let all = count * (hyperperiod / group.turn());
         self.scenarios = self.scenarios.saturating_mul(all);
         if self.groups.is_empty() || count > 1 {
+            self.fixed +=
+                usize::from(!self.groups.is_empty() && self.scenarios <= LIMITS.scenarios);
             self.groups.push(group);
         } else {
             group.place(group.guess(), &mut self.lone);
@@ -162,11 +167,14 @@ impl View {
         };
         let (verdict, bound) = if rough <= claim {
             (Verdict::CertifiedRough, rough)
-        } else if self.scenarios > LIMITS.scenarios {
-            (Verdict::Undecided, rough)
         } else {
-            let exact = self.precise().expect("the rough bound has a window");
-            (if exact <= claim { Verdict::CertifiedExact } else { Verdict::TooSmall }, exact)
+            let bound = self.precise().expect("the rough bound has a window");
+            match (self.scenarios > LIMITS.scenarios, bound <= claim) {
+                (true, true) => (Verdict::CertifiedLevel, bound),
+                (true, false) => (Verdict::Undecided, rough),
+                (false, true) => (Verdict::CertifiedExact, bound),
+                (false, false) => (Verdict::TooSmall, bound),
+            }
         };
         Judgement { verdict, bound, margin: claim as i64 - bound as i64 }
     }
@@ -204,7 +212,8 @@ impl View {
         Some(best)
     }
 
-    /// The exact bound, where the rough one is found.
+    /// The bound of the deepest level, which is the exact one where all groups are fixed; where the rough
+    /// one is found.
     fn precise(&self) -> Option<u64> {
         let mut best = 0;
         for own in self.groups[0].alignments() {
@@ -217,9 +226,9 @@ impl View {
         Some(best)
     }
 
-    /// The greater of the best and the responses with the open groups fixed one after the other, unless
-    /// nothing below can exceed the best: that is asked anew where the best has risen. From `reach` on
-    /// the instances are shown not to exceed it, also where more groups are fixed.
+    /// The greater of the best and the responses with the open groups fixed one after the other as far as
+    /// the level goes, unless nothing below can exceed the best: that is asked anew where the best has
+    /// risen. From `reach` on the instances are shown not to exceed it, also where more groups are fixed.
     fn improved(
         &self,
         fixed: &mut Vec<Placed>,
@@ -227,7 +236,8 @@ impl View {
         mut reach: u64,
         mut best: u64,
     ) -> Option<u64> {
-        let Some((group, rest)) = open.split_first() else {
+        let level_ends = self.groups.len() - 1 - open.len() == self.fixed;
+        let Some((group, rest)) = open.split_first().filter(|_| !level_ends) else {
             let scenario = Scenario { fixed, open };
             let within = self.sweep(scenario, reach, best, 0) == 0;
             return if within { Some(best) } else { self.raised(scenario, best) };

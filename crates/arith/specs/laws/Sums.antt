@@ -1,15 +1,18 @@
 -- Laws of sums, products and greatest values, over lists and over the places of a list.
 -- A sum over what a test keeps is a sum over the whole list in which the rest counts 0.
-use Prim.Native.Nat.{ℕ, zero, suc, _+_, _*_, _≤_, _<_}
+use Prim.Native.Nat.{ℕ, zero, suc, _+_, _*_, _≤_, _<_, min}
 use mathlib.Core.Path.{_≡_, refl, sym, _∙_, ap, ap₂}
-use mathlib.Core.List.{List, [], _∷_, List·Memᴰ as Mem, List·Memᴰ·head as here, List·Memᴰ·tail as there}
-use mathlib.Core.Bool.{Bool, true, false, cond}
-use mathlib.Core.Logic.{_≢_}
+use mathlib.Core.List.{List, [], _∷_, _++_, List·Memᴰ as Mem, List·Memᴰ·head as here, List·Memᴰ·tail as there, List·Memᴰ·not-nil, List·Memᴰ·cases-cons}
+use mathlib.Core.Bool.{Bool, true, false, not, cond}
+use mathlib.Core.Logic.{_≢_, inl, inr}
 use native.Mathlib.Omega.{arith}
-use native.Mathlib.Decide.{ℕ-discrete, decLt}
-use lib.ListN.{length, getD}
+use native.Mathlib.Decide.{ℕ-discrete, decLe, decLt}
+use native.Mathlib.Nat.{mul-le-mul-left, mul-assoc, mul-left-comm, mul-zero, mul-suc, one-le-mul}
+use lib.Dec.{T, eqb}
+use lib.ListN.{length, getD, take}
 use Rattle.arith.specs.Lists.{sum, product, greatest, keep, range}
-use Rattle.arith.specs.laws.Members.{of-range}
+use Rattle.arith.specs.laws.Members.{Apart, keep-all, of-range}
+use Rattle.arith.specs.laws.Tests.{differs, itself}
 
 module _ {A : Type 0} where
   -- ---- sums
@@ -109,8 +112,48 @@ unfolding sum range
 sum-places f d [] = refl
 sum-places f d (x ∷ xs) = ap (λ (s : ℕ). f x + s) (sum-places f d xs ∙ sym (range-shift (λ i. f (getD (x ∷ xs) i d)) 0 (length xs)))
 
--- A product over a range, moved by one.
-pub product-shift : (f g : ℕ → ℕ) (n m : ℕ) → ((i : ℕ) → n ≤ i → i < n + m → f i ≡ g (suc i)) → product f (range n m) ≡ product g (range (suc n) m)
-unfolding product range
-product-shift f g n zero same = refl
-product-shift f g n (suc m) same = ap₂ _*_ (same n (omega arith) (omega arith)) (product-shift f g (suc n) m (λ i low high. same i (omega arith) (omega arith)))
+-- A longer start of a list has no smaller product, where no factor is 0.
+pub product-take : {A : Type 0} (f : A → ℕ) → ((x : A) → 1 ≤ f x) → {n n′ : ℕ} → n ≤ n′ → (xs : List A) → product f (take n xs) ≤ product f (take n′ xs)
+unfolding product
+product-take f pos {n = zero} {n′} le xs = go (take n′ xs)
+  where
+    go : (ys : List _) → 1 ≤ product f ys
+    go [] = omega arith
+    go (y ∷ ys) = one-le-mul (pos y) (go ys)
+product-take f pos {n = suc n} {n′ = zero} le xs = absurd (omega arith)
+product-take f pos {n = suc n} {n′ = suc n′} le [] = omega arith
+product-take f pos {n = suc n} {n′ = suc n′} le (x ∷ xs) = mul-le-mul-left (f x) (product-take f pos {n = n} {n′ = n′} (omega arith) xs)
+
+-- One factor more at the end.
+pub product-last : {A : Type 0} (f : A → ℕ) (xs : List A) (x : A) → product f (xs ++ (x ∷ [])) ≡ product f xs * f x
+unfolding product
+product-last f [] x = omega arith
+product-last f (y ∷ xs) x = ap (λ (n : ℕ). f y * n) (product-last f xs x) ∙ sym (mul-assoc (f y) (product f xs) (f x))
+
+-- A factor that comes once may come first.
+pub product-first : (f : ℕ → ℕ) {x : ℕ} (xs : List ℕ) → Apart xs → Mem x xs → product f xs ≡ f x * product f (keep (λ y. not (eqb y x)) xs)
+unfolding product keep Apart
+product-first f {x} [] apart m = absurd (List·Memᴰ·not-nil m)
+product-first f {x} (y ∷ ys) (once, apart) m =
+    elim (ℕ-discrete y x) [
+      | yes e ↦
+          let rest = keep-all (λ z. not (eqb z x)) ys (λ z l. differs z x (λ same. once (rw (e, ← same) l))) in
+          rw (e, itself x, rest)
+      | no other ↦
+          let later : Mem x ys = elim (List·Memᴰ·cases-cons m) [ inl same ↦ absurd (other (sym same)) | inr l ↦ l ] in
+          let rest = keep (λ z. not (eqb z x)) ys in
+          rw (passed (not (eqb y x)) (differs y x other)) (ap (λ (n : ℕ). f y * n) (product-first f ys apart later) ∙ mul-left-comm (f y) (f x) (product f rest))
+    ]
+  where
+    passed : (b : Bool) → T b → b ≡ true
+    passed true t = refl
+    passed false t = absurd t
+
+-- Of a product, only what is at most m counts: a factor may be cut at m.
+pub cut-mul : (m x y : ℕ) → min m (min m x * y) ≡ min m (x * y)
+cut-mul m x zero = rw (mul-zero (min m x), mul-zero x)
+cut-mul m x (suc y) =
+    elim (decLe m x) [
+      | yes over ↦ let cut : min m x ≡ m = omega arith in rw cut (omega (arith, mul-suc m y, mul-suc x y))
+      | no under ↦ let kept : min m x ≡ x = omega arith in rw kept
+    ]

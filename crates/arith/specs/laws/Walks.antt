@@ -1,17 +1,16 @@
 -- Loops that go once through a list. Most go up: through a range, or through those numbers of it that pass a test, found one
 -- after the other by a least search. `join done (F rest)` is what such a loop is to find, where `done` is what it has gathered
--- and `rest` is what is left: sums, products, greatest values, counts and selections are each an F and a join.
-use Prim.Native.Nat.{ℕ, zero, suc, _+_, _-_, _*_, _≤_, _<_, min, max}
+-- and `rest` is what is left: sums, greatest values, counts and selections are each an F and a join.
+use Prim.Native.Nat.{ℕ, zero, suc, _+_, _-_, _≤_, _<_, max}
 use mathlib.Core.Path.{_≡_, refl, sym, ap, _∙_}
 use mathlib.Core.List.{List, [], _∷_, _++_, List·Memᴰ as Mem}
 use mathlib.Core.Bool.{Bool, true, false, cond}
-use native.Mathlib.Nat.{sub-zero, mul-assoc, mul-zero, mul-suc}
+use native.Mathlib.Nat.{sub-zero}
 use native.Mathlib.Numerals.{add-one}
-use native.Mathlib.Decide.{decLe}
 use native.Mathlib.Omega.{arith}
 use lib.ListN.{length, getD, drop, drop-of-length-le}
 use lib.Seq.{drop-cons, drop-length, append-snoc}
-use Rattle.arith.specs.Lists.{sum, product, greatest, keep, range}
+use Rattle.arith.specs.Lists.{sum, greatest, keep, range}
 use Rattle.arith.specs.Least.{least}
 use Rattle.arith.specs.laws.Members.{mem-keep, mem-range}
 use Rattle.arith.specs.laws.Least.{least-within}
@@ -19,15 +18,6 @@ use Rattle.arith.specs.declared.Found.{Found}
 use Rattle.arith.specs.declared.Found.the-variants.{At, Nothing}
 
 -- ---- one element more: how a loop's body carries it from what is left to what is done
-
--- Of a product, only what is at most m counts: a factor may be cut at m.
-cut-mul : (m x y : ℕ) → min m (min m x * y) ≡ min m (x * y)
-cut-mul m x zero = rw (mul-zero (min m x), mul-zero x)
-cut-mul m x (suc y) =
-    elim (decLe m x) [
-      | yes over ↦ let cut : min m x ≡ m = omega arith in rw cut (omega (arith, mul-suc m y, mul-suc x y))
-      | no under ↦ let kept : min m x ≡ x = omega arith in rw kept
-    ]
 
 module _ {X : Type 0} where
   -- a sum
@@ -43,12 +33,6 @@ module _ {X : Type 0} where
   -- a count
   pub length-more : (done : ℕ) (a : X) (xs : List X) → done + length (a ∷ xs) ≡ done + 1 + length xs
   length-more done a xs = omega arith
-
-  -- a product of which only what is at most m counts: it may be cut at m
-  pub product-more : (f : X → ℕ) (m done : ℕ) (a : X) {next : ℕ} → next ≡ min m (done * f a) → (xs : List X)
-      → min m (done * product f (a ∷ xs)) ≡ min m (next * product f xs)
-  unfolding product
-  product-more f m done a e xs = rw (e, cut-mul m (done * f a) (product f xs), mul-assoc done (f a) (product f xs))
 
   -- a selection
   pub keep-more : (p : X → Bool) (done : List X) (a : X) {next : List X} → p a ≡ true → next ≡ done ++ (a ∷ []) → (xs : List X) → done ++ keep p (a ∷ xs) ≡ next ++ keep p xs

@@ -1,36 +1,38 @@
--- What the searches for the bounds need: the number of scenarios, the greatest value over a group's alignments as a loop finds it,
+-- What the searches for the bounds need: the number of a group's alignments, the greatest value over a group's alignments as a loop finds it,
 -- and the choices of a search that fixes one group more.
 use Prim.Native.Nat.{ℕ, suc, _+_, _-_, _%_, _≤_, _<_, max}
 use mathlib.Core.Path.{_≡_, refl, sym, ap, subst, _∙_}
-use mathlib.Core.List.{List, [], _∷_, List·Memᴰ as Mem}
+use mathlib.Core.List.{List, _∷_, List·Memᴰ as Mem}
 use mathlib.Core.Bool.{Bool, true, false, _||_}
+use mathlib.Core.Logic.{_≢_}
 use native.Mathlib.Omega.{arith}
-use native.Mathlib.Nat.{mul-pos}
 use native.Mathlib.Numerals.{add-one}
 use lib.Dec.{T}
 use lib.ListN.{length, set, length-set}
 use Rattle.arith.specs.declared.Found.{Found}
 use Rattle.arith.specs.declared.Found.the-variants.{At, Nothing}
-use Rattle.arith.specs.Lists.{product, greatest, exists, range}
+use Rattle.arith.specs.Lists.{greatest, exists, range}
 use Rattle.arith.specs.Least.{least, orZero, isNone}
-use Rattle.arith.specs.laws.Tests.{same-test}
+use Rattle.arith.specs.laws.Tests.{same-test, by-test}
 use Rattle.arith.specs.laws.Members.{of-range, exists-mem, of-exists}
-use Rattle.arith.specs.laws.Sums.{product-shift}
 use Rattle.arith.specs.laws.Walks.{Walk, greatest-more, walk-more, walk-end}
 use Rattle.bus_model.specs.declared.Frame.{Frame}
 use Rattle.bus_model.specs.declared.Choice.{Choice}
 use Rattle.bus_model.specs.declared.Choice.the-variants.{Fixed, Any}
 use Rattle.bus_model.specs.Frame.{row}
 use Rattle.bus_model.specs.Valid.{ValidFrame, Valid}
-use Rattle.bus_model.specs.Bounds.{groups, alignments, orEmpty, choiceOf, ownGroup, scenarios, busyWindow, ownDistance, scenarioResponse, approximateBound, preciseBound, scenarioCount}
-use Rattle.bus_model.specs.Judgement.{lacksWindow}
+use Rattle.bus_model.specs.Bounds.{groups, alignments, orEmpty, choiceOf, ownGroup, scenarios, busyWindow, ownDistance, scenarioResponse, approximateBound, preciseBound}
+use Rattle.bus_model.specs.Levels.{levelBound}
+use Rattle.bus_model.specs.Judgement.{lacksWindow, tooManyScenarios, deepestLevel}
 use Rattle.bus_model.specs.theory.Frames.{group-listed}
 use Rattle.bus_model.specs.theory.Work.{RefinedBy}
 use Rattle.bus_model.specs.theory.Response.{window-refine, own-distance}
+use Rattle.bus_model.specs.theory.Levels.{lastLevel, deepest-last, deepest-before}
 use Rattle.bus_model.specs.theory.Judged.{has-windows}
 use Rattle.bus_model.specs.theory.Visits.{isAlignment}
 use Rattle.bus_model.specs.theory.Refine.{free, set-same, own-scenarios, own-kept, refines-group}
 use Rattle.bus_model.specs.theory.OpenGroups.{isAny, isOpen, nextOpen, fixingMore, next-open, free-open, free-refined, more-refined, more-end, more-none, more-turn, more-pruned, more-window, approximate-more, precise-more}
+use Rattle.bus_model.specs.theory.LevelSearch.{level-found}
 use Rattle.bus_model.specs.theory.Turns.{turn, firstTurn, first-aligned, turned, window-alike, alike-turn, visit-first, found-listed, first-listed}
 use Rattle.workload.specs.Prepared.{FineTable, framesIn, hyperIn, partOf, tableOf, Prepared, InTable}
 use Rattle.alignment_walk.specs.Walk.{visits}
@@ -40,30 +42,12 @@ use Rattle.response_time.specs.laws.Searches.{window-small}
 use Rattle.response_time.specs.laws.Within.{reach-finer}
 use Rattle.bounds.specs.Search.{OwnOpen, Limits}
 
--- ---- the number of scenarios
+-- ---- the number of a group's alignments
 
--- how many alignments of group i + 1 the walk visits, an empty one counting 1
-abbrev pub countAt : List ℕ → List ℕ → ℕ → ℕ
-countAt rows p i = length (orEmpty (visits (framesIn (tableOf rows p) (partOf p i)) (hyperIn p i)))
-
--- Their product is the scenario count.
-pub counts-product : {rows p : List ℕ} {k : Frame} → Prepared rows p k → product (countAt rows p) (range 0 16) ≡ scenarioCount (tableOf rows p) k
-unfolding scenarioCount
-counts-product {rows} {p} {k} g =
-    product-shift _ (λ j. length (orEmpty (alignments (tableOf rows p) k j))) 0 16
-    (λ i low high. rw (g .by-group .part i (omega arith), g .by-group .hyper i (omega arith), add-one i) (visits-factor (tableOf rows p) k (suc i)))
-
--- Each is at least 1.
-some-alignment : (xs : List ℕ) → 1 ≤ length (orEmpty xs)
-unfolding orEmpty
-some-alignment [] = omega arith
-some-alignment (x ∷ xs) = omega arith
-
--- So is the product over some groups.
-pub counts-some : (rows p js : List ℕ) → 1 ≤ product (countAt rows p) js
-unfolding product
-counts-some rows p [] = omega arith
-counts-some rows p (j ∷ js) = mul-pos (some-alignment _) (counts-some rows p js)
+-- It is how many the walk visits, an empty one counting 1.
+pub counted : {rows p : List ℕ} {k : Frame} → Prepared rows p k → {i : ℕ} → i < 16
+    → length (orEmpty (visits (framesIn (tableOf rows p) (partOf p i)) (hyperIn p i))) ≡ length (orEmpty (alignments (tableOf rows p) k (i + 1)))
+counted {rows} {p} {k} g {i} less = rw (g .by-group .part i less, g .by-group .hyper i less, add-one i) (visits-factor (tableOf rows p) k (suc i))
 
 -- ---- the greatest value over a group's alignments, as a loop finds it
 
@@ -198,6 +182,15 @@ module _ {fs : List Frame} (accepted : FineTable fs) {k : Frame} (table : InTabl
       unfolding exists
       missing-end none = walk-end _ _ _ _ _ {next = false} (m .walk) goes-by none
 
+  -- ---- the deepest level
+
+  -- There are not too many scenarios just where it is the last.
+  pub few-scenarios : deepestLevel fs k ≡ lastLevel → tooManyScenarios fs k ≡ false
+  few-scenarios last = by-test (tooManyScenarios fs k) (λ many. absurd (omega (arith, deepest-before fs valid-self many))) (λ few. few)
+
+  pub many-scenarios : deepestLevel fs k ≢ lastLevel → tooManyScenarios fs k ≡ true
+  many-scenarios other = by-test (tooManyScenarios fs k) (λ many. many) (λ few. absurd (other (deepest-last fs valid-self few)))
+
   -- ---- one group more
 
   module _ (cs : List Choice) (long : length cs ≡ groups) where
@@ -287,9 +280,12 @@ module _ {fs : List Frame} (accepted : FineTable fs) {k : Frame} (table : InTabl
   pub free-start : OwnOpen fs k free
   free-start = record { refines = free-refined fs k; any = free-open (k .group) (group-listed valid-self) }
 
-  -- With one group fixed the approximate bound is found, and with all the precise one.
+  -- With one group fixed the approximate bound is found, with more that of a level, and with all the precise one.
   pub one-fixed : {r : ℕ} → r ≡ max 0 (fixingMore fs k 1 free) → r ≡ approximateBound fs k
   one-fixed e = omega (arith, approximate-more fs valid-self)
+
+  pub level-fixed : (m : ℕ) {r : ℕ} → r ≡ max 0 (fixingMore fs k (m + 1) free) → r ≡ levelBound fs k m
+  level-fixed m e = omega (arith, ap (λ (n : ℕ). fixingMore fs k n free) (add-one m), level-found fs valid-self m)
 
   pub all-fixed : {r : ℕ} → r ≡ max 0 (fixingMore fs k 16 free) → r ≡ preciseBound fs k
   all-fixed e = omega (arith, precise-more fs valid-self)

@@ -21,7 +21,8 @@ use Rattle.bus_model.specs.Bus.{Transmission, Waiting, Idle, Next, Runs,
 use Rattle.bus_model.specs.Valid.{ValidFrame, Valid}
 use Rattle.bus_model.specs.Pattern.{ofGroup, hyperperiod}
 use Rattle.bus_model.specs.Bounds.{groups, windowLimit, isAhead, isBetter, isBelow, ahead, better, below, blocking, phase, isReleasedAt, alignments, distance, choiceOf, orEmpty, choices, scenarios, ownGroup, demand, workAt, groupWork, work, windowLoad, busyWindow, delayLoad, queueingDelay, ownDistance, instanceResponse, responseTime, scenarioResponse, boundOf, scenarioCount}
-use Rattle.bus_model.specs.Judgement.{lacksWindow, tooManyScenarios, preciseOutcome, refinedOutcome, windowedOutcome, outcomeOf, judge}
+use Rattle.bus_model.specs.Levels.{fixingOrder, fixedAt, fixes, levelBound, levelCount}
+use Rattle.bus_model.specs.Judgement.{scenarioLimit, lacksWindow, tooManyScenarios, deepestLevel, preciseOutcome, crowdedOutcome, refinedOutcome, windowedOutcome, outcomeOf, judge}
 use Rattle.arith.specs.declared.Found.the-variants.{At, Nothing}
 use Rattle.bus_model.specs.declared.Frame.{Frame}
 use Rattle.bus_model.specs.declared.Choice.{Choice}
@@ -167,10 +168,19 @@ module _ (r o : Frame → ℕ) (phased : (g : Frame) → phase (recast r o g) �
   unfolding lacksWindow
   lacks-alike = λ i. exists (λ cs. isNone (window-alike i cs)) (scenarios-alike i (ownGroup k))
 
+  -- So are the levels' bounds, and the deepest that is looked at.
+  level-alike : levelBound (map h fs) (h k) ≡ levelBound fs k
+  unfolding levelBound fixedAt fixingOrder
+  level-alike = λ i m. bound-alike i (fixes k m)
+
+  deepest-alike : deepestLevel (map h fs) (h k) ≡ deepestLevel fs k
+  unfolding deepestLevel levelCount fixedAt fixingOrder
+  deepest-alike = λ i. greatest (λ m. m) (keep (λ m. leb (product (λ j. length (orEmpty (alignments-alike i j))) (fixedAt k m)) scenarioLimit) (range 0 groups))
+
   -- So the judgement is the same.
   pub judge-alike : judge (map h fs) (h k) ≡ judge fs k
-  unfolding judge outcomeOf windowedOutcome refinedOutcome preciseOutcome tooManyScenarios
-  judge-alike = fun-ext (λ claim. rw (lacks-alike, bound-alike, count-alike))
+  unfolding judge outcomeOf windowedOutcome refinedOutcome crowdedOutcome preciseOutcome tooManyScenarios
+  judge-alike = fun-ext (λ claim. rw (lacks-alike, bound-alike, count-alike, level-alike, deepest-alike))
 
 -- ---- schedules
 

@@ -18,16 +18,17 @@ use Rattle.arith.specs.laws.Sums.{le-greatest, greatest-exceeds}
 use Rattle.bus_model.specs.Frame.{row}
 use Rattle.bus_model.specs.Valid.{Valid}
 use Rattle.bus_model.specs.Bounds.{scenarios, everyGroup, busyWindow, ownDistance, instanceResponse, responseTime, scenarioResponse, boundOf, preciseBound}
-use Rattle.bus_model.specs.Judgement.{verdict, judge}
+use Rattle.bus_model.specs.Judgement.{deepestLevel, verdict, judge}
 use Rattle.bus_model.specs.Case.{noCase, orElse, shown, exceedingInstance, caseIn, firstAmong, firstCase, caseOf}
 use Rattle.bus_model.specs.theory.Response.{response-at, response-none}
+use Rattle.bus_model.specs.theory.Levels.{lastLevel, deepest-le, level-last, level-refine}
 use Rattle.bus_model.specs.theory.Judged.{by-outcome, precise-le-approximate}
 use Rattle.arith.specs.declared.Found.{Found}
 use Rattle.arith.specs.declared.Found.the-variants.{At, Nothing}
 use Rattle.bus_model.specs.declared.Frame.{Frame}
 use Rattle.bus_model.specs.declared.Choice.{Choice}
 use Rattle.bus_model.specs.declared.Outcome.{Outcome}
-use Rattle.bus_model.specs.declared.Outcome.the-variants.{CertifiedApproximate, CertifiedPrecise, ClaimTooSmall, Undecided, NoWindow}
+use Rattle.bus_model.specs.declared.Outcome.the-variants.{CertifiedApproximate, CertifiedPrecise, ClaimTooSmall, CertifiedLevel, Undecided, NoWindow}
 use Rattle.bus_model.specs.declared.Case.{Case}
 
 -- there is a case
@@ -241,7 +242,8 @@ module _ {fs : List Frame} (valid : Valid fs) {k : ℕ} (inside : k < length fs)
       by-outcome (λ o. verdict o ≢ 11 → verdict o ≢ 12 → (verdict o ≡ 3) ↔ Exists (firstCase fs f claim)) fs f claim
       (λ lacks n11 n12. absurd (n11 refl))
       (λ windows le n11 n12. none (omega (arith, precise-le-approximate valid inside windows)) (λ e. omega arith))
-      (λ windows less many n11 n12. absurd (n12 refl))
+      (λ windows exceeds many le n11 n12. none (omega (arith, level-refine valid inside windows {m = deepestLevel fs f} {n = lastLevel} (deepest-le fs f), level-last fs (valid .frame k inside))) (λ e. omega arith))
+      (λ windows less many over n11 n12. absurd (n12 refl))
       (λ windows exceeds few le n11 n12. none le (λ e. omega arith))
       (λ windows exceeds few less n11 n12. (λ e. case-exists fs f claim .1 less, λ some. refl))
     where
@@ -254,6 +256,7 @@ unfolding verdict caseOf
 case-of-small fs k claim (CertifiedApproximate b) e = absurd (omega arith)
 case-of-small fs k claim (CertifiedPrecise b) e = absurd (omega arith)
 case-of-small fs k claim (ClaimTooSmall b) e = refl
+case-of-small fs k claim (CertifiedLevel b) e = absurd (omega arith)
 case-of-small fs k claim (Undecided b) e = absurd (omega arith)
 case-of-small fs k claim NoWindow e = absurd (omega arith)
 
@@ -262,5 +265,6 @@ unfolding verdict caseOf
 case-of-other fs k claim (CertifiedApproximate b) other = refl
 case-of-other fs k claim (CertifiedPrecise b) other = refl
 case-of-other fs k claim (ClaimTooSmall b) other = absurd (other refl)
+case-of-other fs k claim (CertifiedLevel b) other = refl
 case-of-other fs k claim (Undecided b) other = refl
 case-of-other fs k claim NoWindow other = refl

@@ -6,32 +6,35 @@ use mathlib.Core.Bool.{cond}
 use lib.Dec.{leb, eqb}
 use Rattle.arith.specs.laws.Tests.{by-test}
 use Rattle.bus_model.specs.Bounds.{approximateBound, preciseBound}
-use Rattle.bus_model.specs.Judgement.{lacksWindow, tooManyScenarios, preciseOutcome, refinedOutcome, windowedOutcome, outcomeOf, verdict, boundUsed, marginOf, judge}
+use Rattle.bus_model.specs.Levels.{levelBound}
+use Rattle.bus_model.specs.Judgement.{lacksWindow, tooManyScenarios, deepestLevel, preciseOutcome, crowdedOutcome, refinedOutcome, windowedOutcome, outcomeOf, verdict, boundUsed, marginOf, judge}
 use Rattle.bus_model.specs.Finding.{Finding, findingOf, findingFor}
 use Rattle.bus_model.specs.declared.Frame.{Frame}
 use Rattle.bus_model.specs.declared.Outcome.{Outcome}
-use Rattle.bus_model.specs.declared.Outcome.the-variants.{CertifiedApproximate, CertifiedPrecise, ClaimTooSmall, Undecided, NoWindow}
+use Rattle.bus_model.specs.declared.Outcome.the-variants.{CertifiedApproximate, CertifiedPrecise, ClaimTooSmall, CertifiedLevel, Undecided, NoWindow}
 use Rattle.bus_model.specs.declared.Judgement.{Judgement}
 
 pub judge-finds : (fs : List Frame) (k : Frame) (claim : ℕ) → findingOf (judge fs k claim) ≡ findingFor fs k claim
-unfolding findingOf findingFor judge outcomeOf windowedOutcome refinedOutcome preciseOutcome verdict boundUsed marginOf
+unfolding findingOf findingFor judge outcomeOf windowedOutcome refinedOutcome crowdedOutcome preciseOutcome verdict boundUsed marginOf
 judge-finds fs k claim =
     by-test (lacksWindow fs k) (λ w. simp w)
     (λ w. by-test (leb (approximateBound fs k) claim) (λ a. simp (w, a))
-    (λ a. by-test (tooManyScenarios fs k) (λ m. simp (w, a, m))
+    (λ a. by-test (tooManyScenarios fs k)
+    (λ m. by-test (leb (levelBound fs k (deepestLevel fs k)) claim) (λ d. simp (w, a, m, d)) (λ d. simp (w, a, m, d)))
     (λ m. by-test (leb (preciseBound fs k) claim) (λ p. simp (w, a, m, p)) (λ p. simp (w, a, m, p)))))
 
 -- the outcome with a verdict and the bound used
 outcomeBy : ℕ → ℕ → Outcome
 outcomeBy v b =
     cond (eqb v 1) (CertifiedApproximate b)
-    (cond (eqb v 2) (CertifiedPrecise b) (cond (eqb v 3) (ClaimTooSmall b) (cond (eqb v 12) (Undecided b) NoWindow)))
+    (cond (eqb v 2) (CertifiedPrecise b) (cond (eqb v 3) (ClaimTooSmall b) (cond (eqb v 4) (CertifiedLevel b) (cond (eqb v 12) (Undecided b) NoWindow))))
 
 outcome-back : (o : Outcome) → outcomeBy (verdict o) (boundUsed o) ≡ o
 unfolding outcomeBy verdict boundUsed
 outcome-back (CertifiedApproximate b) = refl
 outcome-back (CertifiedPrecise b) = refl
 outcome-back (ClaimTooSmall b) = refl
+outcome-back (CertifiedLevel b) = refl
 outcome-back (Undecided b) = refl
 outcome-back NoWindow = refl
 

@@ -21,9 +21,10 @@ use Rattle.bus_model.specs.Frame.{row}
 use Rattle.bus_model.specs.Valid.{ValidFrame, Valid}
 use Rattle.bus_model.specs.Pattern.{ofGroup, hyperperiod}
 use Rattle.bus_model.specs.Bounds.{groups, alignments, orEmpty, choiceOf, choices, scenarios, everyGroup, scenarioResponse}
+use Rattle.bus_model.specs.Levels.{fixingOrder}
 use Rattle.bus_model.specs.Case.{noCase, orElse, caseIn, firstAmong, firstCase}
 use Rattle.bus_model.specs.theory.Scenarios.{scenariosOf, scenario-is}
-use Rattle.bus_model.specs.theory.Order.{fixingOrder, order-group, order-all, order-length}
+use Rattle.bus_model.specs.theory.Order.{order-group, order-all, order-length}
 use Rattle.bus_model.specs.theory.Cases.{Exists, no-instance, no-case-in, else-first, else-second, among-append, among-none, among-some}
 use Rattle.bus_model.specs.theory.Refine.{refined, free, set-same, set-other, refined-choices}
 use Rattle.bus_model.specs.theory.Visits.{isAlignment}

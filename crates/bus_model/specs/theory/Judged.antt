@@ -3,7 +3,8 @@
 use Prim.Native.Nat.{ℕ, zero, suc, _≤_, _<_}
 use mathlib.Core.Path.{_≡_, refl}
 use mathlib.Core.List.{List}
-use mathlib.Core.Logic.{_↔_, _⊎_, inl, inr}
+use mathlib.Core.Bool.{Bool, true, false, cond}
+use mathlib.Core.Logic.{_≢_, _↔_, _⊎_, inl, inr}
 use native.Mathlib.Omega.{arith}
 use borrow.Author.Tests.{lt-ltb, le-ltb}
 use lib.Dec.{T, leb, leb→le, le→leb, eqb-refl}
@@ -17,12 +18,14 @@ use Rattle.bus_model.specs.Frame.{row}
 use Rattle.bus_model.specs.Valid.{Valid}
 use Rattle.bus_model.specs.Bus.{MeetsClaim}
 use Rattle.bus_model.specs.Bounds.{windowLimit, ownGroup, everyGroup, busyWindow, approximateBound, preciseBound}
-use Rattle.bus_model.specs.Judgement.{lacksWindow, tooManyScenarios, preciseOutcome, refinedOutcome, windowedOutcome, outcomeOf, verdict, boundUsed, marginOf, judge, MarginSign, certifies}
+use Rattle.bus_model.specs.Levels.{levelBound}
+use Rattle.bus_model.specs.Judgement.{lacksWindow, tooManyScenarios, deepestLevel, preciseOutcome, crowdedOutcome, refinedOutcome, windowedOutcome, outcomeOf, verdict, boundUsed, marginOf, judge, MarginSign, certifies}
 use Rattle.bus_model.specs.theory.Scenarios.{Windowed, bound-le-limit, windows-refine, bound-refine}
 use Rattle.bus_model.specs.theory.Soundness.{sound-approximate, sound-precise}
+use Rattle.bus_model.specs.theory.Levels.{sound-level, level-le-limit}
 use Rattle.bus_model.specs.declared.Frame.{Frame}
 use Rattle.bus_model.specs.declared.Outcome.{Outcome}
-use Rattle.bus_model.specs.declared.Outcome.the-variants.{CertifiedApproximate, CertifiedPrecise, ClaimTooSmall, Undecided, NoWindow}
+use Rattle.bus_model.specs.declared.Outcome.the-variants.{CertifiedApproximate, CertifiedPrecise, ClaimTooSmall, CertifiedLevel, Undecided, NoWindow}
 
 -- The approximate scenarios have windows where none lacks one.
 pub has-windows : (fs : List Frame) (k : Frame) → ¬ T (lacksWindow fs k) → Windowed fs k (ownGroup k)
@@ -33,21 +36,60 @@ has-windows fs k has cs m = not-none (busyWindow fs k cs) (λ t. has (exists-mem
 pub by-outcome : (P : Outcome → Type 0) (fs : List Frame) (k : Frame) (claim : ℕ)
     → (T (lacksWindow fs k) → P NoWindow)
     → (Windowed fs k (ownGroup k) → approximateBound fs k ≤ claim → P (CertifiedApproximate (approximateBound fs k)))
-    → (Windowed fs k (ownGroup k) → claim < approximateBound fs k → T (tooManyScenarios fs k) → P (Undecided (approximateBound fs k)))
+    → (Windowed fs k (ownGroup k) → claim < approximateBound fs k → T (tooManyScenarios fs k) → levelBound fs k (deepestLevel fs k) ≤ claim → P (CertifiedLevel (levelBound fs k (deepestLevel fs k))))
+    → (Windowed fs k (ownGroup k) → claim < approximateBound fs k → T (tooManyScenarios fs k) → claim < levelBound fs k (deepestLevel fs k) → P (Undecided (approximateBound fs k)))
     → (Windowed fs k (ownGroup k) → claim < approximateBound fs k → ¬ T (tooManyScenarios fs k) → preciseBound fs k ≤ claim → P (CertifiedPrecise (preciseBound fs k)))
     → (Windowed fs k (ownGroup k) → claim < approximateBound fs k → ¬ T (tooManyScenarios fs k) → claim < preciseBound fs k → P (ClaimTooSmall (preciseBound fs k)))
     → P (outcomeOf fs k claim)
-unfolding outcomeOf windowedOutcome refinedOutcome preciseOutcome
-by-outcome P fs k claim lacking approximate crowded precise small =
+unfolding outcomeOf windowedOutcome refinedOutcome crowdedOutcome preciseOutcome
+by-outcome P fs k claim lacking approximate level undecided precise small =
     cond-cases P (lacksWindow fs k) lacking (λ has.
     let windows = has-windows fs k has in
     cond-cases P (leb (approximateBound fs k) claim) (λ t. approximate windows (leb→le _ _ t)) (λ more.
     let exceeds : claim < approximateBound fs k = not-leb more in
-    cond-cases P (tooManyScenarios fs k) (λ many. crowded windows exceeds many) (λ few.
+    cond-cases P (tooManyScenarios fs k) (λ many.
+    cond-cases P (leb (levelBound fs k (deepestLevel fs k)) claim) (λ t. level windows exceeds many (leb→le _ _ t)) (λ more′. undecided windows exceeds many (not-leb more′))) (λ few.
     cond-cases P (leb (preciseBound fs k) claim) (λ t. precise windows exceeds few (leb→le _ _ t)) (λ more′. small windows exceeds few (not-leb more′)))))
   where
     not-leb : {b : ℕ} → ¬ T (leb b claim) → claim < b
     not-leb {b} h = let less : ¬ (b ≤ claim) = λ le. h (le→leb b claim le) in omega arith
+
+-- ---- the levels between the bounds
+
+-- the outcome without them, as document 01 alone gives it
+unfoldable pub plainOutcome : List Frame → Frame → ℕ → Outcome
+plainOutcome fs k claim =
+    let b = approximateBound fs k in
+    cond (lacksWindow fs k) NoWindow (cond (leb b claim) (CertifiedApproximate b) (cond (tooManyScenarios fs k) (Undecided b) (preciseOutcome fs k claim)))
+
+module _ (fs : List Frame) (k : Frame) (claim : ℕ) where
+  -- "Other verdicts are untouched".
+  pub untouched : verdict (plainOutcome fs k claim) ≢ 12 → outcomeOf fs k claim ≡ plainOutcome fs k claim
+  unfolding plainOutcome outcomeOf windowedOutcome refinedOutcome verdict
+  untouched other = go (lacksWindow fs k) (leb (approximateBound fs k) claim) (tooManyScenarios fs k) other
+    where
+      go : (lacks fits many : Bool) → verdict (cond lacks NoWindow (cond fits (CertifiedApproximate (approximateBound fs k)) (cond many (Undecided (approximateBound fs k)) (preciseOutcome fs k claim)))) ≢ 12
+          → cond lacks NoWindow (cond fits (CertifiedApproximate (approximateBound fs k)) (cond many (crowdedOutcome fs k claim (approximateBound fs k)) (preciseOutcome fs k claim)))
+          ≡ cond lacks NoWindow (cond fits (CertifiedApproximate (approximateBound fs k)) (cond many (Undecided (approximateBound fs k)) (preciseOutcome fs k claim)))
+      go true fits many h = refl
+      go false true many h = refl
+      go false false true h = absurd (h refl)
+      go false false false h = refl
+
+  -- "Where 12 was given", the deepest level decides.
+  pub levels-decide : verdict (plainOutcome fs k claim) ≡ 12 → outcomeOf fs k claim ≡ crowdedOutcome fs k claim (approximateBound fs k)
+  unfolding plainOutcome outcomeOf windowedOutcome refinedOutcome preciseOutcome verdict
+  levels-decide undecided = go (lacksWindow fs k) (leb (approximateBound fs k) claim) (tooManyScenarios fs k) (leb (preciseBound fs k) claim) undecided
+    where
+      go : (lacks fits many small : Bool)
+          → verdict (cond lacks NoWindow (cond fits (CertifiedApproximate (approximateBound fs k)) (cond many (Undecided (approximateBound fs k)) (cond small (CertifiedPrecise (preciseBound fs k)) (ClaimTooSmall (preciseBound fs k)))))) ≡ 12
+          → cond lacks NoWindow (cond fits (CertifiedApproximate (approximateBound fs k)) (cond many (crowdedOutcome fs k claim (approximateBound fs k)) (cond small (CertifiedPrecise (preciseBound fs k)) (ClaimTooSmall (preciseBound fs k)))))
+          ≡ crowdedOutcome fs k claim (approximateBound fs k)
+      go true fits many small e = absurd (omega arith)
+      go false true many small e = absurd (omega arith)
+      go false false true small e = refl
+      go false false false true e = absurd (omega arith)
+      go false false false false e = absurd (omega arith)
 
 -- ---- the margin
 
@@ -71,20 +113,22 @@ margin-sign fs k claim =
     by-outcome (λ o. (marginOf claim o <ℤ pos 0) ↔ ((verdict o ≡ 3) ⊎ (verdict o ≡ 12))) fs k claim
     (λ lacks. (λ t. absurd (not-below 0 t), elim [ inl e ↦ omega arith | inr e ↦ omega arith ]))
     (λ windows le. (λ t. absurd (margin-positive le t), elim [ inl e ↦ absurd (omega arith) | inr e ↦ absurd (omega arith) ]))
-    (λ windows less many. (λ t. inr refl, λ e. margin-negative less))
+    (λ windows exceeds many le. (λ t. absurd (margin-positive le t), elim [ inl e ↦ absurd (omega arith) | inr e ↦ absurd (omega arith) ]))
+    (λ windows less many over. (λ t. inr refl, λ e. margin-negative less))
     (λ windows exceeds few le. (λ t. absurd (margin-positive le t), elim [ inl e ↦ absurd (omega arith) | inr e ↦ absurd (omega arith) ]))
     (λ windows exceeds few less. (λ t. inl refl, λ e. margin-negative less))
 
 -- ---- demand 3
 
--- "Certified" is verdict 1 or 2.
-pub certified-verdict : (o : Outcome) → T (certifies o) ↔ ((verdict o ≡ 1) ⊎ (verdict o ≡ 2))
+-- "Certified" is verdict 1, 2 or 4.
+pub certified-verdict : (o : Outcome) → T (certifies o) ↔ ((verdict o ≡ 1) ⊎ (verdict o ≡ 2) ⊎ (verdict o ≡ 4))
 unfolding certifies verdict
 certified-verdict (CertifiedApproximate b) = (λ t. inl refl, λ e. tt)
-certified-verdict (CertifiedPrecise b) = (λ t. inr refl, λ e. tt)
-certified-verdict (ClaimTooSmall b) = (λ t. absurd t, elim [ inl e ↦ omega arith | inr e ↦ omega arith ])
-certified-verdict (Undecided b) = (λ t. absurd t, elim [ inl e ↦ omega arith | inr e ↦ omega arith ])
-certified-verdict NoWindow = (λ t. absurd t, elim [ inl e ↦ omega arith | inr e ↦ omega arith ])
+certified-verdict (CertifiedPrecise b) = (λ t. inr (inl refl), λ e. tt)
+certified-verdict (ClaimTooSmall b) = (λ t. absurd t, elim [ inl e ↦ omega arith | inr (inl e) ↦ omega arith | inr (inr e) ↦ omega arith ])
+certified-verdict (CertifiedLevel b) = (λ t. inr (inr refl), λ e. tt)
+certified-verdict (Undecided b) = (λ t. absurd t, elim [ inl e ↦ omega arith | inr (inl e) ↦ omega arith | inr (inr e) ↦ omega arith ])
+certified-verdict NoWindow = (λ t. absurd t, elim [ inl e ↦ omega arith | inr (inl e) ↦ omega arith | inr (inr e) ↦ omega arith ])
 
 module _ {fs : List Frame} (valid : Valid fs) {k : ℕ} (inside : k < length fs) where
   abbrev f : Frame
@@ -97,7 +141,8 @@ module _ {fs : List Frame} (valid : Valid fs) {k : ℕ} (inside : k < length fs)
       by-outcome (λ o. T (certifies o) → MeetsClaim fs k claim) fs f claim
       (λ lacks t. absurd t)
       (λ windows le t. sound-approximate valid inside windows claim le)
-      (λ windows less many t. absurd t)
+      (λ windows exceeds many le t. sound-level valid inside windows (deepestLevel fs f) claim le)
+      (λ windows less many over t. absurd t)
       (λ windows exceeds few le t. sound-precise valid inside windows claim le)
       (λ windows exceeds few less t. absurd t)
 
@@ -123,6 +168,7 @@ module _ {fs : List Frame} (valid : Valid fs) {k : ℕ} (inside : k < length fs)
       by-outcome (λ o. boundUsed o ≤ windowLimit) fs f claim
       (λ lacks. omega arith)
       (λ windows le. approximate)
-      (λ windows less many. approximate)
+      (λ windows exceeds many le. level-le-limit valid inside (deepestLevel fs f))
+      (λ windows less many over. approximate)
       (λ windows exceeds few le. precise)
       (λ windows exceeds few less. precise)

@@ -18,7 +18,8 @@ use Rattle.bus_model.specs.Bus.{Transmission, Schedule}
 use Rattle.bus_model.specs.Valid.{Valid, Early}
 use Rattle.bus_model.specs.Pattern.{ofGroup, hyperperiod}
 use Rattle.bus_model.specs.Bounds.{groups, windowLimit, ahead, better, blocking, phase, isReleasedAt, alignments, distance, choiceOf, orEmpty, choices, scenarios, ownGroup, everyGroup, demand, workAt, groupWork, work, windowLoad, busyWindow, delayLoad, queueingDelay, ownDistance, instanceResponse, responseTime, scenarioResponse, boundOf, scenarioCount}
-use Rattle.bus_model.specs.Judgement.{scenarioLimit, lacksWindow, tooManyScenarios, preciseOutcome, refinedOutcome, windowedOutcome, outcomeOf, boundUsed, marginOf, judge}
+use Rattle.bus_model.specs.Levels.{fixedAt, fixes, levelBound, levelCount}
+use Rattle.bus_model.specs.Judgement.{scenarioLimit, lacksWindow, tooManyScenarios, deepestLevel, preciseOutcome, crowdedOutcome, refinedOutcome, windowedOutcome, outcomeOf, boundUsed, marginOf, judge}
 use Rattle.bus_model.specs.theory.Frames.{phase-fits, phase-offset, better-ahead, of-ahead, of-group}
 use Rattle.bus_model.specs.theory.Alike.{early, row-early, judge-early}
 use Rattle.arith.specs.declared.Found.{Found}
@@ -27,7 +28,7 @@ use Rattle.bus_model.specs.declared.Frame.{Frame}
 use Rattle.bus_model.specs.declared.Choice.{Choice}
 use Rattle.bus_model.specs.declared.Choice.the-variants.{Fixed, Any}
 use Rattle.bus_model.specs.declared.Outcome.{Outcome}
-use Rattle.bus_model.specs.declared.Outcome.the-variants.{CertifiedApproximate, CertifiedPrecise, ClaimTooSmall, Undecided, NoWindow}
+use Rattle.bus_model.specs.declared.Outcome.the-variants.{CertifiedApproximate, CertifiedPrecise, ClaimTooSmall, CertifiedLevel, Undecided, NoWindow}
 use Rattle.bus_model.specs.declared.Judgement.{Judgement}
 
 -- ---- with o in place of `phase`
@@ -92,6 +93,12 @@ module _ (o : Frame → ℕ) where
   unfoldable pub scenarioCountWith : List Frame → Frame → ℕ
   scenarioCountWith fs k = product (λ j. length (orEmpty (alignmentsWith fs k j))) (range 1 groups)
 
+  unfoldable pub levelCountWith : List Frame → Frame → ℕ → ℕ
+  levelCountWith fs k m = product (λ j. length (orEmpty (alignmentsWith fs k j))) (fixedAt k m)
+
+  unfoldable pub deepestLevelWith : List Frame → Frame → ℕ
+  deepestLevelWith fs k = greatest (λ m. m) (keep (λ m. leb (levelCountWith fs k m) scenarioLimit) (range 0 groups))
+
   unfoldable pub lacksWindowWith : List Frame → Frame → Bool
   lacksWindowWith fs k = exists (λ cs. isNone (busyWindowWith fs k cs)) (scenariosWith fs k (ownGroup k))
 
@@ -101,8 +108,11 @@ module _ (o : Frame → ℕ) where
   unfoldable pub preciseOutcomeWith : List Frame → Frame → ℕ → Outcome
   preciseOutcomeWith fs k claim = let b = boundWith fs k everyGroup in cond (leb b claim) (CertifiedPrecise b) (ClaimTooSmall b)
 
+  unfoldable pub crowdedOutcomeWith : List Frame → Frame → ℕ → ℕ → Outcome
+  crowdedOutcomeWith fs k claim b = let c = boundWith fs k (fixes k (deepestLevelWith fs k)) in cond (leb c claim) (CertifiedLevel c) (Undecided b)
+
   unfoldable pub refinedOutcomeWith : List Frame → Frame → ℕ → ℕ → Outcome
-  refinedOutcomeWith fs k claim b = cond (tooManyWith fs k) (Undecided b) (preciseOutcomeWith fs k claim)
+  refinedOutcomeWith fs k claim b = cond (tooManyWith fs k) (crowdedOutcomeWith fs k claim b) (preciseOutcomeWith fs k claim)
 
   unfoldable pub windowedOutcomeWith : List Frame → Frame → ℕ → Outcome
   windowedOutcomeWith fs k claim = let b = boundWith fs k (ownGroup k) in cond (leb b claim) (CertifiedApproximate b) (refinedOutcomeWith fs k claim b)
@@ -117,7 +127,7 @@ module _ (o : Frame → ℕ) where
 
 -- what `refl` sees through
 unfoldable readings : ℕ
-unfolding isReleasedWith alignmentsWith distanceWith choicesWith scenariosWith demandWith workAtWith groupWorkWith workWith windowLoadWith busyWindowWith delayLoadWith queueingDelayWith ownDistanceWith instanceResponseWith responseTimeWith scenarioResponseWith boundWith scenarioCountWith lacksWindowWith tooManyWith preciseOutcomeWith refinedOutcomeWith windowedOutcomeWith outcomeWith judgeWith isReleasedAt alignments distance choices scenarios demand workAt groupWork work windowLoad busyWindow delayLoad queueingDelay ownDistance instanceResponse responseTime scenarioResponse boundOf scenarioCount lacksWindow tooManyScenarios preciseOutcome refinedOutcome windowedOutcome outcomeOf judge
+unfolding isReleasedWith alignmentsWith distanceWith choicesWith scenariosWith demandWith workAtWith groupWorkWith workWith windowLoadWith busyWindowWith delayLoadWith queueingDelayWith ownDistanceWith instanceResponseWith responseTimeWith scenarioResponseWith boundWith scenarioCountWith levelCountWith deepestLevelWith lacksWindowWith tooManyWith preciseOutcomeWith crowdedOutcomeWith refinedOutcomeWith windowedOutcomeWith outcomeWith judgeWith isReleasedAt alignments distance choices scenarios demand workAt groupWork work windowLoad busyWindow delayLoad queueingDelay ownDistance instanceResponse responseTime scenarioResponse boundOf scenarioCount levelBound levelCount deepestLevel lacksWindow tooManyScenarios preciseOutcome crowdedOutcome refinedOutcome windowedOutcome outcomeOf judge
 readings = 0
 
 module _ (fs : List Frame) (k : Frame) where
@@ -215,9 +225,13 @@ module _ (o u : Frame → ℕ) {fs : List Frame} (agree : (g : Frame) → Mem g 
   unfolding lacksWindowWith
   lacks-agree = λ i. exists (λ cs. isNone (window-agree i cs)) (scenarios-agree i (ownGroup k))
 
+  deepest-agree : deepestLevelWith o fs k ≡ deepestLevelWith u fs k
+  unfolding deepestLevelWith levelCountWith
+  deepest-agree = λ i. greatest (λ m. m) (keep (λ m. leb (product (λ j. length (orEmpty (alignments-agree i j))) (fixedAt k m)) scenarioLimit) (range 0 groups))
+
   judge-agree : judgeWith o fs k ≡ judgeWith u fs k
-  unfolding judgeWith outcomeWith windowedOutcomeWith refinedOutcomeWith preciseOutcomeWith tooManyWith
-  judge-agree = fun-ext (λ claim. rw (lacks-agree, bound-agree, count-agree))
+  unfolding judgeWith outcomeWith windowedOutcomeWith refinedOutcomeWith crowdedOutcomeWith preciseOutcomeWith tooManyWith
+  judge-agree = fun-ext (λ claim. rw (lacks-agree, bound-agree, count-agree, deepest-agree))
 
 -- ---- frames that do not begin late
 

@@ -17,11 +17,12 @@ use Rattle.arith.specs.laws.Walks.{keep-next, keep-end}
 use Rattle.bus_model.specs.Frame.{row}
 use Rattle.bus_model.specs.Valid.{ValidFrame, Valid}
 use Rattle.bus_model.specs.Bounds.{groups, alignments, orEmpty, choiceOf, ownGroup, everyGroup, busyWindow, scenarioResponse, approximateBound, preciseBound}
+use Rattle.bus_model.specs.Levels.{fixingOrder}
 use Rattle.bus_model.specs.theory.Frames.{group-listed}
 use Rattle.bus_model.specs.theory.Work.{Allows, RefinedBy}
 use Rattle.bus_model.specs.theory.Response.{window-refine}
 use Rattle.bus_model.specs.theory.Scenarios.{Windowed, allows-self}
-use Rattle.bus_model.specs.theory.Order.{fixingOrder, order-group, order-all, order-apart, order-length}
+use Rattle.bus_model.specs.theory.Order.{order-group, order-all, order-apart, order-length}
 use Rattle.bus_model.specs.theory.Refine.{approximate-refined, refined, free, set-same, set-other, StillOpen, refines-more, refined-bound, own-scenarios, refines-taken, open-pruned}
 use Rattle.bus_model.specs.theory.Turns.{firstTurn, refined-turn}
 use Rattle.arith.specs.declared.Found.{Found}

@@ -1,23 +1,20 @@
 -- The order in which a search fixes the groups: k's own, then the others, rising. It has each group once.
 use Prim.Native.Nat.{ℕ, _≤_}
 use mathlib.Core.Path.{subst}
-use mathlib.Core.List.{List, _∷_, List·Memᴰ as Mem, List·Memᴰ·head as here, List·Memᴰ·tail as there}
+use mathlib.Core.List.{List·Memᴰ as Mem, List·Memᴰ·head as here, List·Memᴰ·tail as there}
 use mathlib.Core.Bool.{not}
 use native.Mathlib.Omega.{arith}
 use native.Mathlib.Decide.{ℕ-discrete}
 use lib.Dec.{T, eqb}
 use lib.ListN.{length}
-use Rattle.arith.specs.Lists.{keep, range}
+use Rattle.arith.specs.Lists.{range}
 use Rattle.arith.specs.laws.Tests.{itself, differs}
 use Rattle.arith.specs.laws.Members.{Apart, apart-keep, apart-range, mem-keep, of-keep, keep-shorter, length-range}
 use Rattle.bus_model.specs.Valid.{ValidFrame}
 use Rattle.bus_model.specs.Bounds.{groups}
+use Rattle.bus_model.specs.Levels.{fixingOrder}
 use Rattle.bus_model.specs.theory.Frames.{group-listed}
 use Rattle.bus_model.specs.declared.Frame.{Frame}
-
--- the groups in that order
-unfoldable pub fixingOrder : Frame → List ℕ
-fixingOrder k = k .group ∷ keep (λ j. not (eqb j (k .group))) (range 1 groups)
 
 module _ {k : Frame} (valid : ValidFrame k) where
   -- It has groups alone,

@@ -10,7 +10,7 @@ use lib.Dec.{T}
 use lib.ListN.{length, length-map, getD}
 use lib.Seq.{ext-getD}
 use Rattle.arith.specs.Lists.{range, greatest, combinations}
-use Rattle.arith.specs.laws.Members.{of-range, getD-table, of-map, mem-combinations, of-combinations}
+use Rattle.arith.specs.laws.Members.{of-range, getD-table, map-same, of-map, mem-combinations, of-combinations}
 use Rattle.arith.specs.laws.Sums.{le-greatest, greatest-le}
 use Rattle.arith.specs.laws.Combinations.{length-combinations, length-combination}
 use Rattle.bus_model.specs.Frame.{row}
@@ -102,6 +102,12 @@ module _ (fs : List Frame) (k : Frame) (fixes : ℕ → Bool) where
 pub count-scenarios : (fs : List Frame) (k : Frame) → length (scenarios fs k everyGroup) ≡ scenarioCount fs k
 unfolding scenarios scenarioCount choices
 count-scenarios fs k = length-combinations (λ j. choices fs k true j) (range 1 groups) ∙ simp length-map
+
+-- Where the same groups are fixed, the bound is the same.
+pub bound-same : (fs : List Frame) (k : Frame) (fixes fixes′ : ℕ → Bool) → ((j : ℕ) → Mem j (range 1 groups) → fixes j ≡ fixes′ j) → boundOf fs k fixes ≡ boundOf fs k fixes′
+unfolding boundOf scenarios
+bound-same fs k fixes fixes′ same =
+    ap (λ (lists : List (List Choice)). greatest (scenarioResponse fs k) (combinations lists)) (map-same (range 1 groups) (λ j m. ap (λ (b : Bool). choices fs k b j) (same j m)))
 
 -- every one of the scenarios has a window
 abbrev pub Windowed : List Frame → Frame → (ℕ → Bool) → Type 0

@@ -11,7 +11,7 @@ use lib.IntN.{ℤ, pos, _+ℤ_, negℤ, +ℤ-assoc, pos-ne-negsuc}
 use Rattle.arith.specs.laws.Tests.{cond-cases}
 use Rattle.bus_model.specs.declared.Frame.{Frame}
 use Rattle.bus_model.specs.declared.Outcome.{Outcome}
-use Rattle.bus_model.specs.declared.Outcome.the-variants.{CertifiedApproximate, CertifiedPrecise, ClaimTooSmall, NoWindow, Undecided}
+use Rattle.bus_model.specs.declared.Outcome.the-variants.{CertifiedApproximate, CertifiedPrecise, ClaimTooSmall, CertifiedLevel, NoWindow, Undecided}
 use Rattle.bus_model.specs.declared.Judgement.{Judgement}
 use Rattle.bus_model.specs.Frame.{row}
 use Rattle.bus_model.specs.Pattern.{ofGroup, hyperperiod, patternReleases}
@@ -47,6 +47,7 @@ unfolding verdict
 verdict-max (CertifiedApproximate b) = omega arith
 verdict-max (CertifiedPrecise b) = omega arith
 verdict-max (ClaimTooSmall b) = omega arith
+verdict-max (CertifiedLevel b) = omega arith
 verdict-max NoWindow = omega arith
 verdict-max (Undecided b) = omega arith
 

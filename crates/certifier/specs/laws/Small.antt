@@ -6,7 +6,7 @@ use native.Mathlib.Omega.{arith}
 use lib.IntN.{ℤ, pos, _+ℤ_, _-ℤ_}
 use Rattle.arith.specs.laws.Signed.{add-sub}
 use Rattle.bus_model.specs.declared.Outcome.{Outcome}
-use Rattle.bus_model.specs.declared.Outcome.the-variants.{CertifiedApproximate, CertifiedPrecise, ClaimTooSmall, Undecided, NoWindow}
+use Rattle.bus_model.specs.declared.Outcome.the-variants.{CertifiedApproximate, CertifiedPrecise, ClaimTooSmall, CertifiedLevel, Undecided, NoWindow}
 use Rattle.bus_model.specs.Bounds.{windowLimit}
 use Rattle.bus_model.specs.Judgement.{boundUsed, marginOf, judge}
 use Rattle.bus_model.specs.theory.Judged.{judged-le-limit}
@@ -27,6 +27,7 @@ unfolding boundUsed marginOf
 margin-small claim (CertifiedApproximate b) p q = difference-small claim b p q
 margin-small claim (CertifiedPrecise b) p q = difference-small claim b p q
 margin-small claim (ClaimTooSmall b) p q = difference-small claim b p q
+margin-small claim (CertifiedLevel b) p q = difference-small claim b p q
 margin-small claim (Undecided b) p q = difference-small claim b p q
 margin-small claim NoWindow p q = (1000000, refl, omega arith)
 

@@ -13,7 +13,8 @@ use Rattle.bus_model.specs.declared.Judgement.{Judgement}
 use Rattle.bus_model.specs.Frame.{row}
 use Rattle.bus_model.specs.Bus.{MeetsClaim}
 use Rattle.bus_model.specs.Bounds.{approximateBound, preciseBound}
-use Rattle.bus_model.specs.Judgement.{lacksWindow, tooManyScenarios, preciseOutcome, refinedOutcome, windowedOutcome, outcomeOf, boundUsed, marginOf, judge, MarginSign}
+use Rattle.bus_model.specs.Levels.{levelBound}
+use Rattle.bus_model.specs.Judgement.{lacksWindow, tooManyScenarios, deepestLevel, preciseOutcome, crowdedOutcome, refinedOutcome, windowedOutcome, outcomeOf, boundUsed, marginOf, judge, MarginSign}
 use Rattle.bus_model.specs.theory.Judged.{certified-meets, margin-sign}
 use Rattle.table_checks.specs.declared.Checked.{Checked}
 use Rattle.table_checks.specs.declared.Checked.the-variants.{Passed, Failed}
@@ -34,16 +35,18 @@ use Rattle.row_judgement.specs.Decide.{judgedBy, boundedBy}
 module _ (fs : List Frame) (k : Frame) where
   -- The judgement by it is the judgement.
   pub decided-judge : (claim : ℕ) → judgedBy claim (boundFor fs k (At claim)) ≡ judge fs k claim
-  unfolding judgedBy boundFor judge outcomeOf windowedOutcome refinedOutcome preciseOutcome boundUsed marginOf
-  decided-judge claim = go (lacksWindow fs k) (leb (approximateBound fs k) claim) (tooManyScenarios fs k) (leb (preciseBound fs k) claim) refl refl refl refl
+  unfolding judgedBy boundFor judge outcomeOf windowedOutcome refinedOutcome crowdedOutcome preciseOutcome boundUsed marginOf
+  decided-judge claim = go (lacksWindow fs k) (leb (approximateBound fs k) claim) (tooManyScenarios fs k) (leb (levelBound fs k (deepestLevel fs k)) claim) (leb (preciseBound fs k) claim) refl refl refl refl refl
     where
-      go : (lacks met many fits : Bool) → lacksWindow fs k ≡ lacks → leb (approximateBound fs k) claim ≡ met → tooManyScenarios fs k ≡ many → leb (preciseBound fs k) claim ≡ fits
+      go : (lacks met many level fits : Bool) → lacksWindow fs k ≡ lacks → leb (approximateBound fs k) claim ≡ met → tooManyScenarios fs k ≡ many
+          → leb (levelBound fs k (deepestLevel fs k)) claim ≡ level → leb (preciseBound fs k) claim ≡ fits
           → judgedBy claim (boundFor fs k (At claim)) ≡ judge fs k claim
-      go true met many fits l m n f = rw l
-      go false true many fits l m n f = rw (l, m)
-      go false false true fits l m n f = rw (l, m, n)
-      go false false false true l m n f = rw (l, m, n, f)
-      go false false false false l m n f = rw (l, m, n, f)
+      go true met many level fits l m n d f = rw l
+      go false true many level fits l m n d f = rw (l, m)
+      go false false true true fits l m n d f = rw (l, m, n, d)
+      go false false true false fits l m n d f = rw (l, m, n, d)
+      go false false false level true l m n d f = rw (l, m, n, f)
+      go false false false level false l m n d f = rw (l, m, n, f)
 
 -- The precise bound of a row is the one that is found without a claim.
 pub decided-bound : (fs : List Frame) (i : ℕ) → boundedBy i (boundFor fs (row fs i) Nothing) ≡ boundFrame fs i

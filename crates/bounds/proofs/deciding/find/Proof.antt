@@ -1,15 +1,14 @@
--- By what is found: no window, the approximate bound, too many scenarios, or the precise bound.
-use Prim.Native.Nat.{_≤_, _<_}
-use mathlib.Core.Path.{_≡_, refl, sym, _∙_}
-use mathlib.Core.Bool.{true, false}
+-- By what is found: no window, the approximate bound, the precise one, or that of a level.
+use mathlib.Core.Path.{_≡_, sym, _∙_}
+use mathlib.Core.Bool.{false}
 use native.Mathlib.Omega.{arith}
 use borrow.Author.Needs.{needs}
-use borrow.Author.Tests.{lt-ltb, le-ltb}
-use Rattle.bus_model.specs.Bounds.{approximateBound, preciseBound, scenarioCount}
-use Rattle.bus_model.specs.Judgement.{scenarioLimit, lacksWindow, tooManyScenarios}
+use Rattle.bus_model.specs.Judgement.{lacksWindow}
+use Rattle.bus_model.specs.theory.Levels.{deepest-le}
 use Rattle.workload.specs.Prepared.{tableOf}
-use Rattle.bounds.specs.Find.{meets, boundFor}
-use Rattle.bounds.specs.laws.Search.{found-limits, free-start, one-fixed, all-fixed}
+use Rattle.workload.specs.laws.Fine.{in-table-fine}
+use Rattle.bounds.specs.Find.{boundFor}
+use Rattle.bounds.specs.laws.Search.{found-limits, few-scenarios, many-scenarios, free-start, one-fixed, all-fixed}
 use Rattle.bounds.proofs.deciding.find.Statement.{statement}
 use Rattle.bounds.proofs.deciding.find.Tie as tie
 
@@ -26,11 +25,15 @@ returns : tie.Need-returns
 unfolding boundFor
 returns c = (rw (sym (c .before .before .before .lacks-window .ensures .0) ∙ c .if1 .taken), c .before .before .before .lacks-window .ensures .1)
 
+-- no window lacks
+has : (c : tie.Else1) → let a = c .before .before .before .before .before .before .before .before .before .before .before .before .args in lacksWindow (tableOf (a .rows .now) (a .prepared .now)) (a .target .frame) ≡ false
+has c = sym (c .before .before .before .lacks-window .ensures .0) ∙ c .if1 .left
+
 refine-own-requires : tie.Need-refine-own-requires
 refine-own-requires c κs =
     let p = c .before .before .before .before .before .before .before .before .before .before .before .before .before .pre in
     let t = p .prepared .filled .table in
-    (c .before .before .before .before .lacks-window .ensures .1, (free-start t (p .listed), (found-limits _ _ _ _ (c .before .before .before .before .before .before .before .before .busy-window .ensures .0), (sym (c .before .before .before .before .lacks-window .ensures .0) ∙ c .before .if1 .left, omega arith))))
+    (c .before .before .before .before .lacks-window .ensures .1, (free-start t (p .listed), (found-limits _ _ _ _ (c .before .before .before .before .before .before .before .before .busy-window .ensures .0), (has (c .before), omega arith))))
 
 is-met-requires : tie.Need-is-met-requires
 is-met-requires c κs = search needs
@@ -38,42 +41,46 @@ is-met-requires c κs = search needs
 same-length-2 : tie.Need-same-length-2
 same-length-2 c = search needs
 
--- no window lacks
-has : (c : tie.Else1) → let a = c .before .before .before .before .before .before .before .before .before .before .before .before .args in lacksWindow (tableOf (a .rows .now) (a .prepared .now)) (a .target .frame) ≡ false
-has c = sym (c .before .before .before .lacks-window .ensures .0) ∙ c .if1 .left
-
 returns-2 : tie.Need-returns-2
 unfolding boundFor
-returns-2 c = let p = c .before .before .before .before .before .before .before .before .before .before .before .before .before .before .before .before .before .before .pre in (rw (has (c .before .before .before .before .before .before), ← one-fixed (p .prepared .filled .table) (p .listed) (c .before .before .before .before .refine-own .ensures .0), sym (c .before .is-met .ensures) ∙ c .if2 .taken), c .before .before .before .before .refine-own .ensures .1)
+returns-2 c =
+    let p = c .before .before .before .before .before .before .before .before .before .before .before .before .before .before .before .before .before .before .pre in
+    (rw (has (c .before .before .before .before .before .before), ← one-fixed (p .prepared .filled .table) (p .listed) (c .before .before .before .before .refine-own .ensures .0), sym (c .before .is-met .ensures) ∙ c .if2 .taken), c .before .before .before .before .refine-own .ensures .1)
 
-scenario-count-requires : tie.Need-scenario-count-requires
-scenario-count-requires c κs = c .before .before .before .before .before .before .before .before .before .before .before .before .before .before .before .before .before .before .pre .prepared
-
-same-length-3 : tie.Need-same-length-3
-same-length-3 c = search needs
-
-returns-3 : tie.Need-returns-3
-unfolding boundFor tooManyScenarios scenarioLimit
-returns-3 c =
-    let p = c .before .before .before .before .before .before .before .before .before .before .before .before .before .before .before .before .before .before .before .before .pre in
-    let a = c .before .before .before .before .before .before .before .before .before .before .before .before .before .before .before .before .before .before .before .before .args in
-    (rw (has (c .before .before .before .before .before .before .before .before), ← one-fixed (p .prepared .filled .table) (p .listed) (c .before .before .before .before .before .before .refine-own .ensures .0), sym (c .before .before .before .is-met .ensures) ∙ c .before .before .if2 .left, lt-ltb 65536 (scenarioCount (tableOf (a .rows .now) (a .prepared .now)) (a .target .frame)) (omega (arith, c .before .scenario-count .ensures, c .if3 .taken))), c .before .before .before .before .before .before .refine-own .ensures .1)
+deepest-level-requires : tie.Need-deepest-level-requires
+deepest-level-requires c κs =
+    let p = c .before .before .before .before .before .before .before .before .before .before .before .before .before .before .before .before .before .before .pre in
+    (p .prepared, in-table-fine _ (p .prepared .filled .table) (p .listed))
 
 refine-own-requires-2 : tie.Need-refine-own-requires-2
 refine-own-requires-2 c κs =
     let p = c .before .before .before .before .before .before .before .before .before .before .before .before .before .before .before .before .before .before .before .before .before .pre in
     (c .before .before .before .before .before .before .before .refine-own .ensures .1, (free-start (p .prepared .filled .table) (p .listed), (tt, (has (c .before .before .before .before .before .before .before .before .before), omega arith))))
 
+same-length-3 : tie.Need-same-length-3
+same-length-3 c = search needs
+
+returns-3 : tie.Need-returns-3
+unfolding boundFor
+returns-3 c =
+    let p = c .before .before .before .before .before .before .before .before .before .before .before .before .before .before .before .before .before .before .before .before .before .before .before .before .pre in
+    let t = p .prepared .filled .table in
+    (rw (has (c .before .before .before .before .before .before .before .before .before .before .before .before), ← one-fixed t (p .listed) (c .before .before .before .before .before .before .before .before .before .before .refine-own .ensures .0), sym (c .before .before .before .before .before .before .before .is-met .ensures) ∙ c .before .before .before .before .before .before .if2 .left, few-scenarios t (p .listed) (sym (c .before .before .before .before .before .deepest-level .ensures) ∙ c .before .before .before .before .if3 .taken), ← all-fixed t (p .listed) (c .before .before .refine-own2 .ensures .0)), c .before .before .refine-own2 .ensures .1)
+
+by-level-requires : tie.Need-by-level-requires
+by-level-requires c κs =
+    let a = c .before .before .before .before .before .before .before .before .before .before .before .before .before .before .before .before .before .before .before .before .before .args in
+    (c .before .before .before .before .before .before .before .refine-own .ensures .1, (has (c .before .before .before .before .before .before .before .before .before), omega (arith, c .before .before .deepest-level .ensures, deepest-le (tableOf (a .rows .now) (a .prepared .now)) (a .target .frame))))
+
 same-length-4 : tie.Need-same-length-4
 same-length-4 c = search needs
 
 returns-4 : tie.Need-returns-4
-unfolding boundFor tooManyScenarios scenarioLimit
+unfolding boundFor
 returns-4 c =
     let p = c .before .before .before .before .before .before .before .before .before .before .before .before .before .before .before .before .before .before .before .before .before .before .before .before .pre in
-    let a = c .before .before .before .before .before .before .before .before .before .before .before .before .before .before .before .before .before .before .before .before .before .before .before .before .args in
     let t = p .prepared .filled .table in
-    (rw (has (c .before .before .before .before .before .before .before .before .before .before .before .before), ← one-fixed t (p .listed) (c .before .before .before .before .before .before .before .before .before .before .refine-own .ensures .0), sym (c .before .before .before .before .before .before .before .is-met .ensures) ∙ c .before .before .before .before .before .before .if2 .left, le-ltb 65536 (scenarioCount (tableOf (a .rows .now) (a .prepared .now)) (a .target .frame)) (omega (arith, c .before .before .before .before .before .scenario-count .ensures, c .before .before .before .before .if3 .left)), ← all-fixed t (p .listed) (c .before .before .refine-own2 .ensures .0)), c .before .before .refine-own2 .ensures .1)
+    (rw (has (c .before .before .before .before .before .before .before .before .before .before .before .before), ← one-fixed t (p .listed) (c .before .before .before .before .before .before .before .before .before .before .refine-own .ensures .0), sym (c .before .before .before .before .before .before .before .is-met .ensures) ∙ c .before .before .before .before .before .before .if2 .left, many-scenarios t (p .listed) (λ e. c .before .before .before .before .if3 .left (c .before .before .before .before .before .deepest-level .ensures ∙ e)), ← c .before .before .before .before .before .deepest-level .ensures) (c .before .before .by-level .ensures .0), c .before .before .by-level .ensures .1)
 
 pub find-spec : {M : Type 1} → statement M
 find-spec =
@@ -87,9 +94,10 @@ find-spec =
     is-met-requires
     same-length-2
     returns-2
-    scenario-count-requires
+    deepest-level-requires
+    refine-own-requires-2
     same-length-3
     returns-3
-    refine-own-requires-2
+    by-level-requires
     same-length-4
     returns-4)

@@ -16,6 +16,9 @@ enum-told-2 c = search needs
 enum-known-bound-2 : tie.Need-enum-known-bound-2
 enum-known-bound-2 c = search needs
 
+enum-known-bound-3 : tie.Need-enum-known-bound-3
+enum-known-bound-3 c = search needs
+
 returns : tie.Need-returns
 unfolding boundedBy
 returns c = rw (c .enum-told .given .1)
@@ -26,11 +29,15 @@ returns-2 c = rw (c .before .bound .given .1)
 
 returns-3 : tie.Need-returns-3
 unfolding boundedBy
-returns-3 c = rw (c .enum-told2 .given .1)
+returns-3 c = rw (c .before .bound2 .given .1)
 
 returns-4 : tie.Need-returns-4
 unfolding boundedBy
-returns-4 c = rw (c .before .bound2 .given .1)
+returns-4 c = rw (c .enum-told2 .given .1)
+
+returns-5 : tie.Need-returns-5
+unfolding boundedBy
+returns-5 c = rw (c .before .bound3 .given .1)
 
 pub bounded-spec : {M : Type 1} → statement M
 bounded-spec =
@@ -38,9 +45,11 @@ bounded-spec =
     (tie.spec
     enum-told
     enum-known-bound
-    enum-told-2
     enum-known-bound-2
+    enum-told-2
+    enum-known-bound-3
     returns
     returns-2
     returns-3
-    returns-4)
+    returns-4
+    returns-5)

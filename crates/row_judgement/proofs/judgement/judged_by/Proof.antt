@@ -27,8 +27,14 @@ enum-known-bound-3 c = search needs
 judged-requires-3 : tie.Need-judged-requires-3
 judged-requires-3 c κs = search needs
 
+enum-known-bound-4 : tie.Need-enum-known-bound-4
+enum-known-bound-4 c = search needs
+
 judged-requires-4 : tie.Need-judged-requires-4
 judged-requires-4 c κs = search needs
+
+judged-requires-5 : tie.Need-judged-requires-5
+judged-requires-5 c κs = search needs
 
 returns : tie.Need-returns
 unfolding judgedBy
@@ -44,11 +50,15 @@ returns-3 c = rw (c .before .before .bound2 .given .1) (c .judged2 .ensures)
 
 returns-4 : tie.Need-returns-4
 unfolding judgedBy
-returns-4 c = rw (c .before .before .before .bound3 .given .1, le-leb _ _ (c .before .if1 .taken)) (c .judged3 .ensures)
+returns-4 c = rw (c .before .before .bound3 .given .1) (c .judged3 .ensures)
 
 returns-5 : tie.Need-returns-5
 unfolding judgedBy
-returns-5 c = rw (c .before .before .before .bound3 .given .1, lt-leb _ _ (c .before .if1 .left)) (c .judged4 .ensures)
+returns-5 c = rw (c .before .before .before .bound4 .given .1, le-leb _ _ (c .before .if1 .taken)) (c .judged4 .ensures)
+
+returns-6 : tie.Need-returns-6
+unfolding judgedBy
+returns-6 c = rw (c .before .before .before .bound4 .given .1, lt-leb _ _ (c .before .if1 .left)) (c .judged5 .ensures)
 
 pub judged-by-spec : {M : Type 1} → statement M
 judged-by-spec =
@@ -61,9 +71,12 @@ judged-by-spec =
     judged-requires-2
     enum-known-bound-3
     judged-requires-3
+    enum-known-bound-4
     judged-requires-4
+    judged-requires-5
     returns
     returns-2
     returns-3
     returns-4
-    returns-5)
+    returns-5
+    returns-6)

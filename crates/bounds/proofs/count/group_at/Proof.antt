@@ -1,0 +1,26 @@
+-- By the test.
+use borrow.Author.Needs.{needs}
+use borrow.Author.Tests.{lt-ltb, le-ltb}
+use Rattle.bounds.proofs.count.group_at.Statement.{statement}
+use Rattle.bounds.proofs.count.group_at.Tie as tie
+
+cast-if1 : tie.Need-cast-if1
+cast-if1 c = search needs
+
+add-result : tie.Need-add-result
+add-result c = search needs
+
+returns : tie.Need-returns
+returns c = (rw (lt-ltb _ _ (c .if1 .taken)), (search needs))
+
+returns-2 : tie.Need-returns-2
+returns-2 c = (rw (le-ltb _ _ (c .if1 .left)) (search needs), (search needs))
+
+pub group-at-spec : {M : Type 1} → statement M
+group-at-spec =
+    tie.close
+    (tie.spec
+    cast-if1
+    add-result
+    returns
+    returns-2)
