@@ -57,6 +57,19 @@ int64_t certifier_explain(const uint8_t *lengths, size_t lengths_len, const uint
 int64_t certifier_precise_bound(const uint8_t *lengths, size_t lengths_len, const uint8_t *table, size_t table_len,
                                 uint64_t row);
 
+/* The numbers of a worst case: the starts of groups 1 to 16, the instance, and its response. */
+#define CERTIFIER_WORST 18
+
+/*
+ * Judges the claim of the frame that ranks last, and answers as certifier_judge does for its row. Where its precise bound
+ * can be had (certifier_precise_bound gives it) and every offset of the table is below its period, `shown` begins with the starts
+ * of groups 1 to 16 in ticks, then the number of an instance of the frame, from 0, then its response: with these starts, and
+ * all transmissions of their largest lengths, the instance takes exactly so many ticks, which is the precise bound. Turned
+ * back with 8, last, where that is to be shown and `shown_len` is below 18; where nothing is shown, the area is left.
+ */
+int64_t certifier_worst(const uint8_t *lengths, size_t lengths_len, const uint8_t *table, size_t table_len, uint32_t *shown,
+                        size_t shown_len);
+
 /*
  * Writes the judgements of the table to `out`, a line a row, in table order: identifier (10), verdict (3), bound (8),
  * margin (9) and a line feed. Answers how many bytes were written, or, where the call is turned back, minus

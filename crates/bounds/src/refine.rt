@@ -235,6 +235,14 @@ pub fn refine_all(
         alignment: a,
     };
     refine(
-        rows, prepared, target, choices, fixing, GROUPS, best, reach, memory,
+        rows,
+        prepared,
+        target,
+        choices,
+        fixing,
+        GROUPS,
+        best,
+        reach,
+        memory,
     )
 }

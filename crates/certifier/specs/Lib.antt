@@ -3,6 +3,7 @@ pub mod Listing
 pub mod Encode
 pub mod FrameEntry
 pub mod ExplainEntry
+pub mod WorstEntry
 pub mod LogEntry
 pub mod Steps
 pub mod SimulateEntry

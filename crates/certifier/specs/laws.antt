@@ -8,4 +8,5 @@ pub mod Before
 pub mod Ungrouped
 pub mod Offsets
 pub mod ExplainEntry
+pub mod WorstEntry
 pub mod LogEntry

@@ -77,7 +77,7 @@ fn show(explained: Explained, shown: &mut [u32]) -> i64
 }
 
 // Writes the alignments, and the instance behind them.
-fn write_case(alignments: [u32; 16], q: u32, shown: &mut [u32])
+pub fn write_case(alignments: [u32; 16], q: u32, shown: &mut [u32])
     requires { ⌜ 17 ≤ length (now shown) ⌝ }
     ensures { λ _. ⌜ now (shown .exit) ≡ (alignments ++ (q ∷ [])) ++ drop 17 (now (shown .entry)) ⌝ }
 {

@@ -96,7 +96,7 @@ fn write_lines(lengths: [[u32; 9]; 2], rows: &[u32], lines: usize, out: &mut [u8
 }
 
 // Writes the line of row i.
-fn write_row(lengths: [[u32; 9]; 2], rows: &[u32], i: usize, line: &mut [u8])
+pub fn write_row(lengths: [[u32; 9]; 2], rows: &[u32], i: usize, line: &mut [u8])
     requires { ⌜ Loadable lengths × Accepted (now rows) ⌝ }
     requires { ⌜ (i < length (now rows) / columns) × (length (now line) ≡ 31) ⌝ }
     ensures { λ _. ⌜ now (line .exit) ≡ lineOf lengths (now (rows .entry)) i ⌝ }

@@ -166,7 +166,7 @@ fn write_case(
 }
 
 // Writes the lines of the groups.
-fn write_lines(alignments: [u32; 16], out: &mut [u8])
+pub fn write_lines(alignments: [u32; 16], out: &mut [u8])
     requires { ⌜ length (now out) ≡ 192 ⌝ }
     ensures { λ _. ⌜ now (out .exit) ≡ linesFrom alignments 16 0 ⌝ }
 {

@@ -1,6 +1,6 @@
 // The judgement of a row of a frame table, with the case that breaks its claim or without, and its precise bound. All take any input, and
-// check their lengths and table themselves; judge_accepted and bound_accepted take accepted ones, for what has read them from files, and
-// judge_row for the listing, which judges all its rows.
+// check their lengths and table themselves; judge_accepted and bound_accepted take accepted ones, for what has read them from files,
+// judge_row for the listing, which judges all its rows, and prepare_row for other searches.
 mod bound;
 mod decide;
 mod explanation;
@@ -8,6 +8,7 @@ mod judgement;
 
 pub use bound::bound_accepted;
 pub use bound::precise_bound;
+pub use decide::prepare_row;
 pub use explanation::explain;
 pub use judgement::judge;
 pub use judgement::judge_accepted;

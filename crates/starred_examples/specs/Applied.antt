@@ -1,14 +1,23 @@
 -- Demand 3 applied to document 01's whole case, as the contract of `row_judgement::judge` says it: frame 32 has verdict 1 and
--- frame 64 has verdict 2, so both meet their claims in every schedule, and there are schedules. A late starter meets its claim too.
-use Prim.Native.Nat.{ℕ}
+-- frame 64 has verdict 2, so both meet their claims in every schedule, and there are schedules. Frame 64 ranks last, and
+-- no claim below its bound is met. A late starter meets its claim too.
+use Prim.Native.Nat.{ℕ, _≤_}
 use mathlib.Core.Path.{_≡_, refl}
-use mathlib.Core.List.{List, List·Memᴰ as Mem}
+use mathlib.Core.Logic.{_↔_}
+use mathlib.Core.List.{List}
+use native.Mathlib.Omega.{arith}
 use lib.IntN.{pos}
+use lib.ListN.{replicate}
+use Rattle.bus_model.specs.declared.Frame.{Frame}
 use Rattle.bus_model.specs.declared.Outcome.the-variants.{CertifiedApproximate, CertifiedPrecise}
 use Rattle.bus_model.specs.Frame.{row}
 use Rattle.bus_model.specs.Bus.{Transmission, Schedule, Finished, MeetsClaim}
 use Rattle.bus_model.specs.Judgement.{certifies}
+use Rattle.bus_model.specs.Valid.{Valid, Early}
+use Rattle.bus_model.specs.Worst.{RanksLast, forGroup, Longest, Responds}
 use Rattle.bus_model.specs.theory.Existence.{longest-schedule}
+use Rattle.bus_model.specs.theory.Reached.{last-reached, last-least}
+use Rattle.bus_model.specs.theory.LastRow.{last-row, early-of}
 use Rattle.bus_model.specs.examples.Late.{frame-64-late, frame-64-due}
 use Rattle.table_checks.specs.Frames.{standardLengths, framesOf}
 use Rattle.table_checks.specs.Checks.{Accepted}
@@ -59,10 +68,37 @@ listing-accepted : Accepted listing
 unfolding everything
 listing-accepted = refl
 
+listing-valid : Valid (framesOf standardLengths listing)
+listing-valid = accepted-valid listing listing-accepted standardLengths standard-loadable
+
 -- There are schedules in which this says something.
-pub listing-runs : (starts : ℕ → ℕ) (T : ℕ)
-    → (xs : List Transmission) × Schedule (framesOf standardLengths listing) starts T xs × ((x : Transmission) → Mem x xs → x .length ≡ row (framesOf standardLengths listing) (x .frame) .length)
-listing-runs = longest-schedule (accepted-valid listing listing-accepted standardLengths standard-loadable)
+pub listing-runs : (starts : ℕ → ℕ) (T : ℕ) → (xs : List Transmission) × Schedule (framesOf standardLengths listing) starts T xs × Longest (framesOf standardLengths listing) xs
+listing-runs = longest-schedule listing-valid
+
+-- ---- nothing shaved off
+
+-- the table's frames
+abbrev table : List Frame
+table = framesOf standardLengths listing
+
+-- Its offsets are below their periods, and frame 64 ranks last.
+listing-early : Early table
+unfolding everything
+listing-early = early-of table refl
+
+frame-64-last : RanksLast table 3
+unfolding everything
+frame-64-last = last-row table (omega arith) .1
+
+-- Frame 64 meets the claims from 200 on, and no others.
+pub frame-64-least : (claim : ℕ) → MeetsClaim table 3 claim ↔ (200 ≤ claim)
+unfolding everything
+frame-64-least = last-least listing-valid {k = 3} (omega arith) listing-early frame-64-last 200 (λ e. omega arith)
+
+-- Where all groups start at tick 0 and all lengths are largest, the response time of its first instance is 200.
+pub frame-64-reached : Responds table (forGroup (replicate 16 0)) 3 0 200
+unfolding everything
+frame-64-reached = last-reached listing-valid {k = 3} (omega arith) listing-early frame-64-last 200 (λ e. omega arith)
 
 -- ---- a late starter
 

@@ -11,3 +11,4 @@ pub mod Ungrouped
 pub mod Returns
 pub mod OneKind
 pub mod Offsets
+pub mod LastFrame

@@ -15,6 +15,7 @@ enum Command {
     Busiest,
     Simulate,
     Explain,
+    Worst,
     Unknown,
 }
 
@@ -27,6 +28,7 @@ fn main() {
         Command::Busiest => busiest(),
         Command::Simulate => simulate(),
         Command::Explain => explain(),
+        Command::Worst => worst(),
         Command::Unknown => print_usage(),
     }
 }
@@ -51,6 +53,9 @@ fn read_command() -> Command {
     if is_called(b"explain", 1) {
         return Command::Explain;
     }
+    if is_called(b"worst", 0) {
+        return Command::Worst;
+    }
     Command::Unknown
 }
 
@@ -58,7 +63,7 @@ fn read_command() -> Command {
 fn print_usage() {
     io::write_all(
         2,
-        b"usage: vinguaru COMMAND\nINPUT is a file of lengths, 92 bytes, and behind it that of a table.\ncommands:\n  load-sheet < INPUT                 each node's bus load, and the greatest of them\n  frame-length KIND IDENTIFIER HEX   the exact length of a frame on the wire; HEX are its payload's bytes, - for none\n  check-log LOGFILE < INPUT          the groups' starts with which a bus log is the beginning of a schedule\n  busiest LOGFILE WIDTH < INPUT      the busiest stretch of so many ticks of a bus log, and what it shows of each row\n  simulate SEED LINES < INPUT        a log of so many lines, drawn from a seed by the bus rule\n  explain ROW < INPUT                the judgement of a row, counted from 0, and the case that breaks its claim\n",
+        b"usage: vinguaru COMMAND\nINPUT is a file of lengths, 92 bytes, and behind it that of a table.\ncommands:\n  load-sheet < INPUT                 each node's bus load, and the greatest of them\n  frame-length KIND IDENTIFIER HEX   the exact length of a frame on the wire; HEX are its payload's bytes, - for none\n  check-log LOGFILE < INPUT          the groups' starts with which a bus log is the beginning of a schedule\n  busiest LOGFILE WIDTH < INPUT      the busiest stretch of so many ticks of a bus log, and what it shows of each row\n  simulate SEED LINES < INPUT        a log of so many lines, drawn from a seed by the bus rule\n  explain ROW < INPUT                the judgement of a row, counted from 0, and the case that breaks its claim\n  worst < INPUT                      the judgement of the frame that ranks last, and the starts with which its precise bound is reached\n",
     );
 }
 
@@ -220,4 +225,17 @@ fn explain() {
             console::print_answer(b"vinguaru", answer, &text)
         }
     }
+}
+
+// Prints the line of the frame that ranks last and its worst case, or the table's refusal.
+fn worst() {
+    let mut bytes = [0u8; BUFFER];
+    let input = console::read_input(b"vinguaru", &mut bytes);
+    if !input.held {
+        return;
+    }
+    let size = input.size;
+    let mut text = [0u8; worst_command::LONGEST];
+    let answer = worst_command::write_input(&bytes[..size], &mut text);
+    console::print_answer(b"vinguaru", answer, &text);
 }

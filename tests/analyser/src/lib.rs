@@ -44,3 +44,6 @@ pub mod self_check;
 pub mod simulator;
 pub mod table;
 pub mod table_cases;
+pub mod worst;
+#[cfg(test)]
+mod worst_examples;

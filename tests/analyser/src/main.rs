@@ -2,7 +2,7 @@
 
 use analyser::{
     busiest, cases, explain, frame_length, frame_length_cases, judge_cases, judgement, lengths,
-    listing, load_sheet, log_cases, log_check, million, replay, self_check, table_cases,
+    listing, load_sheet, log_cases, log_check, million, replay, self_check, table_cases, worst,
 };
 use std::io::{self, Read, Write};
 use std::process::ExitCode;
@@ -13,6 +13,7 @@ const USAGE: &str = "usage:
   analyser judge ROW < lengths and table
   analyser precise ROW < lengths and table
   analyser explain ROW < lengths and table
+  analyser worst < lengths and table
   analyser frame-length KIND IDENTIFIER HEX
   analyser check-log LOGFILE < lengths and table
   analyser busiest LOGFILE WIDTH < lengths and table
@@ -55,6 +56,7 @@ fn run(words: &[&str]) -> io::Result<bool> {
             print(format!("{}\n", listing::bound_number(bound)).as_bytes())
         }
         ["explain", row] => print(explain::explain(&input()?, number(row)?).as_bytes()),
+        ["worst"] => print(worst::worst(&input()?).as_bytes()),
         ["frame-length", kind, identifier, hex] => {
             let line = frame_length::line(kind, identifier, hex);
             print(line.ok_or_else(|| io::Error::other(USAGE))?.as_bytes())

@@ -26,6 +26,14 @@ extern "C" {
         shown: *mut u32,
         shown_len: usize,
     ) -> i64;
+    fn certifier_worst(
+        lengths: *const u8,
+        lengths_len: usize,
+        table: *const u8,
+        len: usize,
+        shown: *mut u32,
+        shown_len: usize,
+    ) -> i64;
     fn certifier_list(
         lengths: *const u8,
         lengths_len: usize,
@@ -121,6 +129,12 @@ pub fn explain(
     let [(loaded, size), (table, len)] = [area_or_null(lengths), area_or_null(file)];
     let (area, room) = area_or_null(shown);
     unsafe { certifier_explain(loaded, size, table, len, row, area, room) }
+}
+
+pub fn worst(lengths: &mut Lent<u8>, file: &mut Lent<u8>, shown: &mut Lent<u32>) -> i64 {
+    let [(loaded, size), (table, len)] = [area_or_null(lengths), area_or_null(file)];
+    let (area, room) = area_or_null(shown);
+    unsafe { certifier_worst(loaded, size, table, len, area, room) }
 }
 
 pub fn list(lengths: &mut Lent<u8>, file: &mut Lent<u8>, out: &mut Lent<u8>) -> i64 {

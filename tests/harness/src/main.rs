@@ -31,6 +31,7 @@ mod slow;
 mod starts;
 mod tables;
 mod tally;
+mod worst;
 mod yardstick;
 mod yardstick_groups;
 
@@ -46,6 +47,8 @@ const USAGE: &str = "usage:
   harness frame-lengths SEED COUNT
   harness explain SEED COUNT [--save FILE]
   harness replay-explain SEED NUMBER [--save FILE]
+  harness worst SEED COUNT [--save FILE]
+  harness replay-worst SEED NUMBER [--save FILE]
   harness logs SEED COUNT [--save FILE]
   harness replay-logs SEED NUMBER [--save FILE]
   harness levels SEED COUNT
@@ -90,6 +93,10 @@ fn run(words: &[&str]) -> io::Result<bool> {
         }
         ["replay-explain", seed, input, rest @ ..] => {
             explain::replay(number(seed)?, number(input)?, save(rest)?)
+        }
+        ["worst", seed, count, rest @ ..] => worst::run(number(seed)?, number(count)?, save(rest)?),
+        ["replay-worst", seed, input, rest @ ..] => {
+            worst::replay(number(seed)?, number(input)?, save(rest)?)
         }
         ["logs", seed, count, rest @ ..] => logs::run(number(seed)?, number(count)?, save(rest)?),
         ["replay-logs", seed, input, rest @ ..] => {

@@ -29,17 +29,11 @@ module _ {A : Type 0} where
   sum-same [] same = refl
   sum-same (x ∷ xs) same = ap₂ _+_ (same x (here refl)) (sum-same xs (λ y m. same y (there m)))
 
-  -- Where each two terms together are at most a third, so are the sums.
-  pub add-le-sum : (f g : A → ℕ) {h : A → ℕ} (xs : List A) → ((x : A) → Mem x xs → f x + g x ≤ h x) → sum f xs + sum g xs ≤ sum h xs
+  -- Where each term is 0, so is the sum.
+  pub sum-none : {f : A → ℕ} (xs : List A) → ((x : A) → Mem x xs → f x ≡ 0) → sum f xs ≡ 0
   unfolding sum
-  add-le-sum f g [] le = omega arith
-  add-le-sum f g (x ∷ xs) le = omega (arith, le x (here refl), add-le-sum f g xs (λ y m. le y (there m)))
-
-  -- A term is at most the sum.
-  pub term-le-sum : (f : A → ℕ) {x : A} {xs : List A} → Mem x xs → f x ≤ sum f xs
-  unfolding sum
-  term-le-sum f {x} {xs = y ∷ ys} (here e) = rw e (omega arith)
-  term-le-sum f {x} {xs = y ∷ ys} (there m) = omega (arith, term-le-sum f m)
+  sum-none [] none = refl
+  sum-none (x ∷ xs) none = omega (arith, none x (here refl), sum-none xs (λ y m. none y (there m)))
 
   -- Where no term is above b, the sum is at most b for each element.
   pub sum-bound : (f : A → ℕ) (b : ℕ) (xs : List A) → ((x : A) → Mem x xs → f x ≤ b) → sum f xs ≤ b * length xs

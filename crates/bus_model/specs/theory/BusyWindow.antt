@@ -54,13 +54,17 @@ not-more : {a b : ℕ} → ¬ (b < a) → a ≤ b
 not-more h = omega arith
 
 -- sending an instance of row i counts at row i alone
-one-more : (sent : ℕ → ℕ) (i j : ℕ) → ((i ≢ j) × (oneMore sent i j ≡ sent j)) ⊎ ((i ≡ j) × (oneMore sent i j ≡ suc (sent j)))
+pub one-more : (sent : ℕ → ℕ) (i j : ℕ) → ((i ≢ j) × (oneMore sent i j ≡ sent j)) ⊎ ((i ≡ j) × (oneMore sent i j ≡ suc (sent j)))
 unfolding oneMore
 one-more sent i j =
     elim (ℕ-discrete i j) [
       | yes e ↦ inr (e, cond-yes (eqb i j) _ _ (rw e (eqb-refl j)))
       | no ne ↦ inl (ne, cond-no (eqb i j) _ _ (λ t. ne (eqb→eq i j t)))
     ]
+
+-- and counts there
+pub one-more-same : (sent : ℕ → ℕ) (i : ℕ) → oneMore sent i i ≡ suc (sent i)
+one-more-same sent i = elim (one-more sent i i) [ inl e ↦ absurd (e .0 refl) | inr e ↦ e .1 ]
 
 module _ (fs : List Frame) (starts : ℕ → ℕ) (k : ℕ) where
   -- the frame in question
@@ -175,13 +179,9 @@ module _ (fs : List Frame) (starts : ℕ → ℕ) (k : ℕ) where
       kept : sent ≼ oneMore sent (x .frame)
       kept i h = elim (one-more sent (x .frame) i) [ inl e ↦ omega arith | inr e ↦ omega arith ]
 
-      -- and the count of the row sent goes up
-      counts : oneMore sent (x .frame) (x .frame) ≡ suc (sent (x .frame))
-      counts = elim (one-more sent (x .frame) (x .frame)) [ inl e ↦ absurd (e .0 refl) | inr e ↦ e .1 ]
-
       -- a frame ahead that is sent adds its length to the work
       load-sent : (t1 : ℕ) → due t1 ≼ sent → Ahead (x .frame) → row fs (x .frame) .length + load t1 sent ≤ load t1 (oneMore sent (x .frame))
-      load-sent t1 served h = load-more t1 kept (x .frame) h (served _ h) (omega (arith, counts))
+      load-sent t1 served h = load-more t1 kept (x .frame) h (served _ h) (omega (arith, one-more-same sent (x .frame)))
 
       -- all that is sent, x too, is released by the start
       due-sent : sent ≼ due free → oneMore sent (x .frame) ≼ due (suc (x .start))

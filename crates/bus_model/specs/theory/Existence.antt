@@ -15,6 +15,7 @@ use Rattle.bus_model.specs.Frame.{row}
 use Rattle.bus_model.specs.Valid.{Valid}
 use Rattle.bus_model.specs.Release.{release}
 use Rattle.bus_model.specs.Bus.{Transmission, oneMore, Waiting, Idle, Next, Runs, Schedule}
+use Rattle.bus_model.specs.Worst.{Longest}
 use Rattle.bus_model.specs.declared.Frame.{Frame}
 
 -- each transmission has the length that is set for its frame and instance
@@ -111,5 +112,5 @@ schedule-exists fs starts T len allowed = run fs starts T len (λ i n l. allowed
 
 -- There is one in which every transmission has its frame's largest length.
 pub longest-schedule : {fs : List Frame} → Valid fs → (starts : ℕ → ℕ) (T : ℕ)
-    → (xs : List Transmission) × Schedule fs starts T xs × ((x : Transmission) → Mem x xs → x .length ≡ row fs (x .frame) .length)
+    → (xs : List Transmission) × Schedule fs starts T xs × Longest fs xs
 longest-schedule {fs} valid starts T = schedule-exists fs starts T (λ i n. row fs i .length) (λ i n l. (valid .frame i l .length, le-refl _))

@@ -1,7 +1,7 @@
 -- What a judgement tells: a certified frame meets its claim, whatever the schedule;
 -- the margin is negative exactly for verdicts 3 and 12, and no bound exceeds the longest window.
 use Prim.Native.Nat.{ℕ, zero, suc, _≤_, _<_}
-use mathlib.Core.Path.{_≡_, refl}
+use mathlib.Core.Path.{_≡_, refl, ap}
 use mathlib.Core.List.{List}
 use mathlib.Core.Bool.{Bool, true, false, cond}
 use mathlib.Core.Logic.{_≢_, _↔_, _⊎_, inl, inr}
@@ -12,7 +12,7 @@ use lib.IntN.{pos, _-ℤ_}
 use lib.Signed.{_<ℤ_, ltZ-yes, leZ-yes, clashℤ}
 use lib.ListN.{length}
 use Rattle.arith.specs.laws.Members.{exists-mem}
-use Rattle.arith.specs.laws.Tests.{cond-cases}
+use Rattle.arith.specs.laws.Tests.{cond-yes, cond-cases}
 use Rattle.arith.specs.laws.Least.{not-none}
 use Rattle.bus_model.specs.Frame.{row}
 use Rattle.bus_model.specs.Valid.{Valid}
@@ -31,6 +31,11 @@ use Rattle.bus_model.specs.declared.Outcome.the-variants.{CertifiedAppro
 pub has-windows : (fs : List Frame) (k : Frame) → ¬ T (lacksWindow fs k) → Windowed fs k (ownGroup k)
 unfolding lacksWindow
 has-windows fs k has cs m = not-none (busyWindow fs k cs) (λ t. has (exists-mem _ m t))
+
+-- A frame whose verdict is not 11 lacks none.
+pub not-lacking : (fs : List Frame) (k : Frame) (claim : ℕ) → verdict (judge fs k claim .outcome) ≢ 11 → ¬ T (lacksWindow fs k)
+unfolding judge outcomeOf verdict
+not-lacking fs k claim other t = other (ap verdict (cond-yes (lacksWindow fs k) NoWindow (windowedOutcome fs k claim) t))
 
 -- What holds of an outcome in each of document 01's cases holds of the outcome.
 pub by-outcome : (P : Outcome → Type 0) (fs : List Frame) (k : Frame) (claim : ℕ)

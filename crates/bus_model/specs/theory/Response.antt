@@ -57,6 +57,11 @@ module _ (fs : List Frame) (k : Frame) (cs : List Choice) where
   unfolding queueingDelay
   delay-found q w high fits = least-finds _ windowLimit 0 w (omega arith) (omega arith) (le→leb _ w fits)
 
+  -- No shorter one allows for its load.
+  pub delay-least : (q w v : ℕ) → queueingDelay fs k cs q ≡ At w → delayLoad fs k cs q v ≤ v → w ≤ v
+  unfolding queueingDelay
+  delay-least q w v e fits = least-le _ windowLimit 0 w v e (omega arith) (le→leb _ v fits)
+
   -- A scenario with a window counts with its response time.
   pub response-at : (l : ℕ) → busyWindow fs k cs ≡ At l → scenarioResponse fs k cs ≡ responseTime fs k cs l
   unfolding scenarioResponse

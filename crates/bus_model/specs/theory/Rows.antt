@@ -1,10 +1,10 @@
 -- Sums over the rows of a table whose frame passes a test.
 -- Unlike a sum over the frames, such a sum may give each row a value of its own, as the number of its instances sent.
 use Prim.Native.Nat.{ℕ, _+_, _≤_, _<_}
-use mathlib.Core.Path.{_≡_, _∙_}
+use mathlib.Core.Path.{_≡_, refl, _∙_}
 use mathlib.Core.List.{List}
 use mathlib.Core.Logic.{_≢_}
-use mathlib.Core.Bool.{Bool, cond}
+use mathlib.Core.Bool.{Bool, true, false, cond}
 use native.Mathlib.Omega.{arith}
 use native.Mathlib.Nat.{le-refl, lt-irrefl}
 use lib.Dec.{T, leb→le, le→leb, ltb→lt, lt→ltb}
@@ -12,7 +12,7 @@ use lib.ListN.{length}
 use Rattle.arith.specs.Lists.{sum, keep, range}
 use Rattle.arith.specs.laws.Members.{of-range}
 use Rattle.arith.specs.laws.Tests.{cond-yes, cond-no, cond-le}
-use Rattle.arith.specs.laws.Sums.{sum-keep, sum-places, sum-at, sum-le}
+use Rattle.arith.specs.laws.Sums.{sum-none, sum-keep, sum-places, sum-at, sum-le}
 use Rattle.bus_model.specs.Frame.{noFrame, row}
 use Rattle.bus_model.specs.Valid.{Valid}
 use Rattle.bus_model.specs.Bounds.{isAhead, isBetter, ahead, better}
@@ -48,6 +48,28 @@ module _ (fs : List Frame) (p : Frame → Bool) {u v : ℕ → ℕ} (le : (i : �
       let first = cond-yes (p (row fs i)) (u i) 0 t in
       let second = cond-yes (p (row fs i)) (v i) 0 t in
       omega (arith, sum-at (term fs p u) (term fs p v) c 0 0 (length fs) i (omega arith) (omega arith) (λ j low high ne. term-le j (omega arith)) (omega arith))
+
+-- A sum of nothing is 0.
+pub rows-none : (fs : List Frame) (p : Frame → Bool) (v : ℕ → ℕ) → ((i : ℕ) → v i ≡ 0) → overRows fs p v ≡ 0
+unfolding overRows
+rows-none fs p v none = sum-none (range 0 (length fs)) (λ i m. go (p (row fs i)) (none i))
+  where
+    go : (b : Bool) {n : ℕ} → n ≡ 0 → cond b n 0 ≡ 0
+    go true e = e
+    go false e = refl
+
+-- A sum grows by c at most where one row's value does, and no other's grows.
+pub rows-most : (fs : List Frame) (p : Frame → Bool) (u v : ℕ → ℕ) (i c : ℕ) → i < length fs → v i ≤ c + u i → ((j : ℕ) → j ≢ i → v j ≤ u j)
+    → overRows fs p v ≤ c + overRows fs p u
+unfolding overRows
+rows-most fs p u v i c l more same =
+    let most = sum-at (term fs p v) (term fs p u) 0 c 0 (length fs) i (omega arith) (omega arith)
+    (λ j low high ne. cond-le (p (row fs j)) (p (row fs j)) (v j) (u j) (λ t. (t, same j ne))) (go (p (row fs i))) in
+    omega arith
+  where
+    go : (b : Bool) → 0 + cond b (v i) 0 ≤ c + cond b (u i) 0
+    go true = omega arith
+    go false = omega arith
 
 -- ---- the rows ahead of row k
 

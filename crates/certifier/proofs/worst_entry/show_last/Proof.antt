@@ -1,0 +1,54 @@
+-- By the response, and the room.
+use mathlib.Core.Path.{_∙_}
+use borrow.Author.Needs.{needs}
+use Rattle.arith.specs.laws.Signed.{kept}
+use Rattle.certifier.specs.laws.WorstEntry.{last-none, last-short, last-all}
+use Rattle.certifier.proofs.worst_entry.show_last.Statement.{statement}
+use Rattle.certifier.proofs.worst_entry.show_last.Tie as tie
+
+enum-told : tie.Need-enum-told
+enum-told c = search needs
+
+encode-judged-requires : tie.Need-encode-judged-requires
+encode-judged-requires c κs = c .before .before .before .before .pre
+
+enum-known-response : tie.Need-enum-known-response
+enum-known-response c = search needs
+
+returns : tie.Need-returns
+returns c = let s = c .before .before .before .before .before .before in last-short (s .args .last) (s .args .shown .now) _ (c .before .before .response .given .1) (c .if1 .taken)
+
+write-worst-requires : tie.Need-write-worst-requires
+write-worst-requires c κs = search needs
+
+encode-judged-requires-2 : tie.Need-encode-judged-requires-2
+encode-judged-requires-2 c κs = c .before .before .before .before .before .before .before .before .before .before .before .pre
+
+returns-2 : tie.Need-returns-2
+returns-2 c =
+    let s = c .before .before .before .before .before in
+    let (a, b) = last-none (s .args .last) (s .args .shown .now) (c .before .enum-told .given .1) in
+    (kept _ (c .encode-judged .ok) ∙ c .encode-judged .ensures ∙ a, b)
+
+same-length : tie.Need-same-length
+same-length c = search needs
+
+returns-3 : tie.Need-returns-3
+returns-3 c =
+    let s = c .before .before .before .before .before .before .before .before .before .before .before .before in
+    let (a, b) = last-all (s .args .last) (s .args .shown .now) _ (c .before .before .before .before .before .before .before .before .response .given .1) (c .before .before .before .before .before .before .if1 .left) in
+    (kept _ (c .encode-judged2 .ok) ∙ c .encode-judged2 .ensures ∙ a, c .before .before .before .write-worst .ensures ∙ b)
+
+pub show-last-spec : {M : Type 1} → statement M
+show-last-spec =
+    tie.close
+    (tie.spec
+    enum-told
+    encode-judged-requires
+    enum-known-response
+    returns
+    write-worst-requires
+    encode-judged-requires-2
+    returns-2
+    same-length
+    returns-3)

@@ -1,0 +1,85 @@
+-- The file is read into rows of its own; a refusal of the file is encoded, and in a table that was read the last frame is judged and shown.
+use mathlib.Core.Path.{refl, sym, subst, _∙_}
+use borrow.Author.Needs.{needs}
+use Rattle.arith.specs.laws.Signed.{kept}
+use Rattle.frame_table.specs.Table.{readCheck}
+use Rattle.frame_table.specs.laws.Reading.{ReadRows, read-refused, read-rows}
+use Rattle.worst_case.specs.declared.LastFrame.{LastFrame}
+use Rattle.worst_case.specs.Answer.{worstOf}
+use Rattle.certifier.specs.WorstEntry.{worstRead}
+use Rattle.certifier.specs.Steps.{Encodable}
+use Rattle.certifier.specs.laws.Small.{judged-encodable}
+use Rattle.certifier.specs.laws.WorstEntry.{last-refused}
+use Rattle.certifier.proofs.worst_entry.worst_table.Statement.{statement}
+use Rattle.certifier.proofs.worst_entry.worst_table.Tie as tie
+
+slice-aggregate-read : tie.Need-slice-aggregate-read
+slice-aggregate-read c = search needs
+
+read-requires : tie.Need-read-requires
+read-requires c κs = search needs
+
+enum-known-answer : tie.Need-enum-known-answer
+enum-known-answer c = search needs
+
+of-table-requires : tie.Need-of-table-requires
+of-table-requires c κs = search needs
+
+encode-refusal-requires : tie.Need-encode-refusal-requires
+encode-refusal-requires c κs = search needs
+
+enum-known-answer-2 : tie.Need-enum-known-answer-2
+enum-known-answer-2 c = search needs
+
+-- what was read is the table
+table : (c : tie.After-known-told2) → ReadRows (c .before .before .before .before .before .before .before .before .args .table .now) (c .before .before .before .before .read .last .1 .0) (c .before .answer2 .given .0 .0)
+table c = read-rows _ _ _ refl (c .before .before .before .before .read .ensures .0) _ _ (c .before .before .before .before .read .ensures .1 .0) (c .before .answer2 .given .1)
+
+array-share-prefix-rows : tie.Need-array-share-prefix-rows
+array-share-prefix-rows c = table (c) .room
+
+slice-aggregate-worst : tie.Need-slice-aggregate-worst
+slice-aggregate-worst c = table (c .before) .size
+
+worst-requires : tie.Need-worst-requires
+worst-requires c κs = search needs
+
+show-last-requires : tie.Need-show-last-requires
+unfolding worstOf
+show-last-requires c κs = subst (λ (l : LastFrame). Encodable (l .judged)) (sym (c .before .worst .ensures .0)) (judged-encodable _ _ _)
+
+returns : tie.Need-returns
+unfolding worstRead
+returns c =
+    let s = c .before .before .before .before .before .before .before .before .before .before in
+    let (a, b) = last-refused (worstRead (readCheck (s .args .table .now)) (s .args .lengths) (s .args .table .now)) (c .before .of-table .result) (s .args .shown .now)
+    (rw (read-refused (s .args .table .now) _ _ refl (c .before .before .before .before .before .before .read .ensures .0) _ (c .before .before .before .answer .given .1), c .before .of-table .ensures)) in
+    (kept _ (c .encode-refusal .ok) ∙ c .encode-refusal .ensures ∙ a, b)
+
+same-length : tie.Need-same-length
+same-length c = search needs
+
+returns-2 : tie.Need-returns-2
+unfolding worstRead
+returns-2 c =
+    let t = table (c .before .before .before .before .before .before) in
+    let e = c .before .before .show-last .ensures in
+    rw (t .passed, ← t .rows, ← c .before .before .before .before .worst .ensures .0) (kept _ (c .before .before .show-last .ok) ∙ e .0, e .1)
+
+pub worst-table-spec : {M : Type 1} → statement M
+worst-table-spec =
+    tie.close
+    (tie.spec
+    slice-aggregate-read
+    read-requires
+    enum-known-answer
+    of-table-requires
+    encode-refusal-requires
+    enum-known-answer-2
+    array-share-prefix-rows
+    slice-aggregate-worst
+    worst-requires
+    show-last-requires
+    returns
+    same-length
+    returns-2)

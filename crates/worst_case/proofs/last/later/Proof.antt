@@ -1,0 +1,27 @@
+-- By their priorities.
+use borrow.Author.Needs.{needs}
+use native.Mathlib.Omega.{arith}
+use Rattle.worst_case.specs.laws.Last.{later-second, later-first}
+use Rattle.worst_case.proofs.last.later.Statement.{statement}
+use Rattle.worst_case.proofs.last.later.Tie as tie
+
+frame-requires : tie.Need-frame-requires
+frame-requires c κs = search needs
+
+frame-requires-2 : tie.Need-frame-requires-2
+frame-requires-2 c κs = search needs
+
+returns : tie.Need-returns
+returns c = later-second _ (c .before .before .before .before .before .before .args .a) (c .before .before .before .before .before .before .args .b) (c .before .before .before .before .frame .ensures) (c .before .before .before .frame2 .ensures) (c .if1 .taken)
+
+returns-2 : tie.Need-returns-2
+returns-2 c = later-first _ (c .before .before .before .before .before .before .args .a) (c .before .before .before .before .before .before .args .b) (c .before .before .before .before .frame .ensures) (c .before .before .before .frame2 .ensures) (omega (arith, c .if1 .left))
+
+pub later-spec : {M : Type 1} → statement M
+later-spec =
+    tie.close
+    (tie.spec
+    frame-requires
+    frame-requires-2
+    returns
+    returns-2)

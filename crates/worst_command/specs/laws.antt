@@ -1,0 +1,2 @@
+-- What is proved of the text.
+pub mod Text
