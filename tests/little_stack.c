@@ -1,6 +1,6 @@
 /*
  * The library on a small stack: the example's work, and judgements and listings that fix sixteen groups one after the other, in a
- * thread that has CERTIFIER_STACK bytes and 4 KiB more for its own start, above a page that must not be touched. The stack is painted
+ * thread that has CERTIFIER_JUDGING_STACK bytes and 4 KiB more for its own start, above a page that must not be touched. The stack is painted
  * before, so that the paint that is left tells how much was needed; what a thread that does nothing takes is not counted.
  */
 #define _DEFAULT_SOURCE
@@ -12,7 +12,7 @@
 #include "../examples/judge_table.c"
 #undef main
 
-enum { OWN_START = 4096, STACK = CERTIFIER_STACK + OWN_START, GUARD = 4096, PAINT = 0xa5, GROUPS = 16, ROWS = 64 };
+enum { OWN_START = 4096, STACK = CERTIFIER_JUDGING_STACK + OWN_START, GUARD = 4096, PAINT = 0xa5, GROUPS = 16, ROWS = 64 };
 
 static const char standard[] =
     "   55   65   75   85   95  105  115  125  135\n"
@@ -102,8 +102,8 @@ static void expect_little(const char *name, void *(*work)(void *))
 {
     size_t needed = touched(work, NULL) - touched(nothing, NULL);
     fprintf(stderr, "%s: %zu bytes of stack\n", name, needed);
-    if (needed > CERTIFIER_STACK) {
-        printf("%s: %zu bytes of stack, more than %d\n", name, needed, CERTIFIER_STACK);
+    if (needed > CERTIFIER_JUDGING_STACK) {
+        printf("%s: %zu bytes of stack, more than %d\n", name, needed, CERTIFIER_JUDGING_STACK);
         failures++;
     }
 }
