@@ -53,6 +53,21 @@ int64_t certifier_explain(const uint8_t *lengths, size_t lengths_len, const uint
 #define CERTIFIER_CASE 17
 
 /*
+ * Judges the claim of a row under the premise that faults begin at least `gap` ticks apart, 1 to 1000000. A fault begins in some
+ * tick of a transmission and cuts it at that tick's end; 31 ticks of signalling follow, and the cut instance is still queued. A
+ * certified frame is then never late in any schedule with such faults: the transmission that none cuts ends within the claim.
+ * Answers as certifier_judge does.
+ */
+int64_t certifier_judge_faults(const uint8_t *lengths, size_t lengths_len, const uint8_t *table, size_t table_len, uint64_t row,
+                               uint64_t gap);
+
+/*
+ * Judges the same, and shows the case that breaks the claim as certifier_explain does.
+ */
+int64_t certifier_explain_faults(const uint8_t *lengths, size_t lengths_len, const uint8_t *table, size_t table_len, uint64_t row,
+                                 uint64_t gap, uint32_t *shown, size_t shown_len);
+
+/*
  * The precise bound of a row, in ticks, or, where the call is turned back, minus (number * 10000 + place).
  */
 int64_t certifier_precise_bound(const uint8_t *lengths, size_t lengths_len, const uint8_t *table, size_t table_len,
@@ -78,6 +93,12 @@ int64_t certifier_worst(const uint8_t *lengths, size_t lengths_len, const uint8_
  */
 int64_t certifier_list(const uint8_t *lengths, size_t lengths_len, const uint8_t *table, size_t table_len, uint8_t *out,
                        size_t out_len);
+
+/*
+ * Writes the same where faults begin at least `gap` ticks apart, 1 to 1000000, as certifier_judge_faults judges.
+ */
+int64_t certifier_list_faults(const uint8_t *lengths, size_t lengths_len, const uint8_t *table, size_t table_len, uint64_t gap,
+                              uint8_t *out, size_t out_len);
 
 /* The bytes of the longest listing. */
 #define CERTIFIER_LISTING_MOST 1984
@@ -170,6 +191,7 @@ enum certifier_refusal {
     CERTIFIER_LENGTH_LIMITS = 14,/* the lengths' line: a number outside 47..400, or smaller than the one before it */
     CERTIFIER_SECOND_GROUP = 15, /* the line: its node stands in another group on an earlier line */
     CERTIFIER_NOT_A_FRAME = 16,  /* 0; of certifier_frame_length only: a kind, identifier or payload outside its limits */
+    CERTIFIER_GAP_OUTSIDE = 17,  /* 0; of calls with a gap only: it lies outside 1..1000000 */
     CERTIFIER_LOG_NOTATION = 18, /* of calls with a log only: the log's length is no multiple of 40 or beyond 64000: 0;
                                     a line breaks the notation, or a start or queueing is beyond 9999999999: the line */
     CERTIFIER_LOG_CONTRADICTION = 19, /* of calls with a log only: no starts make the log the beginning of a schedule:

@@ -6,6 +6,7 @@ use lib.Dec.{leb}
 use Rattle.arith.specs.declared.Found.{Found}
 use Rattle.arith.specs.declared.Found.the-variants.{At, Nothing}
 use Rattle.bus_model.specs.declared.Frame.{Frame}
+use Rattle.bus_model.specs.declared.Faults.{Faults}
 use Rattle.bus_model.specs.Bounds.{approximateBound, preciseBound}
 use Rattle.bus_model.specs.Levels.{levelBound}
 use Rattle.bus_model.specs.Judgement.{lacksWindow, tooManyScenarios, deepestLevel}
@@ -18,13 +19,13 @@ meets (At c) b = leb b c
 meets Nothing b = false
 
 -- the bound of level m, where the claim meets it, and otherwise that there are too many scenarios, with the approximate bound b
-abbrev pub levelFor : List Frame → Frame → ℕ → Found → ℕ → Bound
-levelFor fs k m claim b = cond (meets claim (levelBound fs k m)) (Level (levelBound fs k m)) (TooMany b)
+abbrev pub levelFor : Faults → List Frame → Frame → ℕ → Found → ℕ → Bound
+levelFor faults fs k m claim b = cond (meets claim (levelBound faults fs k m)) (Level (levelBound faults fs k m)) (TooMany b)
 
 -- no bound without windows; else the approximate one, where the claim meets it; else that of the deepest level, where there are too many
 -- scenarios, or the precise one
-unfoldable pub boundFor : List Frame → Frame → Found → Bound
-boundFor fs k claim =
-    cond (lacksWindow fs k) NoWindow
-    (cond (meets claim (approximateBound fs k)) (Approximate (approximateBound fs k))
-    (cond (tooManyScenarios fs k) (levelFor fs k (deepestLevel fs k) claim (approximateBound fs k)) (Precise (preciseBound fs k))))
+unfoldable pub boundFor : Faults → List Frame → Frame → Found → Bound
+boundFor faults fs k claim =
+    cond (lacksWindow faults fs k) NoWindow
+    (cond (meets claim (approximateBound faults fs k)) (Approximate (approximateBound faults fs k))
+    (cond (tooManyScenarios fs k) (levelFor faults fs k (deepestLevel fs k) claim (approximateBound faults fs k)) (Precise (preciseBound faults fs k))))

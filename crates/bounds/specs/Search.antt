@@ -4,6 +4,7 @@ use mathlib.Core.List.{List}
 use Rattle.arith.specs.declared.Found.{Found}
 use Rattle.arith.specs.declared.Found.the-variants.{At, Nothing}
 use Rattle.bus_model.specs.declared.Frame.{Frame}
+use Rattle.bus_model.specs.declared.Faults.{Faults}
 use Rattle.bus_model.specs.declared.Choice.{Choice}
 use Rattle.bus_model.specs.declared.Choice.the-variants.{Any}
 use Rattle.bus_model.specs.Bounds.{choiceOf}
@@ -17,6 +18,6 @@ pub record OwnOpen (fs : List Frame) (k : Frame) (cs : List Choice) : Type 0 whe
   pub any : choiceOf cs (k .group) ≡ Any
 
 -- the scenario has a window, and it is not longer than the limit, where there is one
-abbrev pub Limits : List Frame → Frame → List Choice → Found → Type 0
-Limits fs k cs (At l) = WindowWithin fs k cs l
-Limits fs k cs Nothing = Unit {0}
+abbrev pub Limits : Faults → List Frame → Frame → List Choice → Found → Type 0
+Limits faults fs k cs (At l) = WindowWithin faults fs k cs l
+Limits faults fs k cs Nothing = Unit {0}

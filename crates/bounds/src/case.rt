@@ -33,9 +33,9 @@ fn first_exceeding(
     memory: &mut [u64],
 ) -> u32
     requires { ⌜ Ready (now rows) (now prepared) target (now memory) ⌝ }
-    requires { ⌜ LeadsTo (tableOf (now rows) (now prepared)) (target .frame) claim group choices ⌝ }
-    requires { ⌜ (1 ≤ group) × (group ≤ 16) × (lacksWindow (tableOf (now rows) (now prepared)) (target .frame) ≡ false) ⌝ }
-    ensures { λ r. ⌜ LeadsTo (tableOf (now (rows .entry)) (now (prepared .entry))) (target .frame) claim (group + 1) (set choices (group - 1) (Fixed r)) ⌝ }
+    requires { ⌜ LeadsTo (target .faults) (tableOf (now rows) (now prepared)) (target .frame) claim group choices ⌝ }
+    requires { ⌜ (1 ≤ group) × (group ≤ 16) × (lacksWindow (target .faults) (tableOf (now rows) (now prepared)) (target .frame) ≡ false) ⌝ }
+    ensures { λ r. ⌜ LeadsTo (target .faults) (tableOf (now (rows .entry)) (now (prepared .entry))) (target .frame) claim (group + 1) (set choices (group - 1) (Fixed r)) ⌝ }
     ensures ready { λ _. ⌜ Ready (now (rows .entry)) (now (prepared .entry)) target (now (memory .exit)) ⌝ }
 {
     let mut a = or_zero(next_of(rows, prepared, target, group, 0));
@@ -77,8 +77,8 @@ pub fn first_case(
     memory: &mut [u64],
 ) -> Case
     requires { ⌜ Ready (now rows) (now prepared) target (now memory) ⌝ }
-    requires { ⌜ lacksWindow (tableOf (now rows) (now prepared)) (target .frame) ≡ false ⌝ }
-    ensures { λ r. ⌜ r ≡ firstCase (tableOf (now (rows .entry)) (now (prepared .entry))) (target .frame) claim ⌝ }
+    requires { ⌜ lacksWindow (target .faults) (tableOf (now rows) (now prepared)) (target .frame) ≡ false ⌝ }
+    ensures { λ r. ⌜ r ≡ firstCase (target .faults) (tableOf (now (rows .entry)) (now (prepared .entry))) (target .frame) claim ⌝ }
 {
     let mut choices = [Choice::Any; 16];
     let mut alignments = [0u32; 16];

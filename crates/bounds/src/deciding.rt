@@ -39,8 +39,8 @@ fn by_level(
     memory: &mut [u64],
 ) -> Bound
     requires { ⌜ Ready (now rows) (now prepared) target (now memory) ⌝ }
-    requires { ⌜ (lacksWindow (tableOf (now rows) (now prepared)) (target .frame) ≡ false) × (level < 16) ⌝ }
-    ensures { λ r. ⌜ r ≡ levelFor (tableOf (now (rows .entry)) (now (prepared .entry))) (target .frame) level claim rough ⌝ }
+    requires { ⌜ (lacksWindow (target .faults) (tableOf (now rows) (now prepared)) (target .frame) ≡ false) × (level < 16) ⌝ }
+    ensures { λ r. ⌜ r ≡ levelFor (target .faults) (tableOf (now (rows .entry)) (now (prepared .entry))) (target .frame) level claim rough ⌝ }
     ensures ready { λ _. ⌜ Ready (now (rows .entry)) (now (prepared .entry)) target (now (memory .exit)) ⌝ }
 {
     let Found::At(c) = claim else {
@@ -65,7 +65,7 @@ pub fn find(
     memory: &mut [u64],
 ) -> Bound
     requires { ⌜ Ready (now rows) (now prepared) target (now memory) ⌝ }
-    ensures { λ r. ⌜ r ≡ boundFor (tableOf (now (rows .entry)) (now (prepared .entry))) (target .frame) claim ⌝ }
+    ensures { λ r. ⌜ r ≡ boundFor (target .faults) (tableOf (now (rows .entry)) (now (prepared .entry))) (target .frame) claim ⌝ }
     ensures ready { λ _. ⌜ Ready (now (rows .entry)) (now (prepared .entry)) target (now (memory .exit)) ⌝ }
 {
     let free = [Choice::Any; 16];

@@ -44,8 +44,8 @@ fn reach_now(
 ) -> u32
     requires { ⌜ Ready (now rows) (now prepared) target (now memory) ⌝ }
     requires { ⌜ OwnFixed (target .frame) choices ⌝ }
-    requires { ⌜ Reaches (tableOf (now rows) (now prepared)) (target .frame) choices best reach ⌝ }
-    ensures { λ r. ⌜ Reaches (tableOf (now (rows .entry)) (now (prepared .entry))) (target .frame) choices best r ⌝ }
+    requires { ⌜ Reaches (target .faults) (tableOf (now rows) (now prepared)) (target .frame) choices best reach ⌝ }
+    ensures { λ r. ⌜ Reaches (target .faults) (tableOf (now (rows .entry)) (now (prepared .entry))) (target .frame) choices best r ⌝ }
     ensures ready { λ _. ⌜ Ready (now (rows .entry)) (now (prepared .entry)) target (now (memory .exit)) ⌝ }
 {
     if !asked {
@@ -87,8 +87,8 @@ fn refine(
     requires { ⌜ Ready (now rows) (now prepared) target (now memory) ⌝ }
     requires { ⌜ (1 ≤ fixing .group) × (fixing .group ≤ 16) ⌝ }
     requires { ⌜ OwnFixed (target .frame) (set coarser (fixing .group - 1) (Fixed (fixing .alignment))) ⌝ }
-    requires { ⌜ Reaches (tableOf (now rows) (now prepared)) (target .frame) (set coarser (fixing .group - 1) (Fixed (fixing .alignment))) best reach ⌝ }
-    ensures { λ r. ⌜ r ≡ max best (fixingMore (tableOf (now (rows .entry)) (now (prepared .entry))) (target .frame) left (set coarser (fixing .group - 1) (Fixed (fixing .alignment)))) ⌝ }
+    requires { ⌜ Reaches (target .faults) (tableOf (now rows) (now prepared)) (target .frame) (set coarser (fixing .group - 1) (Fixed (fixing .alignment))) best reach ⌝ }
+    ensures { λ r. ⌜ r ≡ max best (fixingMore (target .faults) (tableOf (now (rows .entry)) (now (prepared .entry))) (target .frame) left (set coarser (fixing .group - 1) (Fixed (fixing .alignment)))) ⌝ }
     ensures ready { λ _. ⌜ Ready (now (rows .entry)) (now (prepared .entry)) target (now (memory .exit)) ⌝ }
 {
     let choices = with_choice(coarser, fixing.group, fixing.alignment);
@@ -145,9 +145,9 @@ fn limit_of(
     memory: &mut [u64],
 ) -> u32
     requires { ⌜ Ready (now rows) (now prepared) target (now memory) ⌝ }
-    requires { ⌜ Limits (tableOf (now rows) (now prepared)) (target .frame) choices limit ⌝ }
-    requires { ⌜ ((l : ℕ) × (busyWindow (tableOf (now rows) (now prepared)) (target .frame) choices ≡ At l)) ⌝ }
-    ensures { λ r. ⌜ WindowWithin (tableOf (now (rows .entry)) (now (prepared .entry))) (target .frame) choices r ⌝ }
+    requires { ⌜ Limits (target .faults) (tableOf (now rows) (now prepared)) (target .frame) choices limit ⌝ }
+    requires { ⌜ ((l : ℕ) × (busyWindow (target .faults) (tableOf (now rows) (now prepared)) (target .frame) choices ≡ At l)) ⌝ }
+    ensures { λ r. ⌜ WindowWithin (target .faults) (tableOf (now (rows .entry)) (now (prepared .entry))) (target .frame) choices r ⌝ }
     ensures ready { λ _. ⌜ Ready (now (rows .entry)) (now (prepared .entry)) target (now (memory .exit)) ⌝ }
 {
     match limit {
@@ -170,9 +170,9 @@ pub fn refine_own(
 ) -> u32
     requires { ⌜ Ready (now rows) (now prepared) target (now memory) ⌝ }
     requires { ⌜ OwnOpen (tableOf (now rows) (now prepared)) (target .frame) choices ⌝ }
-    requires { ⌜ Limits (tableOf (now rows) (now prepared)) (target .frame) choices limit ⌝ }
-    requires { ⌜ (lacksWindow (tableOf (now rows) (now prepared)) (target .frame) ≡ false) × (1 ≤ left) ⌝ }
-    ensures { λ r. ⌜ r ≡ max best (fixingMore (tableOf (now (rows .entry)) (now (prepared .entry))) (target .frame) left choices) ⌝ }
+    requires { ⌜ Limits (target .faults) (tableOf (now rows) (now prepared)) (target .frame) choices limit ⌝ }
+    requires { ⌜ (lacksWindow (target .faults) (tableOf (now rows) (now prepared)) (target .frame) ≡ false) × (1 ≤ left) ⌝ }
+    ensures { λ r. ⌜ r ≡ max best (fixingMore (target .faults) (tableOf (now (rows .entry)) (now (prepared .entry))) (target .frame) left choices) ⌝ }
     ensures ready { λ _. ⌜ Ready (now (rows .entry)) (now (prepared .entry)) target (now (memory .exit)) ⌝ }
 {
     let k = target.frame;
@@ -218,8 +218,8 @@ pub fn refine_all(
 ) -> u32
     requires { ⌜ Ready (now rows) (now prepared) target (now memory) ⌝ }
     requires { ⌜ RefinedBy (tableOf (now rows) (now prepared)) (target .frame) free choices ⌝ }
-    requires { ⌜ lacksWindow (tableOf (now rows) (now prepared)) (target .frame) ≡ false ⌝ }
-    ensures { λ r. ⌜ r ≡ max best (fixingMore (tableOf (now (rows .entry)) (now (prepared .entry))) (target .frame) 16 choices) ⌝ }
+    requires { ⌜ lacksWindow (target .faults) (tableOf (now rows) (now prepared)) (target .frame) ≡ false ⌝ }
+    ensures { λ r. ⌜ r ≡ max best (fixingMore (target .faults) (tableOf (now (rows .entry)) (now (prepared .entry))) (target .frame) 16 choices) ⌝ }
     ensures ready { λ _. ⌜ Ready (now (rows .entry)) (now (prepared .entry)) target (now (memory .exit)) ⌝ }
 {
     let own = own_choice(target.frame, choices);

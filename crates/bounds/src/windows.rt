@@ -23,8 +23,8 @@ pub fn lacks_window(
     memory: &mut [u64],
 ) -> bool
     requires { ⌜ Ready (now rows) (now prepared) target (now memory) ⌝ }
-    requires { ⌜ limit ≡ busyWindow (tableOf (now rows) (now prepared)) (target .frame) free ⌝ }
-    ensures { λ r. ⌜ r ≡ lacksWindow (tableOf (now (rows .entry)) (now (prepared .entry))) (target .frame) ⌝ }
+    requires { ⌜ limit ≡ busyWindow (target .faults) (tableOf (now rows) (now prepared)) (target .frame) free ⌝ }
+    ensures { λ r. ⌜ r ≡ lacksWindow (target .faults) (tableOf (now (rows .entry)) (now (prepared .entry))) (target .frame) ⌝ }
     ensures ready { λ _. ⌜ Ready (now (rows .entry)) (now (prepared .entry)) target (now (memory .exit)) ⌝ }
 {
     if let Found::At(_) = limit {

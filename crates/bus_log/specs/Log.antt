@@ -14,6 +14,7 @@ use Rattle.bus_model.specs.Frame.{row}
 use Rattle.bus_model.specs.Release.{release}
 use Rattle.bus_model.specs.Bus.{Transmission, Schedule}
 use Rattle.bus_model.specs.declared.Frame.{Frame}
+use Rattle.bus_model.specs.declared.Faults.the-variants.{Never}
 use Rattle.table_checks.specs.Columns.{field, columns, identifierColumn, kindColumn}
 use Rattle.bus_log.specs.declared.Line.{Line}
 
@@ -44,7 +45,7 @@ lastEnd log = endFrom 0 log
 
 -- with these starts the log is "the beginning of a schedule that the table and bus rule allow, up to the last end"
 unfoldable pub IsBeginning : List Frame → List ℕ → (ℕ → ℕ) → List Line → Type 0
-IsBeginning fs t starts log = (xs : List Transmission) × ShowsAll fs t starts log xs × Schedule fs starts (lastEnd log) xs
+IsBeginning fs t starts log = (xs : List Transmission) × ShowsAll fs t starts log xs × Schedule Never fs starts (lastEnd log) xs
 
 -- "accepted exactly if group starts exist"
 unfoldable pub AcceptedLog : List Frame → List ℕ → List Line → Type 0

@@ -1,4 +1,5 @@
--- The bounds of a frame k of the table fs (document 01, "The bounds").
+-- The bounds of a frame k of the table fs (document 01, "The bounds"), under a premise about faults (document 02, request 9), which is
+-- `Never` in document 01.
 -- The precise and the approximate bound take the greatest response over scenarios; they differ only in which scenarios these are.
 use Prim.Native.Nat.{ℕ, suc, _+_, _-_, _*_, _%_}
 use mathlib.Core.List.{List, [], _∷_, map}
@@ -9,9 +10,12 @@ use Rattle.arith.specs.Lists.{sum, product, greatest, keep, exists, range, comb
 use Rattle.arith.specs.Least.{least, orZero}
 use Rattle.arith.specs.Releases.{releasesBefore}
 use Rattle.bus_model.specs.Pattern.{ofGroup, hyperperiod}
+use Rattle.bus_model.specs.Bus.{signalling}
 use Rattle.arith.specs.declared.Found.{Found}
 use Rattle.arith.specs.declared.Found.the-variants.{At, Nothing}
 use Rattle.bus_model.specs.declared.Frame.{Frame}
+use Rattle.bus_model.specs.declared.Faults.{Faults}
+use Rattle.bus_model.specs.declared.Faults.the-variants.{Never, Apart}
 use Rattle.bus_model.specs.declared.Choice.{Choice}
 use Rattle.bus_model.specs.declared.Choice.the-variants.{Fixed, Any}
 
@@ -50,6 +54,17 @@ below fs k = keep (isBelow k) fs
 -- "Blocking" B: 0 if no frame ranks below k, otherwise the greatest C below it, minus 1
 unfoldable pub blocking : List Frame → Frame → ℕ
 blocking fs k = greatest (λ g. g .length) (below fs k) - 1
+
+-- ---- faults
+
+-- "F is 31 plus the greatest largest length among the frames ahead": what a fault costs at most
+unfoldable pub faultTime : List Frame → Frame → ℕ
+faultTime fs k = signalling + greatest (λ g. g .length) (ahead fs k)
+
+-- "ceil(n/G) × F": what the faults that begin in n ticks cost at most; ceil(n/g) is how many of 0, g, 2g, .. are below n
+unfoldable pub faultLoad : Faults → List Frame → Frame → ℕ → ℕ
+faultLoad Never fs k n = 0
+faultLoad (Apart g) fs k n = releasesBefore 0 g n * faultTime fs k
 
 -- ---- alignments
 
@@ -120,52 +135,54 @@ work fs k gs cs n = sum (λ j. groupWork (ofGroup gs j) (alignments fs k j) (cho
 
 -- ---- the busy window and the response times of a scenario
 
--- B plus the C's of all frames ahead that are queued in 0..l-1
-unfoldable pub windowLoad : List Frame → Frame → List Choice → ℕ → ℕ
-windowLoad fs k cs l = blocking fs k + work fs k (ahead fs k) cs l
-
--- "window" L: the least l, 1 or more, whose load is at most l
-unfoldable pub busyWindow : List Frame → Frame → List Choice → Found
-busyWindow fs k cs = least (λ l. leb (windowLoad fs k cs l) l) windowLimit 1
-
--- B + q×C of k + the C's of better frames queued in 0..w, where one queued at w still wins; document 01's q is this one plus 1
-unfoldable pub delayLoad : List Frame → Frame → List Choice → ℕ → ℕ → ℕ
-delayLoad fs k cs q w = blocking fs k + q * k .length + work fs k (better fs k) cs (suc w)
-
--- "start" of instance q of k: the least w, 0 or more, whose load is at most w; each instance of a window has one below the limit
--- (theory/Response.antt, delay-within)
-unfoldable pub queueingDelay : List Frame → Frame → List Choice → ℕ → Found
-queueingDelay fs k cs q = least (λ w. leb (delayLoad fs k cs q w) w) windowLimit 0
-
 -- k's own distance d; the bounds fix k's own group
 unfoldable pub ownDistance : Frame → List Choice → ℕ
 ownDistance k cs = elim (choiceOf cs (k .group)) [ Fixed a ↦ distance k a | Any ↦ 0 ]
 
--- "response" of instance q of k: w + C of k - d - q×p, which is never cut at 0 (theory/Response.antt, response-whole)
-unfoldable pub instanceResponse : List Frame → Frame → List Choice → ℕ → ℕ
-instanceResponse fs k cs q = orZero (queueingDelay fs k cs q) + k .length - (ownDistance k cs + q * k .period)
+module _ (faults : Faults) where
+  -- B plus the C's of all frames ahead that are queued in 0..l-1; "the window's sum gains ceil(L/G) × F"
+  unfoldable pub windowLoad : List Frame → Frame → List Choice → ℕ → ℕ
+  windowLoad fs k cs l = blocking fs k + work fs k (ahead fs k) cs l + faultLoad faults fs k l
 
--- the greatest response of the instances whose queueing d + q×p is below l
-unfoldable pub responseTime : List Frame → Frame → List Choice → ℕ → ℕ
-responseTime fs k cs l = greatest (instanceResponse fs k cs) (range 0 (releasesBefore (ownDistance k cs) (k .period) l))
+  -- "window" L: the least l, 1 or more, whose load is at most l
+  unfoldable pub busyWindow : List Frame → Frame → List Choice → Found
+  busyWindow fs k cs = least (λ l. leb (windowLoad fs k cs l) l) windowLimit 1
 
--- that of the scenario's window, 0 where it has none
-unfoldable pub scenarioResponse : List Frame → Frame → List Choice → ℕ
-scenarioResponse fs k cs = elim (busyWindow fs k cs) [ At l ↦ responseTime fs k cs l | Nothing ↦ 0 ]
+  -- B + q×C of k + the C's of better frames queued in 0..w, where one queued at w still wins; document 01's q is this one plus 1;
+  -- "the start's sum gains ceil((w + C of k)/G) × F"
+  unfoldable pub delayLoad : List Frame → Frame → List Choice → ℕ → ℕ → ℕ
+  delayLoad fs k cs q w = blocking fs k + q * k .length + work fs k (better fs k) cs (suc w) + faultLoad faults fs k (w + k .length)
 
--- ---- the bounds
+  -- "start" of instance q of k: the least w, 0 or more, whose load is at most w; each instance of a window has one below the limit
+  -- (theory/Response.antt, delay-within)
+  unfoldable pub queueingDelay : List Frame → Frame → List Choice → ℕ → Found
+  queueingDelay fs k cs q = least (λ w. leb (delayLoad fs k cs q w) w) windowLimit 0
 
--- the greatest response over the scenarios in which the groups that `fixes` names take each of their alignments
-unfoldable pub boundOf : List Frame → Frame → (ℕ → Bool) → ℕ
-boundOf fs k fixes = greatest (scenarioResponse fs k) (scenarios fs k fixes)
+  -- "response" of instance q of k: w + C of k - d - q×p, which is never cut at 0 (theory/Response.antt, response-whole)
+  unfoldable pub instanceResponse : List Frame → Frame → List Choice → ℕ → ℕ
+  instanceResponse fs k cs q = orZero (queueingDelay fs k cs q) + k .length - (ownDistance k cs + q * k .period)
 
--- "Exact bound": the greatest response over all scenarios and q
-abbrev pub preciseBound : List Frame → Frame → ℕ
-preciseBound fs k = boundOf fs k everyGroup
+  -- the greatest response of the instances whose queueing d + q×p is below l
+  unfoldable pub responseTime : List Frame → Frame → List Choice → ℕ → ℕ
+  responseTime fs k cs l = greatest (instanceResponse fs k cs) (range 0 (releasesBefore (ownDistance k cs) (k .period) l))
 
--- "Rough bound": k's own group takes each of its alignments in turn, every other group stands at `Any`
-abbrev pub approximateBound : List Frame → Frame → ℕ
-approximateBound fs k = boundOf fs k (ownGroup k)
+  -- that of the scenario's window, 0 where it has none
+  unfoldable pub scenarioResponse : List Frame → Frame → List Choice → ℕ
+  scenarioResponse fs k cs = elim (busyWindow fs k cs) [ At l ↦ responseTime fs k cs l | Nothing ↦ 0 ]
+
+  -- ---- the bounds
+
+  -- the greatest response over the scenarios in which the groups that `fixes` names take each of their alignments
+  unfoldable pub boundOf : List Frame → Frame → (ℕ → Bool) → ℕ
+  boundOf fs k fixes = greatest (scenarioResponse fs k) (scenarios fs k fixes)
+
+  -- "Exact bound": the greatest response over all scenarios and q
+  abbrev pub preciseBound : List Frame → Frame → ℕ
+  preciseBound fs k = boundOf fs k everyGroup
+
+  -- "Rough bound": k's own group takes each of its alignments in turn, every other group stands at `Any`
+  abbrev pub approximateBound : List Frame → Frame → ℕ
+  approximateBound fs k = boundOf fs k (ownGroup k)
 
 -- "Scenario count": the product of the groups' numbers of alignments, empty ones counting 1
 unfoldable pub scenarioCount : List Frame → Frame → ℕ

@@ -1,5 +1,5 @@
 -- The case that breaks the claim of a frame k of the table fs (document 02, request 4): the first scenario in which a response exceeds
--- the claim, and the first instance of k whose response does.
+-- the claim, and the first instance of k whose response does, under a premise about faults.
 -- "Scenarios run with nodes rising and alignments rising, the last node changing fastest", groups in place of nodes, as `scenarios` lists them.
 use Prim.Native.Nat.{ℕ, _-_}
 use mathlib.Core.List.{List, [], _∷_, map}
@@ -11,6 +11,7 @@ use Rattle.bus_model.specs.Bounds.{groups, scenarios, everyGroup, busyWi
 use Rattle.arith.specs.declared.Found.{Found}
 use Rattle.arith.specs.declared.Found.the-variants.{At, Nothing}
 use Rattle.bus_model.specs.declared.Frame.{Frame}
+use Rattle.bus_model.specs.declared.Faults.{Faults}
 use Rattle.bus_model.specs.declared.Choice.{Choice}
 use Rattle.bus_model.specs.declared.Choice.the-variants.{Fixed, Any}
 use Rattle.bus_model.specs.declared.Outcome.{Outcome}
@@ -31,29 +32,29 @@ shown (Fixed a) = a
 shown Any = 0
 
 -- "the number q of the instance whose response exceeds the claim", the least in the scenario's window, from 1
-unfoldable pub exceedingInstance : List Frame → Frame → ℕ → List Choice → Found
-exceedingInstance fs k claim cs = elim (busyWindow fs k cs) [
-  | At l ↦ least (λ q. ltb claim (instanceResponse fs k cs (q - 1))) (releasesBefore (ownDistance k cs) (k .period) l) 1
+unfoldable pub exceedingInstance : Faults → List Frame → Frame → ℕ → List Choice → Found
+exceedingInstance faults fs k claim cs = elim (busyWindow faults fs k cs) [
+  | At l ↦ least (λ q. ltb claim (instanceResponse faults fs k cs (q - 1))) (releasesBefore (ownDistance k cs) (k .period) l) 1
   | Nothing ↦ Nothing
 ]
 
 -- the case that a scenario is, where it has such an instance
-unfoldable pub caseIn : List Frame → Frame → ℕ → List Choice → Case
-caseIn fs k claim cs = elim (exceedingInstance fs k claim cs) [ At q ↦ record { instance = At q; alignments = map shown cs } | Nothing ↦ noCase ]
+unfoldable pub caseIn : Faults → List Frame → Frame → ℕ → List Choice → Case
+caseIn faults fs k claim cs = elim (exceedingInstance faults fs k claim cs) [ At q ↦ record { instance = At q; alignments = map shown cs } | Nothing ↦ noCase ]
 
 -- "the first that exceeds is shown, with its least q"
-unfoldable pub firstAmong : List Frame → Frame → ℕ → List (List Choice) → Case
-firstAmong fs k claim [] = noCase
-firstAmong fs k claim (cs ∷ more) = orElse (caseIn fs k claim cs) (firstAmong fs k claim more)
+unfoldable pub firstAmong : Faults → List Frame → Frame → ℕ → List (List Choice) → Case
+firstAmong faults fs k claim [] = noCase
+firstAmong faults fs k claim (cs ∷ more) = orElse (caseIn faults fs k claim cs) (firstAmong faults fs k claim more)
 
-unfoldable pub firstCase : List Frame → Frame → ℕ → Case
-firstCase fs k claim = firstAmong fs k claim (scenarios fs k everyGroup)
+unfoldable pub firstCase : Faults → List Frame → Frame → ℕ → Case
+firstCase faults fs k claim = firstAmong faults fs k claim (scenarios fs k everyGroup)
 
 -- the case beside a judgement: "for every other verdict" than 3 "the judgement comes without a case"
-unfoldable pub caseOf : List Frame → Frame → ℕ → Outcome → Case
-caseOf fs k claim (CertifiedApproximate b) = noCase
-caseOf fs k claim (CertifiedPrecise b) = noCase
-caseOf fs k claim (ClaimTooSmall b) = firstCase fs k claim
-caseOf fs k claim (CertifiedLevel b) = noCase
-caseOf fs k claim (Undecided b) = noCase
-caseOf fs k claim NoWindow = noCase
+unfoldable pub caseOf : Faults → List Frame → Frame → ℕ → Outcome → Case
+caseOf faults fs k claim (CertifiedApproximate b) = noCase
+caseOf faults fs k claim (CertifiedPrecise b) = noCase
+caseOf faults fs k claim (ClaimTooSmall b) = firstCase faults fs k claim
+caseOf faults fs k claim (CertifiedLevel b) = noCase
+caseOf faults fs k claim (Undecided b) = noCase
+caseOf faults fs k claim NoWindow = noCase

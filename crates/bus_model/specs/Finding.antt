@@ -8,6 +8,7 @@ use Rattle.bus_model.specs.Bounds.{approximateBound, preciseBound}
 use Rattle.bus_model.specs.Levels.{levelBound}
 use Rattle.bus_model.specs.Judgement.{lacksWindow, tooManyScenarios, deepestLevel, verdict}
 use Rattle.bus_model.specs.declared.Frame.{Frame}
+use Rattle.bus_model.specs.declared.Faults.{Faults}
 use Rattle.bus_model.specs.declared.Judgement.{Judgement}
 
 pub record Finding : Type 0 where
@@ -24,12 +25,12 @@ abbrev pub finding : ℕ → ℕ → ℕ → Finding
 finding verdict bound claim = record { verdict = verdict; bound = bound; margin = pos claim -ℤ pos bound }
 
 -- "Order": no window (11); 1 by the rough bound; 4 by the deepest level, or undecided (12); 2 or 3 by the exact bound
-unfoldable pub findingFor : List Frame → Frame → ℕ → Finding
-findingFor fs k claim =
-    let rough = approximateBound fs k in
-    let exact = preciseBound fs k in
-    let deepest = levelBound fs k (deepestLevel fs k) in
-    cond (lacksWindow fs k) (record { verdict = 11; bound = 0; margin = pos 0 })
+unfoldable pub findingFor : Faults → List Frame → Frame → ℕ → Finding
+findingFor faults fs k claim =
+    let rough = approximateBound faults fs k in
+    let exact = preciseBound faults fs k in
+    let deepest = levelBound faults fs k (deepestLevel fs k) in
+    cond (lacksWindow faults fs k) (record { verdict = 11; bound = 0; margin = pos 0 })
     (cond (leb rough claim) (finding 1 rough claim)
     (cond (tooManyScenarios fs k) (cond (leb deepest claim) (finding 4 deepest claim) (finding 12 rough claim))
     (cond (leb exact claim) (finding 2 exact claim) (finding 3 exact claim))))

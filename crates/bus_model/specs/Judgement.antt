@@ -13,6 +13,7 @@ use Rattle.arith.specs.Least.{isNone}
 use Rattle.bus_model.specs.Bounds.{groups, busyWindow, scenarios, ownGroup, approximateBound, preciseBound, scenarioCount}
 use Rattle.bus_model.specs.Levels.{levelBound, levelCount}
 use Rattle.bus_model.specs.declared.Frame.{Frame}
+use Rattle.bus_model.specs.declared.Faults.{Faults}
 use Rattle.bus_model.specs.declared.Outcome.{Outcome}
 use Rattle.bus_model.specs.declared.Outcome.the-variants.{CertifiedApproximate, CertifiedPrecise, ClaimTooSmall, CertifiedLevel, Undecided, NoWindow}
 use Rattle.bus_model.specs.declared.Judgement.{Judgement}
@@ -21,39 +22,41 @@ use Rattle.bus_model.specs.declared.Judgement.{Judgement}
 unfoldable pub scenarioLimit : ℕ
 scenarioLimit = 65536
 
--- "no window": for some alignment of k's group no l up to the limit serves the rough bound
-unfoldable pub lacksWindow : List Frame → Frame → Bool
-lacksWindow fs k = exists (λ cs. isNone (busyWindow fs k cs)) (scenarios fs k (ownGroup k))
-
 -- "the scenario count exceeds 65536"
 unfoldable pub tooManyScenarios : List Frame → Frame → Bool
 tooManyScenarios fs k = ltb scenarioLimit (scenarioCount fs k)
-
--- "otherwise 2 or 3 by the exact bound"
-unfoldable pub preciseOutcome : List Frame → Frame → ℕ → Outcome
-preciseOutcome fs k claim = let b = preciseBound fs k in cond (leb b claim) (CertifiedPrecise b) (ClaimTooSmall b)
 
 -- "the deepest level whose product of fixed alignments is at most 65536"; that of the rough bound where none is
 unfoldable pub deepestLevel : List Frame → Frame → ℕ
 deepestLevel fs k = greatest (λ m. m) (keep (λ m. leb (levelCount fs k m) scenarioLimit) (range 0 groups))
 
--- where there are too many scenarios: "verdict 4, with that bound, if it is within the claim, and otherwise 12 as before", with the rough
--- bound b
-unfoldable pub crowdedOutcome : List Frame → Frame → ℕ → ℕ → Outcome
-crowdedOutcome fs k claim b = let c = levelBound fs k (deepestLevel fs k) in cond (leb c claim) (CertifiedLevel c) (Undecided b)
+-- under a premise about faults
+module _ (faults : Faults) where
+  -- "no window": for some alignment of k's group no l up to the limit serves the rough bound
+  unfoldable pub lacksWindow : List Frame → Frame → Bool
+  lacksWindow fs k = exists (λ cs. isNone (busyWindow faults fs k cs)) (scenarios fs k (ownGroup k))
 
--- where the rough bound b exceeds the claim: "undecided, if the scenario count exceeds 65536 (bound is the rough one)", unless a level
--- certifies
-unfoldable pub refinedOutcome : List Frame → Frame → ℕ → ℕ → Outcome
-refinedOutcome fs k claim b = cond (tooManyScenarios fs k) (crowdedOutcome fs k claim b) (preciseOutcome fs k claim)
+  -- "otherwise 2 or 3 by the exact bound"
+  unfoldable pub preciseOutcome : List Frame → Frame → ℕ → Outcome
+  preciseOutcome fs k claim = let b = preciseBound faults fs k in cond (leb b claim) (CertifiedPrecise b) (ClaimTooSmall b)
 
--- where the windows exist: "1, if rough bound ≤ claim"
-unfoldable pub windowedOutcome : List Frame → Frame → ℕ → Outcome
-windowedOutcome fs k claim = let b = approximateBound fs k in cond (leb b claim) (CertifiedApproximate b) (refinedOutcome fs k claim b)
+  -- where there are too many scenarios: "verdict 4, with that bound, if it is within the claim, and otherwise 12 as before", with the rough
+  -- bound b
+  unfoldable pub crowdedOutcome : List Frame → Frame → ℕ → ℕ → Outcome
+  crowdedOutcome fs k claim b = let c = levelBound faults fs k (deepestLevel fs k) in cond (leb c claim) (CertifiedLevel c) (Undecided b)
 
--- the outcome, in document 01's "Order"
-unfoldable pub outcomeOf : List Frame → Frame → ℕ → Outcome
-outcomeOf fs k claim = cond (lacksWindow fs k) NoWindow (windowedOutcome fs k claim)
+  -- where the rough bound b exceeds the claim: "undecided, if the scenario count exceeds 65536 (bound is the rough one)", unless a level
+  -- certifies
+  unfoldable pub refinedOutcome : List Frame → Frame → ℕ → ℕ → Outcome
+  refinedOutcome fs k claim b = cond (tooManyScenarios fs k) (crowdedOutcome fs k claim b) (preciseOutcome fs k claim)
+
+  -- where the windows exist: "1, if rough bound ≤ claim"
+  unfoldable pub windowedOutcome : List Frame → Frame → ℕ → Outcome
+  windowedOutcome fs k claim = let b = approximateBound faults fs k in cond (leb b claim) (CertifiedApproximate b) (refinedOutcome fs k claim b)
+
+  -- the outcome, in document 01's "Order"
+  unfoldable pub outcomeOf : List Frame → Frame → ℕ → Outcome
+  outcomeOf fs k claim = cond (lacksWindow fs k) NoWindow (windowedOutcome fs k claim)
 
 -- the "verdict" of an outcome
 unfoldable pub verdict : Outcome → ℕ
@@ -83,8 +86,8 @@ marginOf claim (Undecided b) = pos claim -ℤ pos b
 marginOf claim NoWindow = pos 0
 
 -- the judgement
-unfoldable pub judge : List Frame → Frame → ℕ → Judgement
-judge fs k claim = let o = outcomeOf fs k claim in record { outcome = o; bound = boundUsed o; margin = marginOf claim o }
+unfoldable pub judge : Faults → List Frame → Frame → ℕ → Judgement
+judge faults fs k claim = let o = outcomeOf faults fs k claim in record { outcome = o; bound = boundUsed o; margin = marginOf claim o }
 
 -- what document 01 says of it: the margin is "below zero exactly for verdicts 3 and 12"
 abbrev pub MarginSign : Judgement → Type 0

@@ -9,6 +9,7 @@ use lib.ListN.{length, take}
 use Rattle.arith.specs.Lists.{product, keep, exists, range}
 use Rattle.bus_model.specs.Bounds.{groups, alignments, orEmpty, boundOf}
 use Rattle.bus_model.specs.declared.Frame.{Frame}
+use Rattle.bus_model.specs.declared.Faults.{Faults}
 
 -- the order in which groups are fixed: k's own, then the others, rising
 unfoldable pub fixingOrder : Frame → List ℕ
@@ -22,9 +23,9 @@ fixedAt k m = take (suc m) (fixingOrder k)
 abbrev pub fixes : Frame → ℕ → ℕ → Bool
 fixes k m j = exists (eqb j) (fixedAt k m)
 
--- the bound of level m
-unfoldable pub levelBound : List Frame → Frame → ℕ → ℕ
-levelBound fs k m = boundOf fs k (fixes k m)
+-- the bound of level m, under a premise about faults
+unfoldable pub levelBound : Faults → List Frame → Frame → ℕ → ℕ
+levelBound faults fs k m = boundOf faults fs k (fixes k m)
 
 -- its "product of fixed alignments"
 unfoldable pub levelCount : List Frame → Frame → ℕ → ℕ

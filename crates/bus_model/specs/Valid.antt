@@ -6,6 +6,8 @@ use mathlib.Core.List.{List}
 use lib.ListN.{length}
 use Rattle.bus_model.specs.Frame.{row}
 use Rattle.bus_model.specs.declared.Frame.{Frame}
+use Rattle.bus_model.specs.declared.Faults.{Faults}
+use Rattle.bus_model.specs.declared.Faults.the-variants.{Never, Apart}
 
 -- a frame
 pub record ValidFrame (g : Frame) : Type 0 where
@@ -22,3 +24,8 @@ pub record Valid (fs : List Frame) : Type 0 where
 -- no frame begins late: each offset is below its period, as document 01 had it before late starters (document 02, 7)
 abbrev pub Early : List Frame → Type 0
 Early fs = (i : ℕ) → i < length fs → row fs i .offset < row fs i .period
+
+-- A premise about faults: a gap is not 0.
+unfoldable pub ValidFaults : Faults → Type 0
+ValidFaults Never = Unit {0}
+ValidFaults (Apart g) = 1 ≤ g

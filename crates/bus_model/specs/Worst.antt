@@ -15,6 +15,7 @@ use Rattle.bus_model.specs.Bus.{Transmission, Schedule}
 use Rattle.bus_model.specs.Bounds.{preciseBound}
 use Rattle.bus_model.specs.Case.{firstCase}
 use Rattle.bus_model.specs.declared.Frame.{Frame}
+use Rattle.bus_model.specs.declared.Faults.the-variants.{Never}
 use Rattle.bus_model.specs.declared.Case.{Case}
 
 -- ---- the frame that ranks last
@@ -36,7 +37,7 @@ allEarly fs = isNone (least (λ i. leb (row fs i .period) (row fs i .offset)) (l
 -- The worst case is the first that breaks a claim of a tick less than the precise bound (Case.antt): a scenario in which a response is
 -- that bound, and the number of the instance whose response it is.
 unfoldable pub worstCase : List Frame → Frame → Case
-worstCase fs k = firstCase fs k (preciseBound fs k - 1)
+worstCase fs k = firstCase Never fs k (preciseBound Never fs k - 1)
 
 -- of a list of 16 numbers, one for each group from 1 on, that of group j
 abbrev pub forGroup : List ℕ → ℕ → ℕ
@@ -66,11 +67,11 @@ worstInstance fs k = let c = worstCase fs k in instanceFrom k (forGroup (c .alig
 abbrev pub Longest : List Frame → List Transmission → Type 0
 Longest fs xs = (x : Transmission) → Mem x xs → x .length ≡ row fs (x .frame) .length
 
--- There is a schedule with these starts and with the largest lengths, up to tick release + response, in which instance n of
+-- There is a schedule without faults, with these starts and with the largest lengths, up to tick release + response, in which instance n of
 -- row k stands in the list and ends at that very tick: its end minus its release is exactly `response`.
 pub record Responds (fs : List Frame) (starts : ℕ → ℕ) (k n response : ℕ) : Type 0 where
   pub list : List Transmission
-  pub schedule : Schedule fs starts (release starts (row fs k) n + response) list
+  pub schedule : Schedule Never fs starts (release starts (row fs k) n + response) list
   pub longest : Longest fs list
   pub sent : Transmission
   pub listed : Mem sent list

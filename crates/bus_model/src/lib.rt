@@ -22,6 +22,13 @@ pub enum Choice {
     Any,
 }
 
+// A premise about faults on the bus (document 02, request 9): none ever begins, or they begin at least so many
+// ticks apart.
+pub enum Faults {
+    Never,
+    Apart(u32),
+}
+
 // The named outcomes of judging a claim, each but the last with the bound used.
 pub enum Outcome {
     // "Certified by the rough bound".

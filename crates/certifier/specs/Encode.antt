@@ -19,6 +19,7 @@ use Rattle.row_judgement.specs.declared.Bounded.the-variants.{Bound, NotBounded
 use Rattle.row_judgement.specs.Refusal.{numberOf, ofTable}
 use Rattle.row_judgement.specs.Judge.{judgeRow, boundRow}
 use Rattle.load_sheet.specs.Sheet.{sheetOf}
+use Rattle.bus_model.specs.declared.Faults.the-variants.{Never}
 use Rattle.certifier.specs.Listing.{listingOf}
 
 -- ---- lengths and table as bytes: the checks on files, then those on lengths and rows
@@ -39,7 +40,7 @@ boundFile lengths file r = boundRead (inputCheck lengths file) (lengthsOf length
 
 -- listing and load sheet
 abbrev pub listAnswer : List ℕ → List ℕ → List ℕ → Answer
-listAnswer lengths file out = answerFor (inputCheck lengths file) (listingOf (lengthsOf lengths) (fieldsOf file)) out
+listAnswer lengths file out = answerFor (inputCheck lengths file) (listingOf Never (lengthsOf lengths) (fieldsOf file)) out
 
 abbrev pub sheetAnswer : List ℕ → List ℕ → List ℕ → Answer
 sheetAnswer lengths file out = answerFor (inputCheck lengths file) (sheetOf (lengthsOf lengths) (fieldsOf file)) out

@@ -3,6 +3,8 @@ pub mod Listing
 pub mod Encode
 pub mod FrameEntry
 pub mod ExplainEntry
+pub mod FaultsListing
+pub mod FaultsEntry
 pub mod WorstEntry
 pub mod LogEntry
 pub mod Steps

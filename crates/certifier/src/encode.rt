@@ -23,6 +23,7 @@ ghost use Rattle.row_judgement.specs.declared.Judged.the-variants.{Verdict};
 ghost use Rattle.row_judgement.specs.Judge.{judgeRow};
 ghost use Rattle.load_sheet.specs.Sheet.{sheetOf};
 ghost use Rattle.certifier.specs.Encode.{judgeRead, judgeFile, boundRead, boundFile, listAnswer, sheetAnswer, encodeRefusal, encodeJudged, encodeBounded, encodeAnswer};
+ghost use Rattle.bus_model.specs.declared.Faults.the-variants.{Never};
 ghost use Rattle.certifier.specs.Listing.{listingOf};
 ghost use Rattle.certifier.specs.Steps.{Encodable, Countable};
 
@@ -82,7 +83,7 @@ fn bound_table(lengths: [[u32; 9]; 2], table: &[u8], row: u64) -> i64
 #[no_mangle]
 pub extern "C" fn certifier_list(lengths: &[u8], table: &[u8], out: &mut [u8]) -> i64
     ensures { λ r. ⌜ r ≡ encodeAnswer (listAnswer (now (lengths .entry)) (now (table .entry)) (now (out .entry))) ⌝ }
-    ensures { λ _. ⌜ now (out .exit) ≡ areaAfter (listAnswer (now (lengths .entry)) (now (table .entry)) (now (out .entry))) (listingOf (lengthsOf (now (lengths .entry))) (fieldsOf (now (table .entry)))) (now (out .entry)) ⌝ }
+    ensures { λ _. ⌜ now (out .exit) ≡ areaAfter (listAnswer (now (lengths .entry)) (now (table .entry)) (now (out .entry))) (listingOf Never (lengthsOf (now (lengths .entry))) (fieldsOf (now (table .entry)))) (now (out .entry)) ⌝ }
 {
     encode_answer(list(lengths, table, out))
 }

@@ -55,7 +55,7 @@ fn explain_table(lengths: [[u32; 9]; 2], table: &[u8], row: u64, shown: &mut [u3
 }
 
 // Shows the case, if there is one and room for it, and answers the judge's number.
-fn show(explained: Explained, shown: &mut [u32]) -> i64
+pub fn show(explained: Explained, shown: &mut [u32]) -> i64
     requires { ⌜ Encodable (explained .judged) ⌝ }
     ensures { λ r. ⌜ r ≡ encodeExplained explained (length (now (shown .entry))) ⌝ }
     ensures { λ _. ⌜ now (shown .exit) ≡ shownAfter explained (now (shown .entry)) ⌝ }

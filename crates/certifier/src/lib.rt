@@ -4,6 +4,8 @@
 mod busiest_entry;
 mod encode;
 mod explain_entry;
+mod faults_entry;
+mod faults_listing;
 mod frame_entry;
 mod listing;
 mod log_entry;
@@ -20,6 +22,10 @@ pub use encode::encode_bounded;
 pub use encode::encode_judgement_of;
 pub use encode::encode_refusal;
 pub use explain_entry::certifier_explain;
+pub use faults_entry::certifier_explain_faults;
+pub use faults_entry::certifier_judge_faults;
+pub use faults_entry::certifier_list_faults;
+pub use faults_listing::list_faults;
 pub use frame_entry::certifier_frame_length;
 pub use listing::LINE;
 pub use listing::REFUSAL_LINE;
@@ -35,9 +41,16 @@ pub use row_judgement::Cause;
 pub use row_judgement::Judged;
 pub use row_judgement::Refusal;
 pub use row_judgement::judge;
+pub use row_judgement::judge_faults;
 pub use row_judgement::number;
 pub use row_judgement::of_table;
 pub use row_judgement::precise_bound;
 pub use row_judgement::verdict;
 pub use simulate_entry::certifier_simulate;
 pub use worst_entry::certifier_worst;
+
+// What listing a table under faults answers: how many bytes were written, or why it is turned back.
+pub enum Listed {
+    Written(usize),
+    NotListed(Refusal),
+}

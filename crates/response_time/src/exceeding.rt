@@ -35,15 +35,23 @@ pub fn exceeding_instance(
 ) -> Found
     requires { ⌜ Ready (now rows) (now prepared) target (now memory) ⌝ }
     requires { ⌜ OwnFixed (target .frame) choices ⌝ }
-    requires { ⌜ busyWindow (tableOf (now rows) (now prepared)) (target .frame) choices ≡ At window ⌝ }
-    ensures { λ r. ⌜ r ≡ exceedingInstance (tableOf (now (rows .entry)) (now (prepared .entry))) (target .frame) claim choices ⌝ }
+    requires { ⌜ busyWindow (target .faults) (tableOf (now rows) (now prepared)) (target .frame) choices ≡ At window ⌝ }
+    ensures { λ r. ⌜ r ≡ exceedingInstance (target .faults) (tableOf (now (rows .entry)) (now (prepared .entry))) (target .frame) claim choices ⌝ }
     ensures ready { λ _. ⌜ Ready (now (rows .entry)) (now (prepared .entry)) target (now (memory .exit)) ⌝ }
 {
     let k = target.frame;
     let d = own_distance(k, choices);
     let instances = releases_before(d, k.period, window, 0);
     let mut area = [0u32; PLACES];
-    let to = PLACED * place(rows, prepared, k, Search::Instance(0), choices, &mut area);
+    let to = PLACED
+        * place(
+            rows,
+            prepared,
+            target,
+            Search::Instance(0),
+            choices,
+            &mut area,
+        );
     let mut near: u32 = 0;
     let mut from: u32 = 0;
     let mut q: u32 = 0;

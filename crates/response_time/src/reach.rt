@@ -31,8 +31,8 @@ pub fn reach_before(
     memory: &[u64],
 ) -> u32
     requires { ⌜ Ready (now rows) (now prepared) target (now memory) ⌝ }
-    requires { ⌜ WindowWithin (tableOf (now rows) (now prepared)) (target .frame) choices limit ⌝ }
-    ensures { λ r. ⌜ ((best : ℕ) → Reaches (tableOf (now (rows .entry)) (now (prepared .entry))) (target .frame) choices best r) ⌝ }
+    requires { ⌜ WindowWithin (target .faults) (tableOf (now rows) (now prepared)) (target .frame) choices limit ⌝ }
+    ensures { λ r. ⌜ ((best : ℕ) → Reaches (target .faults) (tableOf (now (rows .entry)) (now (prepared .entry))) (target .frame) choices best r) ⌝ }
 {
     let k = target.frame;
     let d = own_distance(k, choices);
@@ -53,8 +53,8 @@ pub fn sweep(
 ) -> u32
     requires { ⌜ Ready (now rows) (now prepared) target (now memory) ⌝ }
     requires { ⌜ OwnFixed (target .frame) choices ⌝ }
-    requires { ⌜ Reaches (tableOf (now rows) (now prepared)) (target .frame) choices best reach ⌝ }
-    ensures { λ r. ⌜ Reaches (tableOf (now (rows .entry)) (now (prepared .entry))) (target .frame) choices best r ⌝ }
+    requires { ⌜ Reaches (target .faults) (tableOf (now rows) (now prepared)) (target .frame) choices best reach ⌝ }
+    ensures { λ r. ⌜ Reaches (target .faults) (tableOf (now (rows .entry)) (now (prepared .entry))) (target .frame) choices best r ⌝ }
     ensures ready { λ _. ⌜ Ready (now (rows .entry)) (now (prepared .entry)) target (now (memory .exit)) ⌝ }
 {
     let mut area = [0u32; PLACES];
@@ -62,7 +62,7 @@ pub fn sweep(
         * place(
             rows,
             prepared,
-            target.frame,
+            target,
             Search::Instance(0),
             choices,
             &mut area,

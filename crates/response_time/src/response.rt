@@ -49,15 +49,23 @@ fn max_with_window(
 ) -> u32
     requires { ⌜ Ready (now rows) (now prepared) target (now memory) ⌝ }
     requires { ⌜ OwnFixed (target .frame) choices ⌝ }
-    requires { ⌜ busyWindow (tableOf (now rows) (now prepared)) (target .frame) choices ≡ At window ⌝ }
-    ensures { λ r. ⌜ r ≡ max best (responseTime (tableOf (now (rows .entry)) (now (prepared .entry))) (target .frame) choices window) ⌝ }
+    requires { ⌜ busyWindow (target .faults) (tableOf (now rows) (now prepared)) (target .frame) choices ≡ At window ⌝ }
+    ensures { λ r. ⌜ r ≡ max best (responseTime (target .faults) (tableOf (now (rows .entry)) (now (prepared .entry))) (target .frame) choices window) ⌝ }
     ensures ready { λ _. ⌜ Ready (now (rows .entry)) (now (prepared .entry)) target (now (memory .exit)) ⌝ }
 {
     let k = target.frame;
     let d = own_distance(k, choices);
     let instances = releases_before(d, k.period, window, 0);
     let mut area = [0u32; PLACES];
-    let to = PLACED * place(rows, prepared, k, Search::Instance(0), choices, &mut area);
+    let to = PLACED
+        * place(
+            rows,
+            prepared,
+            target,
+            Search::Instance(0),
+            choices,
+            &mut area,
+        );
     let mut most = best;
     let mut near: u32 = 0;
     let mut from: u32 = 0;
@@ -105,8 +113,8 @@ pub fn max_with_scenario(
 ) -> u32
     requires { ⌜ Ready (now rows) (now prepared) target (now memory) ⌝ }
     requires { ⌜ OwnFixed (target .frame) choices ⌝ }
-    requires { ⌜ Reaches (tableOf (now rows) (now prepared)) (target .frame) choices best reach ⌝ }
-    ensures { λ r. ⌜ r ≡ max best (scenarioResponse (tableOf (now (rows .entry)) (now (prepared .entry))) (target .frame) choices) ⌝ }
+    requires { ⌜ Reaches (target .faults) (tableOf (now rows) (now prepared)) (target .frame) choices best reach ⌝ }
+    ensures { λ r. ⌜ r ≡ max best (scenarioResponse (target .faults) (tableOf (now (rows .entry)) (now (prepared .entry))) (target .frame) choices) ⌝ }
     ensures ready { λ _. ⌜ Ready (now (rows .entry)) (now (prepared .entry)) target (now (memory .exit)) ⌝ }
 {
     if reach == 0 {

@@ -9,7 +9,9 @@ use workload::PLACES;
 use workload::Search;
 use workload::Target;
 use workload::distance_from;
+use workload::fault_cost;
 use workload::frame_demand;
+use workload::lead_of;
 use workload::place;
 use workload::placed_work;
 ghost use mathlib.Core.Path.{_≡_};
@@ -22,9 +24,10 @@ ghost use Rattle.bus_model.specs.Bounds.{choiceOf, demand, busyWindow, ownDista
 ghost use Rattle.bus_model.specs.theory.OpenGroups.{isAny};
 ghost use Rattle.bus_model.specs.theory.Work.{RefinedBy};
 ghost use Rattle.workload.specs.Prepared.{Fine, tableOf};
+ghost use Rattle.workload.specs.Faults.{FineTarget};
 ghost use Rattle.workload.specs.Placed.{placedIn, FinePlaced};
 ghost use Rattle.greatest_work.specs.Ready.{Ready};
-ghost use Rattle.response_time.specs.Load.{loadOf, holds, Asked, baseOf, shiftOf, placedHolds};
+ghost use Rattle.response_time.specs.Load.{loadOf, frameLoad, holds, Asked, baseOf, waitsOf, shiftOf, placedHolds};
 
 // The longest busy window that is looked for.
 pub const WINDOW_LIMIT: u32 = 1_000_000;
@@ -80,8 +83,8 @@ fn with_lengths(blocked: u32, q: u32, length: u32) -> u64
     blocked as u64 + q as u64 * length as u64
 }
 
-// What is waited for besides the work of the frames that are placed.
-pub fn base_of(target: Target, search: Search) -> u64
+// What is waited for besides the work of the frames and the faults.
+fn base_of(target: Target, search: Search) -> u64
     ensures { λ r. ⌜ r ≡ baseOf (target .blocked) (target .frame) search ⌝ }
 {
     let k = target.frame;
@@ -91,8 +94,56 @@ pub fn base_of(target: Target, search: Search) -> u64
     }
 }
 
-// The load of x: of a busy window of length x, or of a start at x. The greatest works of groups left open are remembered from one to
-// the next.
+// What is waited for besides the work of all that is placed: the faults in the lead too.
+pub fn waits_of(target: Target, search: Search) -> u64
+    requires { ⌜ FineTarget target ⌝ }
+    requires { ⌜ baseOf (target .blocked) (target .frame) search ≤ 400000400 ⌝ }
+    ensures { λ r. ⌜ r ≡ waitsOf target search ⌝ }
+    ensures small { λ r. ⌜ r ≤ 1000000000 ⌝ }
+{
+    base_of(target, search) + fault_cost(target, lead_of(search, target.frame))
+}
+
+// A start looks one tick further than a busy window of its length.
+fn shift_of(search: Search) -> u32
+    ensures { λ r. ⌜ r ≡ shiftOf search ⌝ }
+    ensures small { λ r. ⌜ r ≤ 1 ⌝ }
+{
+    match search {
+        Search::Window => 0,
+        Search::Instance(_) => 1,
+    }
+}
+
+// The load of x that the frames bring: of a busy window of length x, or of a start at x. The greatest works of groups left open are
+// remembered from one to the next.
+fn frame_load(
+    rows: &[u32],
+    prepared: &[u32],
+    target: Target,
+    choices: [Choice; 16],
+    search: Search,
+    x: u32,
+    memory: &mut [u64],
+) -> u64
+    requires { ⌜ Ready (now rows) (now prepared) target (now memory) ⌝ }
+    requires { ⌜ Asked (target .frame) choices search ⌝ }
+    requires { ⌜ x ≤ 1000000 ⌝ }
+    ensures { λ r. ⌜ r ≡ frameLoad (tableOf (now (rows .entry)) (now (prepared .entry))) (target .frame) choices search x ⌝ }
+    ensures small { λ r. ⌜ r ≤ 1000000000000 ⌝ }
+    ensures ready { λ _. ⌜ Ready (now (rows .entry)) (now (prepared .entry)) target (now (memory .exit)) ⌝ }
+{
+    let base = base_of(target, search);
+    match search {
+        Search::Window => base + whole_work(rows, prepared, target, choices, x, memory),
+        Search::Instance(_) => {
+            let all = whole_work(rows, prepared, target, choices, x + 1, memory);
+            base + (all - own_demand(target.frame, choices, x + 1))
+        }
+    }
+}
+
+// The load of x: that of the frames and of the faults.
 pub fn load(
     rows: &[u32],
     prepared: &[u32],
@@ -105,17 +156,12 @@ pub fn load(
     requires { ⌜ Ready (now rows) (now prepared) target (now memory) ⌝ }
     requires { ⌜ Asked (target .frame) choices search ⌝ }
     requires { ⌜ x ≤ 1000000 ⌝ }
-    ensures { λ r. ⌜ r ≡ loadOf (tableOf (now (rows .entry)) (now (prepared .entry))) (target .frame) choices search x ⌝ }
+    ensures { λ r. ⌜ r ≡ loadOf (target .faults) (tableOf (now (rows .entry)) (now (prepared .entry))) (target .frame) choices search x ⌝ }
     ensures ready { λ _. ⌜ Ready (now (rows .entry)) (now (prepared .entry)) target (now (memory .exit)) ⌝ }
 {
-    let base = base_of(target, search);
-    match search {
-        Search::Window => base + whole_work(rows, prepared, target, choices, x, memory),
-        Search::Instance(_) => {
-            let all = whole_work(rows, prepared, target, choices, x + 1, memory);
-            base + (all - own_demand(target.frame, choices, x + 1))
-        }
-    }
+    let frames = frame_load(rows, prepared, target, choices, search, x, memory);
+    let ticks = x + shift_of(search) + lead_of(search, target.frame);
+    frames + fault_cost(target, ticks)
 }
 
 // The least x from `from` on, below `end`, that holds the work of placed frames up to `shift` ticks after it, step by step. Where
@@ -139,17 +185,6 @@ fn climb(placed: &[u32], shift: u32, base: u64, from: u32, end: u32) -> Found
     Found::Nothing
 }
 
-// A start looks one tick further than a busy window of its length.
-fn shift_of(search: Search) -> u32
-    ensures { λ r. ⌜ r ≡ shiftOf search ⌝ }
-    ensures small { λ r. ⌜ r ≤ 1 ⌝ }
-{
-    match search {
-        Search::Window => 0,
-        Search::Instance(_) => 1,
-    }
-}
-
 // The least x from `from` on, below `end`, that holds its load in the scenario with guesses.
 fn climb_guessed(
     rows: &[u32],
@@ -164,15 +199,15 @@ fn climb_guessed(
     requires { ⌜ Ready (now rows) (now prepared) target (now memory) ⌝ }
     requires { ⌜ Asked (target .frame) choices search ⌝ }
     requires { ⌜ end ≤ 1000001 ⌝ }
-    ensures { λ r. ⌜ ((cs : List Choice) × RefinedBy (tableOf (now (rows .entry)) (now (prepared .entry))) (target .frame) choices cs × (r ≡ least (holds (tableOf (now (rows .entry)) (now (prepared .entry))) (target .frame) cs search) (end - from) from)) ⌝ }
+    ensures { λ r. ⌜ ((cs : List Choice) × RefinedBy (tableOf (now (rows .entry)) (now (prepared .entry))) (target .frame) choices cs × (r ≡ least (holds (target .faults) (tableOf (now (rows .entry)) (now (prepared .entry))) (target .frame) cs search) (end - from) from)) ⌝ }
 {
     let finer = guessed(rows, prepared, target, choices, memory);
     let mut area = [0u32; PLACES];
-    let to = PLACED * place(rows, prepared, target.frame, search, finer, &mut area);
+    let to = PLACED * place(rows, prepared, target, search, finer, &mut area);
     climb(
         &area[0..to],
         shift_of(search),
-        base_of(target, search),
+        waits_of(target, search),
         from,
         end,
     )
@@ -193,7 +228,7 @@ pub fn fixed_point(
     requires { ⌜ Ready (now rows) (now prepared) target (now memory) ⌝ }
     requires { ⌜ Asked (target .frame) choices search ⌝ }
     requires { ⌜ end ≤ 1000001 ⌝ }
-    ensures { λ r. ⌜ r ≡ least (holds (tableOf (now (rows .entry)) (now (prepared .entry))) (target .frame) choices search) (end - from) from ⌝ }
+    ensures { λ r. ⌜ r ≡ least (holds (target .faults) (tableOf (now (rows .entry)) (now (prepared .entry))) (target .frame) choices search) (end - from) from ⌝ }
     ensures ready { λ _. ⌜ Ready (now (rows .entry)) (now (prepared .entry)) target (now (memory .exit)) ⌝ }
 {
     let mut x = from;
@@ -223,7 +258,7 @@ pub fn busy_window(
     memory: &mut [u64],
 ) -> Found
     requires { ⌜ Ready (now rows) (now prepared) target (now memory) ⌝ }
-    ensures { λ r. ⌜ r ≡ busyWindow (tableOf (now (rows .entry)) (now (prepared .entry))) (target .frame) choices ⌝ }
+    ensures { λ r. ⌜ r ≡ busyWindow (target .faults) (tableOf (now (rows .entry)) (now (prepared .entry))) (target .frame) choices ⌝ }
     ensures ready { λ _. ⌜ Ready (now (rows .entry)) (now (prepared .entry)) target (now (memory .exit)) ⌝ }
 {
     let end = WINDOW_LIMIT + 1;

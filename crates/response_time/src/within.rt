@@ -1,11 +1,11 @@
 // A start w ≤ latest whose load is at most w proves that the response is at most `best`: some starts are looked at once and, where none of
 // these shows it, one is searched for.
 use crate::search::WINDOW_LIMIT;
-use crate::search::base_of;
 use crate::search::fixed_point;
 use crate::search::is_open;
 use crate::search::load;
 use crate::search::own_distance;
+use crate::search::waits_of;
 use arith::Found;
 use bus_model::Choice;
 use workload::GROUPS;
@@ -73,7 +73,7 @@ fn shown_at(
     requires { ⌜ Ready (now rows) (now prepared) target (now memory) ⌝ }
     requires { ⌜ Asked (target .frame) choices (Instance q) ⌝ }
     requires { ⌜ latest ≤ 1000000 ⌝ }
-    ensures { λ r. ⌜ Shows (tableOf (now (rows .entry)) (now (prepared .entry))) (target .frame) choices q latest (r .start) (r .count) ⌝ }
+    ensures { λ r. ⌜ Shows (target .faults) (tableOf (now (rows .entry)) (now (prepared .entry))) (target .frame) choices q latest (r .start) (r .count) ⌝ }
     ensures small { λ r. ⌜ r .count ≤ 1000001 ⌝ }
     ensures ready { λ _. ⌜ Ready (now (rows .entry)) (now (prepared .entry)) target (now (memory .exit)) ⌝ }
 {
@@ -154,13 +154,13 @@ fn shown_tried(
     requires { ⌜ Ready (now rows) (now prepared) target (now memory) ⌝ }
     requires { ⌜ Asked (target .frame) choices (Instance q) ⌝ }
     requires { ⌜ latest ≤ 1000000 ⌝ }
-    requires { ⌜ placedIn (now placed) ≡ placedOut (tableOf (now rows) (now prepared)) (target .frame) (Instance q) choices ⌝ }
-    ensures { λ r. ⌜ Shows (tableOf (now (rows .entry)) (now (prepared .entry))) (target .frame) choices q latest (r .start) (r .count) ⌝ }
+    requires { ⌜ placedIn (now placed) ≡ placedOut (tableOf (now rows) (now prepared)) target (Instance q) choices ⌝ }
+    ensures { λ r. ⌜ Shows (target .faults) (tableOf (now (rows .entry)) (now (prepared .entry))) (target .frame) choices q latest (r .start) (r .count) ⌝ }
     ensures small { λ r. ⌜ r .count ≤ 1000001 ⌝ }
     ensures ready { λ _. ⌜ Ready (now (rows .entry)) (now (prepared .entry)) target (now (memory .exit)) ⌝ }
 {
     let k = target.frame;
-    let base = base_of(target, Search::Instance(q));
+    let base = waits_of(target, Search::Instance(q));
     let last = climb_above(placed, k.length, base, latest, latest);
     if 0 < last.count {
         return last;
@@ -189,7 +189,7 @@ fn shown_late(
     requires { ⌜ Ready (now rows) (now prepared) target (now memory) ⌝ }
     requires { ⌜ Asked (target .frame) choices (Instance q) ⌝ }
     requires { ⌜ latest ≤ 1000000 ⌝ }
-    ensures { λ r. ⌜ Shows (tableOf (now (rows .entry)) (now (prepared .entry))) (target .frame) choices q latest (r .start) (r .count) ⌝ }
+    ensures { λ r. ⌜ Shows (target .faults) (tableOf (now (rows .entry)) (now (prepared .entry))) (target .frame) choices q latest (r .start) (r .count) ⌝ }
     ensures small { λ r. ⌜ r .count ≤ 1000001 ⌝ }
     ensures ready { λ _. ⌜ Ready (now (rows .entry)) (now (prepared .entry)) target (now (memory .exit)) ⌝ }
 {
@@ -225,8 +225,8 @@ fn shown_by(
     requires { ⌜ Ready (now rows) (now prepared) target (now memory) ⌝ }
     requires { ⌜ Asked (target .frame) choices (Instance q) ⌝ }
     requires { ⌜ latest ≤ 1000000 ⌝ }
-    requires { ⌜ placedIn (now placed) ≡ placedOut (tableOf (now rows) (now prepared)) (target .frame) (Instance q) choices ⌝ }
-    ensures { λ r. ⌜ Shows (tableOf (now (rows .entry)) (now (prepared .entry))) (target .frame) choices q latest (r .start) (r .count) ⌝ }
+    requires { ⌜ placedIn (now placed) ≡ placedOut (tableOf (now rows) (now prepared)) target (Instance q) choices ⌝ }
+    ensures { λ r. ⌜ Shows (target .faults) (tableOf (now (rows .entry)) (now (prepared .entry))) (target .frame) choices q latest (r .start) (r .count) ⌝ }
     ensures small { λ r. ⌜ r .count ≤ 1000001 ⌝ }
     ensures ready { λ _. ⌜ Ready (now (rows .entry)) (now (prepared .entry)) target (now (memory .exit)) ⌝ }
 {
@@ -277,8 +277,8 @@ pub fn shown_within(
     requires { ⌜ Ready (now rows) (now prepared) target (now memory) ⌝ }
     requires { ⌜ Asked (target .frame) choices (Instance q) ⌝ }
     requires { ⌜ ownDistance (target .frame) choices + q * target .frame .period < 1000000 ⌝ }
-    requires { ⌜ placedIn (now placed) ≡ placedOut (tableOf (now rows) (now prepared)) (target .frame) (Instance q) choices ⌝ }
-    ensures { λ r. ⌜ ((i : ℕ) → i < r .count → ShownWithin (tableOf (now (rows .entry)) (now (prepared .entry))) (target .frame) choices best (q + i)) ⌝ }
+    requires { ⌜ placedIn (now placed) ≡ placedOut (tableOf (now rows) (now prepared)) target (Instance q) choices ⌝ }
+    ensures { λ r. ⌜ ((i : ℕ) → i < r .count → ShownWithin (target .faults) (tableOf (now (rows .entry)) (now (prepared .entry))) (target .frame) choices best (q + i)) ⌝ }
     ensures small { λ r. ⌜ r .count ≤ 1000001 ⌝ }
     ensures ready { λ _. ⌜ Ready (now (rows .entry)) (now (prepared .entry)) target (now (memory .exit)) ⌝ }
 {

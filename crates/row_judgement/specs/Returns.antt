@@ -9,6 +9,7 @@ use Rattle.bus_model.specs.Frame.{row}
 use Rattle.bus_model.specs.Bounds.{preciseBound}
 use Rattle.bus_model.specs.Judgement.{lacksWindow, tooManyScenarios}
 use Rattle.bus_model.specs.Finding.{Finding, findingOf, findingFor}
+use Rattle.bus_model.specs.declared.Faults.the-variants.{Never, Apart}
 use Rattle.table_checks.specs.Frames.{framesOf}
 use Rattle.table_checks.specs.Refusal.{Returned, returned}
 use Rattle.row_judgement.specs.declared.Judged.{Judged}
@@ -16,7 +17,7 @@ use Rattle.row_judgement.specs.declared.Judged.the-variants.{Verdict, No
 use Rattle.row_judgement.specs.declared.Bounded.{Bounded}
 use Rattle.row_judgement.specs.declared.Bounded.the-variants.{Bound, NotBounded}
 use Rattle.row_judgement.specs.Refusal.{numberOf}
-use Rattle.row_judgement.specs.Judge.{claimOf, noRow}
+use Rattle.row_judgement.specs.Judge.{claimOf, noRow, isGap}
 
 -- ---- judging a row
 
@@ -43,7 +44,15 @@ judgedReturns (NotJudged f) = asNotJudged (returned (numberOf (f .cause)) (f .pl
 unfoldable pub judgeReturns : Returned → List (List ℕ) → List ℕ → ℕ → JudgedReturned
 judgeReturns check ls rows r =
     cond (eqb (check .number) 0)
-    (cond (noRow rows r) (asNotJudged (returned 9 0)) (asVerdict (findingFor (framesOf ls rows) (row (framesOf ls rows) r) (claimOf rows r))))
+    (cond (noRow rows r) (asNotJudged (returned 9 0)) (asVerdict (findingFor Never (framesOf ls rows) (row (framesOf ls rows) r) (claimOf rows r))))
+    (asNotJudged check)
+
+-- the same under the premise that faults begin at least g ticks apart: after 9, 17
+unfoldable pub judgeFaultsReturns : Returned → List (List ℕ) → List ℕ → ℕ → ℕ → JudgedReturned
+judgeFaultsReturns check ls rows r g =
+    cond (eqb (check .number) 0)
+    (cond (noRow rows r) (asNotJudged (returned 9 0))
+    (cond (isGap g) (asVerdict (findingFor (Apart g) (framesOf ls rows) (row (framesOf ls rows) r) (claimOf rows r))) (asNotJudged (returned 17 0))))
     (asNotJudged check)
 
 -- ---- the precise bound alone
@@ -72,6 +81,6 @@ boundReturns check ls rows r =
     let k = row fs r in
     cond (eqb (check .number) 0)
     (cond (noRow rows r) (asNotBounded (returned 9 0))
-    (cond (lacksWindow fs k) (asNotBounded (returned 11 r))
-    (cond (tooManyScenarios fs k) (asNotBounded (returned 12 r)) (asBound (preciseBound fs k)))))
+    (cond (lacksWindow Never fs k) (asNotBounded (returned 11 r))
+    (cond (tooManyScenarios fs k) (asNotBounded (returned 12 r)) (asBound (preciseBound Never fs k)))))
     (asNotBounded check)

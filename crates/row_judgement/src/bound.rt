@@ -6,6 +6,7 @@ use crate::decide::decide;
 use crate::of_table;
 use arith::Found;
 use bounds::Bound;
+use bus_model::Faults;
 use table_checks::Checked;
 ghost use mathlib.Core.Path.{_≡_};
 ghost use Prim.Native.Nat.{_<_};
@@ -49,7 +50,10 @@ fn bound_row(lengths: [[u32; 9]; 2], rows: &[u32], i: usize) -> Bounded
     requires { ⌜ i < length (framesOf lengths (now rows)) ⌝ }
     ensures { λ r. ⌜ r ≡ boundFrame (framesOf lengths (now (rows .entry))) i ⌝ }
 {
-    bounded(decide(lengths, rows, i, Found::Nothing), i as u32)
+    bounded(
+        decide(lengths, rows, i, Faults::Never, Found::Nothing),
+        i as u32,
+    )
 }
 
 // The answer for a row by the bound that was found without a claim.

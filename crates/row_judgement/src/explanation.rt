@@ -4,11 +4,13 @@ use crate::Explained;
 use crate::Judged;
 use crate::Refusal;
 use crate::decide::prepare_row;
+use crate::judgement::is_gap;
 use crate::judgement::judged_by;
 use crate::judgement::verdict;
 use crate::of_table;
 use arith::Found;
 use bus_model::Case;
+use bus_model::Faults;
 use greatest_work::MEMORY;
 use table_checks::Checked;
 use workload::AREA;
@@ -20,17 +22,19 @@ ghost use Rattle.bus_model.specs.Frame.{row};
 ghost use Rattle.bus_model.specs.Bus.{MeetsClaim};
 ghost use Rattle.bus_model.specs.Case.{noCase};
 ghost use Rattle.bus_model.specs.Judgement.{judge};
+ghost use Rattle.bus_model.specs.declared.Faults.the-variants.{Never, Apart};
 ghost use Rattle.table_checks.specs.Frames.{framesOf};
 ghost use Rattle.table_checks.specs.Checks.{Loadable, Accepted};
 ghost use Rattle.table_checks.specs.Returns.{loadedReturns};
+ghost use Rattle.workload.specs.Faults.{FineFaults};
 ghost use Rattle.row_judgement.specs.declared.Judged.the-variants.{Verdict, NotJudged};
 ghost use Rattle.row_judgement.specs.Judge.{claimOf, certified};
-ghost use Rattle.row_judgement.specs.Explain.{beside, explainRow, explainedReturns, explainReturns};
+ghost use Rattle.row_judgement.specs.Explain.{beside, explainRow, explainFaults, explainedReturns, explainReturns, explainFaultsReturns};
 
 // Judges the claim of a row, by the lengths loaded, and finds the case that breaks it, where it is too small.
 pub fn explain(lengths: [[u32; 9]; 2], rows: &[u32], row: u64) -> Explained
     ensures { λ r. ⌜ r ≡ explainRow lengths (now (rows .entry)) row ⌝ }
-    ensures never_late { λ r. ⌜ (T (certified (r .judged)) → MeetsClaim (framesOf lengths (now (rows .entry))) row (claimOf (now (rows .entry)) row)) ⌝ }
+    ensures never_late { λ r. ⌜ (T (certified (r .judged)) → MeetsClaim Never (framesOf lengths (now (rows .entry))) row (claimOf (now (rows .entry)) row)) ⌝ }
     ensures in_numbers { λ r. ⌜ explainedReturns r ≡ explainReturns (loadedReturns lengths (now (rows .entry))) lengths (now (rows .entry)) row ⌝ }
 {
     let checked = table_checks::check_loaded(lengths, rows);
@@ -43,7 +47,35 @@ pub fn explain(lengths: [[u32; 9]; 2], rows: &[u32], row: u64) -> Explained
                     place: 0,
                 });
             }
-            explain_row(lengths, rows, row as usize)
+            explain_row(lengths, rows, row as usize, Faults::Never)
+        }
+    }
+}
+
+// The same under the premise that faults begin at least so many ticks apart.
+pub fn explain_faults(lengths: [[u32; 9]; 2], rows: &[u32], row: u64, gap: u64) -> Explained
+    ensures { λ r. ⌜ r ≡ explainFaults lengths (now (rows .entry)) row gap ⌝ }
+    ensures never_late { λ r. ⌜ (T (certified (r .judged)) → MeetsClaim (Apart gap) (framesOf lengths (now (rows .entry))) row (claimOf (now (rows .entry)) row)) ⌝ }
+    ensures in_numbers { λ r. ⌜ explainedReturns r ≡ explainFaultsReturns (loadedReturns lengths (now (rows .entry))) lengths (now (rows .entry)) row gap ⌝ }
+{
+    let checked = table_checks::check_loaded(lengths, rows);
+    match checked {
+        Checked::Failed(refusal) => turned_back(of_table(refusal)),
+        Checked::Passed => {
+            if (rows.len() / table_checks::ROW) as u64 <= row {
+                return turned_back(Refusal {
+                    cause: Cause::NoSuchRow,
+                    place: 0,
+                });
+            }
+            if is_gap(gap) {
+                let ticks = gap as u32;
+                return explain_row(lengths, rows, row as usize, Faults::Apart(ticks));
+            }
+            turned_back(Refusal {
+                cause: Cause::GapOutside,
+                place: 0,
+            })
         }
     }
 }
@@ -69,15 +101,16 @@ fn turned_back(refusal: Refusal) -> Explained
 }
 
 // The judgement of a row of an accepted table, with its case. What is prepared and remembered for the judgement serves the search for the case.
-fn explain_row(lengths: [[u32; 9]; 2], rows: &[u32], i: usize) -> Explained
+fn explain_row(lengths: [[u32; 9]; 2], rows: &[u32], i: usize, faults: Faults) -> Explained
     requires { ⌜ Loadable lengths × Accepted (now rows) ⌝ }
     requires { ⌜ i < length (framesOf lengths (now rows)) ⌝ }
-    ensures { λ r. ⌜ r ≡ beside lengths (now (rows .entry)) i (Verdict (judge (framesOf lengths (now (rows .entry))) (row (framesOf lengths (now (rows .entry))) i) (claimOf (now (rows .entry)) i))) ⌝ }
+    requires { ⌜ FineFaults faults ⌝ }
+    ensures { λ r. ⌜ r ≡ beside faults lengths (now (rows .entry)) i (Verdict (judge faults (framesOf lengths (now (rows .entry))) (row (framesOf lengths (now (rows .entry))) i) (claimOf (now (rows .entry)) i))) ⌝ }
 {
     let claim = rows[table_checks::ROW * i + table_checks::CLAIM];
     let mut prepared = [0u32; AREA];
     let mut memory = [0u64; MEMORY];
-    let target = prepare_row(lengths, rows, i, &mut prepared);
+    let target = prepare_row(lengths, rows, i, faults, &mut prepared);
     let bound = bounds::find(rows, &prepared, target, Found::At(claim), &mut memory);
     let judgement = judged_by(bound, claim);
     let outcome = judgement.outcome;

@@ -10,8 +10,11 @@ pub use bound::bound_accepted;
 pub use bound::precise_bound;
 pub use decide::prepare_row;
 pub use explanation::explain;
+pub use explanation::explain_faults;
+pub use judgement::is_gap;
 pub use judgement::judge;
 pub use judgement::judge_accepted;
+pub use judgement::judge_faults;
 pub use judgement::judge_row;
 pub use judgement::verdict;
 ghost use mathlib.Core.Path.{_≡_};
@@ -25,6 +28,8 @@ pub enum Cause {
     // For some alignment of the row's group the approximate bound has no busy window.
     NoWindow,
     TooManyScenarios,
+    // A gap between faults that lies outside its limits.
+    GapOutside,
 }
 
 // A cause and its place: a line, a group, a row, or 0.
@@ -60,6 +65,7 @@ pub fn number(cause: Cause) -> u32
         Cause::NoSuchRow => 9,
         Cause::NoWindow => 11,
         Cause::TooManyScenarios => 12,
+        Cause::GapOutside => 17,
     }
 }
 

@@ -19,6 +19,7 @@ use Rattle.bus_model.specs.theory.Existence.{longest-schedule}
 use Rattle.bus_model.specs.theory.Reached.{last-reached, last-least}
 use Rattle.bus_model.specs.theory.LastRow.{last-row, early-of}
 use Rattle.bus_model.specs.examples.Late.{frame-64-late, frame-64-due}
+use Rattle.bus_model.specs.declared.Faults.the-variants.{Never}
 use Rattle.table_checks.specs.Frames.{standardLengths, framesOf}
 use Rattle.table_checks.specs.Checks.{Accepted}
 use Rattle.table_checks.specs.laws.Lengths.{standard-loadable}
@@ -36,7 +37,7 @@ unfolding everything judgeRow judgeChecked
 frame-32-judged = refl
 
 -- Frame 32 meets its claim.
-pub frame-32-meets : MeetsClaim (framesOf standardLengths listing) 1 189
+pub frame-32-meets : MeetsClaim Never (framesOf standardLengths listing) 1 189
 unfolding everything certified certifies
 frame-32-meets = judged-meets standardLengths listing 1 (rw frame-32-judged tt)
 
@@ -47,17 +48,17 @@ unfolding everything judgeRow judgeChecked
 frame-64-judged = refl
 
 -- Frame 64 meets its claim.
-pub frame-64-meets : MeetsClaim (framesOf standardLengths listing) 3 200
+pub frame-64-meets : MeetsClaim Never (framesOf standardLengths listing) 3 200
 unfolding everything certified certifies
 frame-64-meets = judged-meets standardLengths listing 3 (rw frame-64-judged tt)
 
 -- So where all groups start at tick 0, it is finished in every schedule up to 200,
-pub frame-64-finished : (xs : List Transmission) → Schedule (framesOf standardLengths listing) (λ j. 0) 200 xs → Finished xs 3 0 200
+pub frame-64-finished : (xs : List Transmission) → Schedule Never (framesOf standardLengths listing) (λ j. 0) 200 xs → Finished xs 3 0 200
 unfolding everything
 frame-64-finished = frame-64-due frame-64-meets
 
 -- and of 199 the same could not be said.
-pub frame-64-misses : ¬ MeetsClaim (framesOf standardLengths listing) 3 199
+pub frame-64-misses : ¬ MeetsClaim Never (framesOf standardLengths listing) 3 199
 unfolding everything
 frame-64-misses = frame-64-late
 
@@ -72,7 +73,7 @@ listing-valid : Valid (framesOf standardLengths listing)
 listing-valid = accepted-valid listing listing-accepted standardLengths standard-loadable
 
 -- There are schedules in which this says something.
-pub listing-runs : (starts : ℕ → ℕ) (T : ℕ) → (xs : List Transmission) × Schedule (framesOf standardLengths listing) starts T xs × Longest (framesOf standardLengths listing) xs
+pub listing-runs : (starts : ℕ → ℕ) (T : ℕ) → (xs : List Transmission) × Schedule Never (framesOf standardLengths listing) starts T xs × Longest (framesOf standardLengths listing) xs
 listing-runs = longest-schedule listing-valid
 
 -- ---- nothing shaved off
@@ -91,7 +92,7 @@ unfolding everything
 frame-64-last = last-row table (omega arith) .1
 
 -- Frame 64 meets the claims from 200 on, and no others.
-pub frame-64-least : (claim : ℕ) → MeetsClaim table 3 claim ↔ (200 ≤ claim)
+pub frame-64-least : (claim : ℕ) → MeetsClaim Never table 3 claim ↔ (200 ≤ claim)
 unfolding everything
 frame-64-least = last-least listing-valid {k = 3} (omega arith) listing-early frame-64-last 200 (λ e. omega arith)
 
@@ -107,6 +108,6 @@ unfolding everything judgeRow judgeChecked
 late-judged = refl
 
 -- With offset 1000 and period 1000 the frame meets its claim in every schedule; it is first released 1000 ticks after its group's start.
-pub late-meets : MeetsClaim (framesOf standardLengths (starting 1000)) 0 135
+pub late-meets : MeetsClaim Never (framesOf standardLengths (starting 1000)) 0 135
 unfolding everything certified certifies
 late-meets = judged-meets standardLengths (starting 1000) 0 (rw late-judged tt)

@@ -12,6 +12,7 @@ use Rattle.bus_model.specs.Pattern.{ofGroup, patternReleases}
 use Rattle.bus_model.specs.Bounds.{approximateBound, preciseBound, scenarioCount}
 use Rattle.bus_model.specs.Judgement.{tooManyScenarios, judge, verdict}
 use Rattle.bus_model.specs.theory.Overload.{overloaded-judged}
+use Rattle.bus_model.specs.declared.Faults.the-variants.{Never}
 use Rattle.table_checks.specs.Frames.{standardLengths, framesOf}
 use Rattle.table_checks.specs.Refusal.{checkReturns}
 use Rattle.table_checks.specs.Checks.{rowsCheck}
@@ -73,9 +74,9 @@ numbers j = record { number = verdict (j .outcome); bound = j .bound; margin = j
 
 -- what each case says
 unfoldable pub Holds : Case → Type 0
-Holds (approximate rows i b) = approximateBound (framesOf standardLengths rows) (row (framesOf standardLengths rows) i) ≡ b
-Holds (precise rows i b) = preciseBound (framesOf standardLengths rows) (row (framesOf standardLengths rows) i) ≡ b
-Holds (judged rows i claim v b m) = numbers (judge (framesOf standardLengths rows) (row (framesOf standardLengths rows) i) claim) ≡ record { number = v; bound = b; margin = m }
+Holds (approximate rows i b) = approximateBound Never (framesOf standardLengths rows) (row (framesOf standardLengths rows) i) ≡ b
+Holds (precise rows i b) = preciseBound Never (framesOf standardLengths rows) (row (framesOf standardLengths rows) i) ≡ b
+Holds (judged rows i claim v b m) = numbers (judge Never (framesOf standardLengths rows) (row (framesOf standardLengths rows) i) claim) ≡ record { number = v; bound = b; margin = m }
 Holds (count rows i n many) = (scenarioCount (framesOf standardLengths rows) (row (framesOf standardLengths rows) i) ≡ n) × (tooManyScenarios (framesOf standardLengths rows) (row (framesOf standardLengths rows) i) ≡ many)
 Holds (releases rows j n) = patternReleases (ofGroup (framesOf standardLengths rows) j) ≡ n
 Holds (checked rows n p) = checkReturns (rowsCheck rows) ≡ record { number = n; place = p }
@@ -109,9 +110,9 @@ cases =
 -- ---- a frame longer than its period
 
 -- One frame of period 134 is longer than its period, and has no window.
-too-long : numbers (judge (framesOf standardLengths (alone 134)) (row (framesOf standardLengths (alone 134)) 0) 135) ≡ record { number = 11; bound = 0; margin = pos 0 }
+too-long : numbers (judge Never (framesOf standardLengths (alone 134)) (row (framesOf standardLengths (alone 134)) 0) 135) ≡ record { number = 11; bound = 0; margin = pos 0 }
 unfolding numbers everything
-too-long = ap numbers (overloaded-judged (accepted-valid (alone 134) refl standardLengths standard-loadable) {k = 0} (omega arith) 135 (omega arith))
+too-long = ap numbers (overloaded-judged (accepted-valid (alone 134) refl standardLengths standard-loadable) {k = 0} (omega arith) Never 135 (omega arith))
 
 -- ---- the theorem
 

@@ -8,6 +8,9 @@ ghost use Rattle.io.specs.Counts.{Counts};
 // A line more than the longest log.
 const LOG: usize = 64_040;
 
+// Room for a line of each row.
+const LISTING: usize = 1984;
+
 enum Command {
     LoadSheet,
     FrameLength,
@@ -16,6 +19,7 @@ enum Command {
     Simulate,
     Explain,
     Worst,
+    Faults,
     Unknown,
 }
 
@@ -29,6 +33,7 @@ fn main() {
         Command::Simulate => simulate(),
         Command::Explain => explain(),
         Command::Worst => worst(),
+        Command::Faults => faults(),
         Command::Unknown => print_usage(),
     }
 }
@@ -56,6 +61,9 @@ fn read_command() -> Command {
     if is_called(b"worst", 0) {
         return Command::Worst;
     }
+    if is_called(b"faults", 1) {
+        return Command::Faults;
+    }
     Command::Unknown
 }
 
@@ -63,7 +71,7 @@ fn read_command() -> Command {
 fn print_usage() {
     io::write_all(
         2,
-        b"usage: vinguaru COMMAND\nINPUT is a file of lengths, 92 bytes, and behind it that of a table.\ncommands:\n  load-sheet < INPUT                 each node's bus load, and the greatest of them\n  frame-length KIND IDENTIFIER HEX   the exact length of a frame on the wire; HEX are its payload's bytes, - for none\n  check-log LOGFILE < INPUT          the groups' starts with which a bus log is the beginning of a schedule\n  busiest LOGFILE WIDTH < INPUT      the busiest stretch of so many ticks of a bus log, and what it shows of each row\n  simulate SEED LINES < INPUT        a log of so many lines, drawn from a seed by the bus rule\n  explain ROW < INPUT                the judgement of a row, counted from 0, and the case that breaks its claim\n  worst < INPUT                      the judgement of the frame that ranks last, and the starts with which its precise bound is reached\n",
+        b"usage: vinguaru COMMAND\nINPUT is a file of lengths, 92 bytes, and behind it that of a table.\ncommands:\n  load-sheet < INPUT                 each node's bus load, and the greatest of them\n  frame-length KIND IDENTIFIER HEX   the exact length of a frame on the wire; HEX are its payload's bytes, - for none\n  check-log LOGFILE < INPUT          the groups' starts with which a bus log is the beginning of a schedule\n  busiest LOGFILE WIDTH < INPUT      the busiest stretch of so many ticks of a bus log, and what it shows of each row\n  simulate SEED LINES < INPUT        a log of so many lines, drawn from a seed by the bus rule\n  explain ROW < INPUT                the judgement of a row, counted from 0, and the case that breaks its claim\n  worst < INPUT                      the judgement of the frame that ranks last, and the starts with which its precise bound is reached\n  faults GAP < INPUT                 the listing of the table where bus faults begin at least so many ticks apart\n",
     );
 }
 
@@ -238,4 +246,24 @@ fn worst() {
     let mut text = [0u8; worst_command::LONGEST];
     let answer = worst_command::write_input(&bytes[..size], &mut text);
     console::print_answer(b"vinguaru", answer, &text);
+}
+
+// Prints the listing of the table under faults, or its refusal.
+fn faults() {
+    let mut gap = io::buffer();
+    let g = os::arg(2, &mut gap);
+    let mut bytes = [0u8; BUFFER];
+    let input = console::read_input(b"vinguaru", &mut bytes);
+    if !input.held {
+        return;
+    }
+    let size = input.size;
+    let mut listing = [0u8; LISTING];
+    let reply = faults_command::write_input(&bytes[..size], &gap[..g], &mut listing);
+    match reply {
+        explain_command::Reply::Malformed => print_usage(),
+        explain_command::Reply::Answered(answer) => {
+            console::print_answer(b"vinguaru", answer, &listing)
+        }
+    }
 }

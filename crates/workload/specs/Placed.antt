@@ -1,17 +1,21 @@
--- The frames that load a scenario, placed for a search: each as if its group's alignment were at 0.
-use Prim.Native.Nat.{ℕ, _+_, _*_, _/_, _≤_}
+-- The frames that load a scenario, placed for a search: each as if its group's alignment were at 0. Faults are one frame more.
+use Prim.Native.Nat.{ℕ, _+_, _-_, _*_, _/_, _≤_}
 use mathlib.Core.Path.{_≡_}
-use mathlib.Core.List.{List, map, List·Memᴰ as Mem}
+use mathlib.Core.List.{List, [], _∷_, _++_, map, List·Memᴰ as Mem}
 use mathlib.Core.Bool.{Bool}
 use lib.ListN.{length, getD, set}
 use Rattle.arith.specs.Lists.{sum, keep, range}
 use Rattle.arith.specs.Releases.{releasesBefore}
 use Rattle.bus_model.specs.declared.Frame.{Frame}
+use Rattle.bus_model.specs.declared.Faults.{Faults}
+use Rattle.bus_model.specs.declared.Faults.the-variants.{Never, Apart}
 use Rattle.bus_model.specs.declared.Choice.{Choice}
 use Rattle.bus_model.specs.declared.Choice.the-variants.{Fixed, Any}
 use Rattle.bus_model.specs.Bounds.{groups, isAhead, isBetter, distance, choiceOf}
 use Rattle.workload.specs.declared.Search.{Search}
 use Rattle.workload.specs.declared.Search.the-variants.{Window, Instance}
+use Rattle.workload.specs.declared.Target.{Target}
+use Rattle.workload.specs.Faults.{leadOf}
 
 -- a placed frame: its length, its period and its first release
 pub record Placed : Type 0 where
@@ -25,9 +29,9 @@ isLoad Window k g = isAhead k g
 isLoad (Instance q) k g = isBetter k g
 
 -- by how much such a frame goes before k, at the least
-abbrev pub leadOf : Search → ℕ
-leadOf Window = 0
-leadOf (Instance q) = 1
+abbrev pub aheadBy : Search → ℕ
+aheadBy Window = 0
+aheadBy (Instance q) = 1
 
 -- how long after the start a frame is released first: its distance where its group's alignment is fixed, and at once where that is open
 unfoldable pub firstRelease : Choice → Frame → ℕ
@@ -43,8 +47,23 @@ unfoldable pub placedFrame : List Choice → Frame → Placed
 placedFrame cs g = placedBy (choiceOf cs (g .group)) g
 
 -- all of them
-abbrev pub placedOut : List Frame → Frame → Search → List Choice → List Placed
-placedOut fs k search cs = map (placedFrame cs) (keep (isLoad search k) fs)
+abbrev pub placedFrames : List Frame → Frame → Search → List Choice → List Placed
+placedFrames fs k search cs = map (placedFrame cs) (keep (isLoad search k) fs)
+
+-- the faults as one frame more: those in the first ticks, for which no releases are counted, are left out, and the next comes after these
+abbrev pub faultFrame : ℕ → ℕ → ℕ → Placed
+faultFrame cost gap lead = record { length = cost; period = gap; first = releasesBefore 0 gap lead * gap - lead }
+
+unfoldable pub faultFrames : Faults → ℕ → ℕ → List Placed
+faultFrames Never cost lead = []
+faultFrames (Apart gap) cost lead = faultFrame cost gap lead ∷ []
+
+abbrev pub placedFaults : Target → Search → List Placed
+placedFaults t search = faultFrames (t .faults) (t .cost) (leadOf search (t .frame))
+
+-- both
+abbrev pub placedOut : List Frame → Target → Search → List Choice → List Placed
+placedOut fs t search cs = placedFrames fs (t .frame) search cs ++ placedFaults t search
 
 -- the lengths of the releases in the first n ticks, of one and of all
 abbrev pub placedDemand : ℕ → Placed → ℕ
@@ -59,12 +78,12 @@ AllFixed cs = (j : ℕ) → Mem j (range 1 groups) → (a : ℕ) × (choiceOf cs
 
 -- placed frames within the limits that keep the sums small
 pub record FineOne (g : Placed) : Type 0 where
-  pub length-high : g .length ≤ 400
+  pub length-high : g .length ≤ 431
   pub period-low : 1 ≤ g .period
   pub period-high : g .period ≤ 1000000
 
 pub record FinePlaced (gs : List Placed) : Type 0 where
-  pub few : length gs ≤ 64
+  pub few : length gs ≤ 65
   pub fine : (g : Placed) → Mem g gs → FineOne g
 
 -- ---- in memory, four numbers a frame; the fourth is free: an inverse of the period, of which nothing is promised

@@ -1,27 +1,33 @@
 // The frames that load a scenario, placed for a search: each as if its group's alignment were at 0, by its length, its period and its first
-// release, with an inverse of the period. A look at them computes no distance.
+// release, with an inverse of the period. A look at them computes no distance. Faults are placed behind them, as one frame more.
 use crate::Search;
+use crate::Target;
+use crate::faults::first_fault;
+use crate::faults::lead_of;
 use crate::prepared::row_at;
 use crate::work::demand_from;
 use crate::work::distance_from;
 use bus_model::Choice;
+use bus_model::Faults;
 use bus_model::Frame;
 use table_checks::ROW;
 ghost use mathlib.Core.Path.{_≡_};
 ghost use Prim.Native.Nat.{_+_, _*_, _≤_};
 ghost use lib.ListN.{length, take};
 ghost use Rattle.workload.specs.Prepared.{Fine, tableOf, Filled};
-ghost use Rattle.workload.specs.Placed.{isLoad, leadOf, firstRelease, placedIn, placedBy, putAt, placedOut, placedWork, FinePlaced};
+ghost use mathlib.Core.List.{_++_};
+ghost use Rattle.workload.specs.Faults.{FineTarget};
+ghost use Rattle.workload.specs.Placed.{isLoad, aheadBy, firstRelease, placedIn, putAt, placedFrames, placedFaults, placedOut, placedWork, FinePlaced};
 
 // So many numbers has a placed frame,
 pub const PLACED: usize = 4;
 
-// and so many those of the longest table.
-pub const PLACES: usize = 256;
+// and so many those of the longest table and the faults.
+pub const PLACES: usize = 260;
 
 // By how much a frame that loads what is looked for goes before k at the least: k loads its busy window itself, and no start.
-fn lead_of(search: Search) -> u64
-    ensures { λ r. ⌜ r ≡ leadOf search ⌝ }
+fn ahead_by(search: Search) -> u64
+    ensures { λ r. ⌜ r ≡ aheadBy search ⌝ }
     ensures small { λ r. ⌜ r ≤ 1 ⌝ }
 {
     match search {
@@ -35,7 +41,7 @@ fn is_load(g: Frame, k: Frame, search: Search) -> bool
     requires { ⌜ Fine g ⌝ }
     ensures { λ r. ⌜ r ≡ isLoad search k g ⌝ }
 {
-    g.priority + lead_of(search) <= k.priority
+    g.priority + ahead_by(search) <= k.priority
 }
 
 // How long after the start a frame is released first: at once, where the alignment is open.
@@ -49,20 +55,20 @@ fn first_release(g: Frame, choice: Choice, inverse: u32) -> u32
     }
 }
 
-// Puts a frame at place i, released first at a tick.
-fn put(area: &mut [u32], i: usize, g: Frame, first: u32, inverse: u32)
-    requires { ⌜ (4 * i + 4 ≤ length (now area)) × (length (now area) ≤ 256) ⌝ }
-    ensures { λ _. ⌜ now (area .exit) ≡ putAt (now (area .entry)) i (g .length) (g .period) first inverse ⌝ }
+// Puts a frame at place i, by its length and its period, released first at a tick.
+fn put(area: &mut [u32], i: usize, size: u32, period: u32, first: u32, inverse: u32)
+    requires { ⌜ (4 * i + 4 ≤ length (now area)) × (length (now area) ≤ 260) ⌝ }
+    ensures { λ _. ⌜ now (area .exit) ≡ putAt (now (area .entry)) i size period first inverse ⌝ }
 {
     let at = PLACED * i;
-    area[at] = g.length;
-    area[at + 1] = g.period;
+    area[at] = size;
+    area[at + 1] = period;
     area[at + 2] = first;
     area[at + 3] = inverse;
 }
 
-// Places them at the start of an area, and answers how many they are.
-pub fn place(
+// Places the frames at the start of an area, and answers how many they are.
+fn place_frames(
     rows: &[u32],
     prepared: &[u32],
     k: Frame,
@@ -71,8 +77,8 @@ pub fn place(
     area: &mut [u32],
 ) -> usize
     requires { ⌜ Filled (now rows) (now prepared) ⌝ }
-    requires { ⌜ length (now area) ≡ 256 ⌝ }
-    ensures { λ r. ⌜ placedIn (take (4 * r) (now (area .exit))) ≡ placedOut (tableOf (now (rows .entry)) (now (prepared .entry))) k search choices ⌝ }
+    requires { ⌜ length (now area) ≡ 260 ⌝ }
+    ensures { λ r. ⌜ placedIn (take (4 * r) (now (area .exit))) ≡ placedFrames (tableOf (now (rows .entry)) (now (prepared .entry))) k search choices ⌝ }
     ensures few { λ r. ⌜ r ≤ 64 ⌝ }
 {
     let all = rows.len() / ROW;
@@ -87,7 +93,8 @@ pub fn place(
             put(
                 area,
                 found,
-                g,
+                g.length,
+                g.period,
                 first_release(g, choice, r.inverse),
                 r.inverse,
             );
@@ -98,12 +105,48 @@ pub fn place(
     found
 }
 
+// Places the faults behind so many frames, and answers how many stand there then.
+fn place_faults(target: Target, search: Search, found: usize, area: &mut [u32]) -> usize
+    requires { ⌜ FineTarget target ⌝ }
+    requires { ⌜ (found ≤ 64) × (length (now area) ≡ 260) ⌝ }
+    ensures { λ r. ⌜ placedIn (take (4 * r) (now (area .exit))) ≡ placedIn (take (4 * found) (now (area .entry))) ++ placedFaults target search ⌝ }
+    ensures few { λ r. ⌜ r ≤ 65 ⌝ }
+{
+    let faults = target.faults;
+    let Faults::Apart(gap) = faults else {
+        return found;
+    };
+    let lead = lead_of(search, target.frame);
+    let first = first_fault(gap, lead);
+    put(area, found, target.cost, gap, first, 0);
+    found + 1
+}
+
+// Places both, and answers how many they are.
+pub fn place(
+    rows: &[u32],
+    prepared: &[u32],
+    target: Target,
+    search: Search,
+    choices: [Choice; 16],
+    area: &mut [u32],
+) -> usize
+    requires { ⌜ Filled (now rows) (now prepared) ⌝ }
+    requires { ⌜ FineTarget target ⌝ }
+    requires { ⌜ length (now area) ≡ 260 ⌝ }
+    ensures { λ r. ⌜ placedIn (take (4 * r) (now (area .exit))) ≡ placedOut (tableOf (now (rows .entry)) (now (prepared .entry))) target search choices ⌝ }
+    ensures few { λ r. ⌜ r ≤ 65 ⌝ }
+{
+    let found = place_frames(rows, prepared, target.frame, search, choices, area);
+    place_faults(target, search, found, area)
+}
+
 // The work of placed frames in the first n ticks.
 pub fn placed_work(placed: &[u32], n: u32) -> u64
     requires { ⌜ FinePlaced (placedIn (now placed)) ⌝ }
     requires { ⌜ n ≤ 1000001 ⌝ }
     ensures { λ r. ⌜ r ≡ placedWork (placedIn (now (placed .entry))) n ⌝ }
-    ensures small { λ r. ⌜ r ≤ 64 * 400400400 ⌝ }
+    ensures small { λ r. ⌜ r ≤ 65 * 431431431 ⌝ }
 {
     let all = placed.len() / PLACED;
     let mut sum: u64 = 0;

@@ -51,7 +51,7 @@ fn counts_below(d: u32, n: u32) -> u32
 
 // How many of d, d + p, d + 2p, .. are below n. Mostly it is one at the most, and whether it is one is left to no branch.
 pub fn releases_before(d: u32, p: u32, n: u32, inverse: u32) -> u32
-    requires { ⌜ (1 ≤ p) × (p ≤ 1000000) × (n ≤ 1000001) ⌝ }
+    requires { ⌜ (1 ≤ p) × (p ≤ 1000000) × (n ≤ 1000400) ⌝ }
     ensures { λ r. ⌜ r ≡ releasesBefore d p n ⌝ }
     ensures small { λ r. ⌜ r ≤ n ⌝ }
 {
@@ -87,9 +87,9 @@ pub fn distance_from(g: Frame, a: u32, inverse: u32) -> u32
 
 // The length of the releases in the first n ticks, where d is the distance from the alignment.
 pub fn demand_from(length: u32, period: u32, d: u32, n: u32, inverse: u32) -> u64
-    requires { ⌜ (length ≤ 400) × (1 ≤ period) × (period ≤ 1000000) × (n ≤ 1000001) ⌝ }
+    requires { ⌜ (length ≤ 431) × (1 ≤ period) × (period ≤ 1000000) × (n ≤ 1000001) ⌝ }
     ensures { λ r. ⌜ r ≡ length * releasesBefore d period n ⌝ }
-    ensures small { λ r. ⌜ r ≤ 400400400 ⌝ }
+    ensures small { λ r. ⌜ r ≤ length * 1000001 ⌝ }
 {
     let times = releases_before(d, period, n, inverse);
     length as u64 * times as u64

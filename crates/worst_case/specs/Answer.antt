@@ -5,6 +5,7 @@ use mathlib.Core.Bool.{cond}
 use lib.ListN.{replicate}
 use Rattle.arith.specs.declared.Found.the-variants.{At, Nothing}
 use Rattle.bus_model.specs.declared.Frame.{Frame}
+use Rattle.bus_model.specs.declared.Faults.the-variants.{Never}
 use Rattle.bus_model.specs.Frame.{row}
 use Rattle.bus_model.specs.Judgement.{judge}
 use Rattle.bus_model.specs.Worst.{lastRow, allEarly, worstStarts, worstInstance}
@@ -48,4 +49,4 @@ unfoldable pub judgedLast : List (List ℕ) → List ℕ → LastFrame
 judgedLast ls rows =
     let fs = framesOf ls rows in
     let r = lastRow fs in
-    record { judged = Verdict (judge fs (row fs r) (claimOf rows r)); worst = worstRow fs r }
+    record { judged = Verdict (judge Never fs (row fs r) (claimOf rows r)); worst = worstRow fs r }

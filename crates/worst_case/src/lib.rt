@@ -6,6 +6,7 @@ mod row;
 mod starts;
 
 use arith::Found;
+use bus_model::Faults;
 pub use last::last_row;
 pub use row::worst_row;
 use row_judgement::Judged;
@@ -68,7 +69,7 @@ fn worst_of_rows(lengths: [[u32; 9]; 2], rows: &[u32]) -> LastFrame
 {
     let i = last_row(lengths, rows);
     LastFrame {
-        judged: Judged::Verdict(row_judgement::judge_row(lengths, rows, i)),
+        judged: Judged::Verdict(row_judgement::judge_row(lengths, rows, i, Faults::Never)),
         worst: worst_row(lengths, rows, i),
     }
 }

@@ -8,6 +8,7 @@ use arith::Found;
 use arith::or_zero;
 use bounds::Bound;
 use bus_model::Case;
+use bus_model::Faults;
 use bus_model::Frame;
 use greatest_work::MEMORY;
 use row_judgement::prepare_row;
@@ -55,7 +56,7 @@ fn worst_bounded(lengths: [[u32; 9]; 2], rows: &[u32], i: usize) -> WorstCase
 {
     let mut prepared = [0u32; AREA];
     let mut memory = [0u64; MEMORY];
-    let target = prepare_row(lengths, rows, i, &mut prepared);
+    let target = prepare_row(lengths, rows, i, Faults::Never, &mut prepared);
     let bound = bounds::find(rows, &prepared, target, Found::Nothing, &mut memory);
     match bound {
         Bound::NoWindow => no_worst(),

@@ -3,6 +3,7 @@ use Prim.Native.Nat.{ℕ}
 use mathlib.Core.List.{List, [], _∷_, _++_}
 use Rattle.arith.specs.declared.Found.the-variants.{At, Nothing}
 use Rattle.bus_model.specs.Worst.{lastRow}
+use Rattle.bus_model.specs.declared.Faults.the-variants.{Never}
 use Rattle.decimal.specs.Decimal.{writeColumn}
 use Rattle.table_checks.specs.Frames.{framesOf}
 use Rattle.certifier.specs.Listing.{lineOf}
@@ -23,4 +24,4 @@ unfoldable pub textOf : List (List ℕ) → List ℕ → List ℕ
 textOf ls rows =
     let fs = framesOf ls rows in
     let r = lastRow fs in
-    lineOf ls rows r ++ worstText (worstRow fs r)
+    lineOf Never ls rows r ++ worstText (worstRow fs r)

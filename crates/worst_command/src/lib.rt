@@ -1,5 +1,6 @@
 // The command worst: the line of the listing of the frame that ranks last, and its worst case, as they are printed.
 use arith::Found;
+use bus_model::Faults;
 use certifier::LINE;
 use certifier::write_row;
 use explain_command::write_lines;
@@ -14,6 +15,7 @@ ghost use mathlib.Core.Path.{_≡_};
 ghost use mathlib.Core.List.{_++_};
 ghost use Prim.Native.Nat.{_<_, _/_};
 ghost use lib.ListN.{length};
+ghost use Rattle.bus_model.specs.declared.Faults.the-variants.{Never};
 ghost use Rattle.table_checks.specs.declared.Checked.the-variants.{Passed};
 ghost use Rattle.table_checks.specs.Columns.{columns};
 ghost use Rattle.table_checks.specs.Checks.{Loadable, Accepted};
@@ -90,8 +92,8 @@ fn write_with(
 ) -> Answer
     requires { ⌜ Loadable lengths × Accepted (now rows) ⌝ }
     requires { ⌜ i < length (now rows) / columns ⌝ }
-    ensures { λ r. ⌜ r ≡ answerFor Passed (lineOf lengths (now (rows .entry)) i ++ worstText worst) (now (out .entry)) ⌝ }
-    ensures { λ r. ⌜ now (out .exit) ≡ areaAfter r (lineOf lengths (now (rows .entry)) i ++ worstText worst) (now (out .entry)) ⌝ }
+    ensures { λ r. ⌜ r ≡ answerFor Passed (lineOf Never lengths (now (rows .entry)) i ++ worstText worst) (now (out .entry)) ⌝ }
+    ensures { λ r. ⌜ now (out .exit) ≡ areaAfter r (lineOf Never lengths (now (rows .entry)) i ++ worstText worst) (now (out .entry)) ⌝ }
 {
     let response = worst.response;
     match response {
@@ -107,13 +109,13 @@ fn write_with(
 fn write_line(lengths: [[u32; 9]; 2], rows: &[u32], i: usize, out: &mut [u8]) -> Answer
     requires { ⌜ Loadable lengths × Accepted (now rows) ⌝ }
     requires { ⌜ i < length (now rows) / columns ⌝ }
-    ensures { λ r. ⌜ r ≡ answerFor Passed (lineOf lengths (now (rows .entry)) i) (now (out .entry)) ⌝ }
-    ensures { λ r. ⌜ now (out .exit) ≡ areaAfter r (lineOf lengths (now (rows .entry)) i) (now (out .entry)) ⌝ }
+    ensures { λ r. ⌜ r ≡ answerFor Passed (lineOf Never lengths (now (rows .entry)) i) (now (out .entry)) ⌝ }
+    ensures { λ r. ⌜ now (out .exit) ≡ areaAfter r (lineOf Never lengths (now (rows .entry)) i) (now (out .entry)) ⌝ }
 {
     if out.len() < LINE {
         return no_room();
     }
-    write_row(lengths, rows, i, &mut out[0..LINE]);
+    write_row(lengths, rows, Faults::Never, i, &mut out[0..LINE]);
     Answer::Done(LINE)
 }
 
@@ -129,13 +131,13 @@ fn write_lines_of(
 ) -> Answer
     requires { ⌜ Loadable lengths × Accepted (now rows) ⌝ }
     requires { ⌜ i < length (now rows) / columns ⌝ }
-    ensures { λ r. ⌜ r ≡ answerFor Passed (lineOf lengths (now (rows .entry)) i ++ (linesFrom starts 16 0 ++ responseLine instance response)) (now (out .entry)) ⌝ }
-    ensures { λ r. ⌜ now (out .exit) ≡ areaAfter r (lineOf lengths (now (rows .entry)) i ++ (linesFrom starts 16 0 ++ responseLine instance response)) (now (out .entry)) ⌝ }
+    ensures { λ r. ⌜ r ≡ answerFor Passed (lineOf Never lengths (now (rows .entry)) i ++ (linesFrom starts 16 0 ++ responseLine instance response)) (now (out .entry)) ⌝ }
+    ensures { λ r. ⌜ now (out .exit) ≡ areaAfter r (lineOf Never lengths (now (rows .entry)) i ++ (linesFrom starts 16 0 ++ responseLine instance response)) (now (out .entry)) ⌝ }
 {
     if out.len() < LONGEST {
         return no_room();
     }
-    write_row(lengths, rows, i, &mut out[0..LINE]);
+    write_row(lengths, rows, Faults::Never, i, &mut out[0..LINE]);
     write_lines(starts, &mut out[LINE..GROUPS_END]);
     write_response(instance, response, &mut out[GROUPS_END..LONGEST]);
     Answer::Done(LONGEST)

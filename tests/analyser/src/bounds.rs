@@ -1,5 +1,6 @@
 //! The rough and the exact bound of one frame.
 
+use crate::faults::Faults;
 use crate::lengths::{length, LengthTable};
 use crate::table::{self, Row, CLAIM, GROUP, GROUPS, IDENTIFIER, KIND, OFFSET, PERIOD};
 
@@ -80,6 +81,8 @@ pub struct View<'a> {
     lengths: &'a LengthTable,
     frame: &'a Row,
     blocking: u64,
+    /// None on a bus without faults.
+    faults: Option<Faults>,
     pub(crate) own: usize,
     pub(crate) groups: Vec<Vec<Alignment>>,
 }
@@ -102,9 +105,28 @@ impl<'a> View<'a> {
             lengths,
             frame,
             blocking: blocking(lengths, rows, frame),
+            faults: None,
             own: frame[by] as usize - 1,
             groups: (1..=GROUPS).map(of_group).collect(),
         }
+    }
+
+    /// The view of a row where faults begin at least a gap apart, if there is one.
+    pub fn under(
+        gap: Option<u64>,
+        lengths: &'a LengthTable,
+        rows: &'a [Row],
+        row: usize,
+    ) -> View<'a> {
+        let ahead = rows.iter().filter(|other| rank(other) <= rank(&rows[row]));
+        let longest = ahead.map(|row| length(lengths, row)).max().unwrap_or(0);
+        let faults = gap.map(|gap| Faults::new(gap, longest));
+        View { faults, ..View::new(lengths, rows, row) }
+    }
+
+    /// What faults cost that begin in so many ticks.
+    fn fault_work(&self, ticks: u64) -> u64 {
+        self.faults.map_or(0, |faults| faults.work(ticks))
     }
 
     pub fn identifier(&self) -> u32 {
@@ -275,7 +297,8 @@ impl<'a> View<'a> {
     fn window(&self, own: &Alignment, frame: &Release, others: Others, limit: u64) -> Option<u64> {
         let mut end = 1;
         while end <= limit {
-            let need = self.blocking + own.work(end) + frame.work(end) + others(end);
+            let ahead = own.work(end) + frame.work(end) + others(end);
+            let need = self.blocking + ahead + self.fault_work(end);
             if need <= end {
                 return Some(end);
             }
@@ -289,7 +312,8 @@ impl<'a> View<'a> {
         let before = self.blocking + (q - 1) * frame.length;
         let mut start = 0;
         loop {
-            let need = before + own.work(start + 1) + others(start + 1);
+            let better = own.work(start + 1) + others(start + 1);
+            let need = before + better + self.fault_work(start + frame.length);
             if need <= start {
                 return start;
             }

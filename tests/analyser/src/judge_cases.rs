@@ -394,7 +394,7 @@ fn lowest(view: &View) -> bool {
 /// Carts of many alignments, so that the levels end before the last ones.
 pub fn three_carts(random: &mut Random, lengths: &LengthTable) -> Vec<Row> {
     let groups = random.between(3, 4);
-    carts(random, lengths, groups, (8, 30))
+    carts(random, lengths, groups, (8, 30), 0)
 }
 
 pub fn short(random: &mut Random, _: &LengthTable) -> Vec<Row> {

@@ -5,11 +5,16 @@ pub mod bounds;
 pub mod bus;
 pub mod busiest;
 pub mod cases;
+pub mod every_schedule;
 #[cfg(test)]
 mod examples;
 pub mod explain;
 #[cfg(test)]
 mod explain_examples;
+#[cfg(test)]
+mod fault_examples;
+pub mod faults;
+pub mod faulty_bus;
 pub mod frame_length;
 pub mod frame_length_cases;
 #[cfg(test)]

@@ -118,10 +118,20 @@ struct Literal<'a> {
     blocking: u64,
     instants: Vec<Vec<u64>>,
     longest_window: u64,
+    /// The gap between faults, and what each costs.
+    faults: Option<(u64, u64)>,
 }
 
-pub fn answer(lengths: &LengthTable, rows: &[Row], row: usize, limits: Limits) -> Answer {
+pub fn answer(
+    gap: Option<u64>,
+    lengths: &LengthTable,
+    rows: &[Row],
+    row: usize,
+    limits: Limits,
+) -> Answer {
     let judged = &rows[row];
+    let ahead = rows.iter().filter(|other| !goes_ahead(judged, other));
+    let longest = ahead.map(|row| length(lengths, row)).max().unwrap();
     let below = rows.iter().filter(|other| goes_ahead(judged, other));
     let literal = Literal {
         lengths,
@@ -130,6 +140,7 @@ pub fn answer(lengths: &LengthTable, rows: &[Row], row: usize, limits: Limits) -
         blocking: below.map(|row| length(lengths, row)).max().map_or(0, |longest| longest - 1),
         instants: (1..=16).map(|group| instants(rows, judged, group)).collect(),
         longest_window: limits.window,
+        faults: gap.map(|gap| (gap, 31 + longest)),
     };
     let rough = literal.rough();
     let Enumerated { exact, scenarios, case } = literal.enumerate();
@@ -287,7 +298,7 @@ impl Literal<'_> {
         let mut running = self.running(choices);
         for window in 1..=self.longest_window {
             running.iter_mut().for_each(|group| group.tick(window - 1, true));
-            if self.blocking + sum(&running) <= window {
+            if self.blocking + sum(&running) + self.faulty(window) <= window {
                 return Some(window);
             }
         }
@@ -301,11 +312,17 @@ impl Literal<'_> {
         let mut start = 0;
         loop {
             running.iter_mut().for_each(|group| group.tick(start, false));
-            if before + sum(&running) <= start {
+            let faulty = self.faulty(start + length(self.lengths, self.judged));
+            if before + sum(&running) + faulty <= start {
                 return start;
             }
             start += 1;
         }
+    }
+
+    /// What faults cost that begin at 0 and a gap after each other, in so many ticks.
+    fn faulty(&self, ticks: u64) -> u64 {
+        self.faults.map_or(0, |(gap, cost)| (0..ticks).step_by(gap as usize).count() as u64 * cost)
     }
 
     fn running(&self, choices: &[Vec<u64>]) -> Vec<Running> {

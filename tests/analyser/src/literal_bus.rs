@@ -1,5 +1,6 @@
 //! The bus rule followed tick by tick, sharing only types with the simulator.
 
+use crate::faulty_bus::Attempt;
 use crate::literal::goes_ahead;
 use crate::simulator::{Lengths, Starts, Transmission};
 use crate::table::Row;
@@ -21,6 +22,40 @@ pub fn schedule(rows: &[Row], starts: &Starts, until: u64, lengths: Lengths) -> 
             ticks_left = length;
         }
         ticks_left = ticks_left.saturating_sub(1);
+    }
+    list
+}
+
+/// The same where some transmissions are cut: what is sent when a fault begins ends with its tick and stays
+/// queued, and 31 ticks of signalling follow.
+pub fn schedule_with_faults(
+    rows: &[Row],
+    starts: &Starts,
+    until: u64,
+    faults: &[u64],
+    lengths: &mut dyn FnMut() -> u64,
+) -> Vec<Attempt> {
+    let mut queue: Vec<Instance> = Vec::new();
+    let mut list: Vec<Attempt> = Vec::new();
+    let (mut ticks_left, mut signalling) = (0, 0);
+    for tick in 0..until {
+        queue.extend((0..rows.len()).filter_map(|row| queued_at(tick, row, &rows[row], starts)));
+        if ticks_left + signalling == 0 && !queue.is_empty() {
+            let (row, instance) = queue.remove(best(rows, &queue));
+            ticks_left = lengths();
+            let length = ticks_left;
+            list.push(Attempt { row, instance, start: tick, length, fault: None });
+        }
+        if signalling > 0 {
+            signalling -= 1;
+        } else if ticks_left > 0 && faults.contains(&tick) {
+            let cut = list.last_mut().expect("a transmission");
+            cut.fault = Some(tick);
+            queue.insert(0, (cut.row, cut.instance));
+            (ticks_left, signalling) = (0, 31);
+        } else {
+            ticks_left = ticks_left.saturating_sub(1);
+        }
     }
     list
 }

@@ -1,8 +1,9 @@
 //! The analyser's commands.
 
 use analyser::{
-    busiest, cases, explain, frame_length, frame_length_cases, judge_cases, judgement, lengths,
-    listing, load_sheet, log_cases, log_check, million, replay, self_check, table_cases, worst,
+    busiest, cases, every_schedule, explain, faults, frame_length, frame_length_cases, judge_cases,
+    judgement, lengths, listing, load_sheet, log_cases, log_check, million, replay, self_check,
+    table_cases, worst,
 };
 use std::io::{self, Read, Write};
 use std::process::ExitCode;
@@ -14,12 +15,14 @@ const USAGE: &str = "usage:
   analyser precise ROW < lengths and table
   analyser explain ROW < lengths and table
   analyser worst < lengths and table
+  analyser faults GAP < lengths and table
   analyser frame-length KIND IDENTIFIER HEX
   analyser check-log LOGFILE < lengths and table
   analyser busiest LOGFILE WIDTH < lengths and table
   analyser simulate SEED LINES < lengths and table
   analyser million
   analyser self-check SEED COUNT
+  analyser every-schedule SEED COUNT
   analyser table-cases stdin|stdout
   analyser judge-cases stdin|stdout
   analyser frame-length-cases stdin|stdout
@@ -57,6 +60,7 @@ fn run(words: &[&str]) -> io::Result<bool> {
         }
         ["explain", row] => print(explain::explain(&input()?, number(row)?).as_bytes()),
         ["worst"] => print(worst::worst(&input()?).as_bytes()),
+        ["faults", gap] => print(faults::list(&input()?, number(gap)?).as_bytes()),
         ["frame-length", kind, identifier, hex] => {
             let line = frame_length::line(kind, identifier, hex);
             print(line.ok_or_else(|| io::Error::other(USAGE))?.as_bytes())
@@ -73,6 +77,9 @@ fn run(words: &[&str]) -> io::Result<bool> {
         }
         ["million"] => print(format!("{:016x}\n", million::own_fingerprint()).as_bytes()),
         ["self-check", seed, count] => Ok(self_check::self_check(number(seed)?, number(count)?)),
+        ["every-schedule", seed, count] => {
+            Ok(every_schedule::every_schedule(number(seed)?, number(count)?))
+        }
         ["table-cases", "stdin"] => print(&cases::stdin(&table_cases::all())),
         ["table-cases", "stdout"] => print(&cases::stdout(&table_cases::all())),
         ["judge-cases", "stdin"] => print(&cases::stdin(&judge_cases::all())),

@@ -183,17 +183,19 @@ pub fn stretched(random: &mut Random, groups: u64, multiple: u64, base: u64) -> 
 
 /// Carts that each queue a long frame, and later a short one with a long one behind it: their greatest
 /// sums are often more than any alignment gives. So many of their patterns make a cart's hyperperiod,
-/// by a frame that ranks below all others. The last row is judged; it has a group of its own.
+/// by a frame that ranks below all others. The last row is judged; it has a group of its own. What it
+/// waits for besides, such as faults, is to be given.
 pub fn carts(
     random: &mut Random,
     lengths: &LengthTable,
     groups: u64,
     times: (u64, u64),
+    besides: u64,
 ) -> Vec<Row> {
     let groups = random.groups(groups + 1);
     let long = length(lengths, &[0, 0, 0, 11, 8, 0, 0, 0]);
     let short = length(lengths, &[0, 0, 0, 11, 0, 0, 0, 0]);
-    let wait = (groups.len() as u64 - 2) * long + short;
+    let wait = (groups.len() as u64 - 2) * long + short + besides;
     let period = 4 * (wait + 4 * long) + random.below(1000);
     let mut rows = Vec::new();
     for (cart, group) in (0..).zip(&groups[1..]) {
@@ -315,7 +317,19 @@ pub fn set_claim(
     row: usize,
     limits: Limits,
 ) {
-    let view = View::new(lengths, rows, row);
+    set_claim_under(None, random, lengths, rows, row, limits);
+}
+
+/// The same where faults begin at least a gap apart.
+pub fn set_claim_under(
+    gap: Option<u64>,
+    random: &mut Random,
+    lengths: &LengthTable,
+    rows: &mut [Row],
+    row: usize,
+    limits: Limits,
+) {
+    let view = View::under(gap, lengths, rows, row);
     let Some(rough) = view.rough(limits.window) else {
         return;
     };

@@ -3,12 +3,12 @@
 
 use crate::bounds::View;
 use crate::explain::explain_view;
-use crate::judgement::{judge_row, Limits, Search};
+use crate::judgement::{judge_view, Limits, Search};
 use crate::lengths::{self, LengthTable, STANDARD};
 use crate::literal;
 use crate::literal_table::{faults_of_file, faults_of_words, refusal};
 use crate::log_self_check;
-use crate::random::{carts, clustered, dense, own_lengths, set_claim, stretched, Random};
+use crate::random::{carts, clustered, dense, own_lengths, set_claim_under, stretched, Random};
 use crate::table::{
     self, Refusal, Row, FIELDS, GROUP, GROUPS, IDENTIFIER, NODE, OFFSET, PAYLOAD, PERIOD,
 };
@@ -22,6 +22,8 @@ struct Tally {
     rows: u64,
     differences: u64,
     verdicts: [u64; 13],
+    /// Those of them where there are faults.
+    faults: [u64; 13],
     apart: u64,
     later_queueings: u64,
     rough_only_without_window: u64,
@@ -52,9 +54,10 @@ pub fn self_check(seed: u64, count: u64) -> bool {
             scenarios: random.pick(&[4, 12, 30, 65_536, 65_536, 65_536]),
         };
         tally.tables += 1;
+        let gap = random.percent(40).then(|| random.between(100, 3000));
         for row in 0..rows.len() {
-            set_claim(&mut random, &lengths, &mut rows, row, limits);
-            compare(&lengths, &rows, row, limits, &mut tally);
+            set_claim_under(gap, &mut random, &lengths, &mut rows, row, limits);
+            compare(gap, &lengths, &rows, row, limits, &mut tally);
         }
         compare_readers(&lengths_file(&mut random, lengths), &mut tally);
         compare_checks(&mut random, rows, &mut tally);
@@ -67,12 +70,13 @@ pub fn self_check(seed: u64, count: u64) -> bool {
 
 fn small_table(random: &mut Random, lengths: &LengthTable) -> Vec<Row> {
     let groups = random.between(1, 3);
+    let besides = random.pick(&[0, 0, 150, 200]);
     match random.below(11) {
         0..=3 => clustered(random, lengths, groups.max(2), 5, (110, 500)),
         4 => clustered(random, lengths, groups.max(2), 4, (88, 100)),
         5..=7 => dense(random, lengths, 4),
         8 => stretched(random, groups, 6, 250),
-        10 => carts(random, lengths, groups + 1, (1, 1)),
+        10 => carts(random, lengths, groups + 1, (1, 1), besides),
         _ => stretched(random, groups, 9, 1),
     }
 }
@@ -82,14 +86,21 @@ fn cheap(lengths: &LengthTable, rows: &[Row]) -> bool {
     table::check(&rows.concat()).is_ok() && (0..rows.len()).all(|row| count(row) <= MOST_SCENARIOS)
 }
 
-fn compare(lengths: &LengthTable, rows: &[Row], row: usize, limits: Limits, tally: &mut Tally) {
-    let view = View::new(lengths, rows, row);
+fn compare(
+    gap: Option<u64>,
+    lengths: &LengthTable,
+    rows: &[Row],
+    row: usize,
+    limits: Limits,
+    tally: &mut Tally,
+) {
+    let view = View::under(gap, lengths, rows, row);
     let rough = view.rough(limits.window);
     let exact = view.exact(limits.window);
     let fast = (rough.map(|w| w.response), exact.map(|w| w.response));
     let pruned = rough.and_then(|_| view.exact_pruned(limits.window));
-    let judgement = judge_row(lengths, rows, row, limits);
-    let slow = literal::answer(lengths, rows, row, limits);
+    let judgement = judge_view(Search::Pruned, &view, limits);
+    let slow = literal::answer(gap, lengths, rows, row, limits);
     let [plain, quick] = [Search::Plain, Search::Pruned].map(|s| explain_view(s, &view, limits));
     let same = fast == (slow.rough, slow.exact)
         && (rough.is_none() || pruned == slow.exact)
@@ -104,9 +115,10 @@ fn compare(lengths: &LengthTable, rows: &[Row], row: usize, limits: Limits, tall
     tally.late += u64::from(rows.iter().any(|row| row[OFFSET] >= row[PERIOD]));
     if !same {
         tally.differences += 1;
-        eprintln!("row {row} differs in {rows:?} with lengths {lengths:?}");
+        eprintln!("row {row} differs in {rows:?} with lengths {lengths:?} and gap {gap:?}");
     }
     tally.verdicts[judgement.verdict as usize] += 1;
+    tally.faults[judgement.verdict as usize] += u64::from(gap.is_some());
     if let Some(case) = slow.case {
         tally.cases[usize::from(case.q > 1)] += 1;
     }
@@ -209,7 +221,8 @@ fn compare_readers(file: &[u8], tally: &mut Tally) {
 impl Tally {
     fn print(&self) {
         for verdict in [1, 2, 3, 4, 11, 12] {
-            eprintln!("verdict {verdict:>2}: {}", self.verdicts[verdict]);
+            let faults = self.faults[verdict];
+            eprintln!("verdict {verdict:>2}: {}, with faults {faults}", self.verdicts[verdict]);
         }
         eprintln!("rough and exact bound differ: {}", self.apart);
         eprintln!("exact bound by a later q only: {}", self.later_queueings);

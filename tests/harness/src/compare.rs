@@ -208,7 +208,7 @@ pub fn copied<T: Copy>(result: Result<Vec<T>, Refusal>, area: &mut [T]) -> i64 {
 }
 
 /// Calls with no area; lengths and input stay.
-fn without_area<L: Element, I: Element>(
+pub fn without_area<L: Element, I: Element>(
     random: &mut Random,
     lengths: &[L],
     input: &[I],

@@ -39,7 +39,7 @@ pub fn draw(random: &mut Random) -> ExplainCall {
 
 /// A table and a row that is not too much work, with a claim at or beside its bounds, or a response in
 /// some scenario, or one less.
-fn draw_table(random: &mut Random) -> Drawn {
+pub fn draw_table(random: &mut Random) -> Drawn {
     let mut drawn = match random.below(100) {
         0 => return catching_up(random),
         1..=30 => later(random),

@@ -34,6 +34,33 @@ extern "C" {
         shown: *mut u32,
         shown_len: usize,
     ) -> i64;
+    fn certifier_judge_faults(
+        lengths: *const u8,
+        lengths_len: usize,
+        table: *const u8,
+        len: usize,
+        row: u64,
+        gap: u64,
+    ) -> i64;
+    fn certifier_explain_faults(
+        lengths: *const u8,
+        lengths_len: usize,
+        table: *const u8,
+        len: usize,
+        row: u64,
+        gap: u64,
+        shown: *mut u32,
+        shown_len: usize,
+    ) -> i64;
+    fn certifier_list_faults(
+        lengths: *const u8,
+        lengths_len: usize,
+        table: *const u8,
+        len: usize,
+        gap: u64,
+        out: *mut u8,
+        out_len: usize,
+    ) -> i64;
     fn certifier_list(
         lengths: *const u8,
         lengths_len: usize,
@@ -135,6 +162,34 @@ pub fn worst(lengths: &mut Lent<u8>, file: &mut Lent<u8>, shown: &mut Lent<u32>)
     let [(loaded, size), (table, len)] = [area_or_null(lengths), area_or_null(file)];
     let (area, room) = area_or_null(shown);
     unsafe { certifier_worst(loaded, size, table, len, area, room) }
+}
+
+pub fn judge_faults(lengths: &mut Lent<u8>, file: &mut Lent<u8>, row: u64, gap: u64) -> i64 {
+    let [(loaded, size), (table, len)] = [area_or_null(lengths), area_or_null(file)];
+    unsafe { certifier_judge_faults(loaded, size, table, len, row, gap) }
+}
+
+pub fn explain_faults(
+    lengths: &mut Lent<u8>,
+    file: &mut Lent<u8>,
+    row: u64,
+    gap: u64,
+    shown: &mut Lent<u32>,
+) -> i64 {
+    let [(loaded, size), (table, len)] = [area_or_null(lengths), area_or_null(file)];
+    let (area, room) = area_or_null(shown);
+    unsafe { certifier_explain_faults(loaded, size, table, len, row, gap, area, room) }
+}
+
+pub fn list_faults(
+    lengths: &mut Lent<u8>,
+    file: &mut Lent<u8>,
+    gap: u64,
+    out: &mut Lent<u8>,
+) -> i64 {
+    let [(loaded, size), (table, len)] = [area_or_null(lengths), area_or_null(file)];
+    let (area, room) = area_or_null(out);
+    unsafe { certifier_list_faults(loaded, size, table, len, gap, area, room) }
 }
 
 pub fn list(lengths: &mut Lent<u8>, file: &mut Lent<u8>, out: &mut Lent<u8>) -> i64 {

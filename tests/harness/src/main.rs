@@ -11,6 +11,9 @@ mod damage;
 mod explain;
 mod explain_inputs;
 mod explain_tally;
+mod fault_calls;
+mod faults;
+mod faulty;
 mod frame_lengths;
 mod group_orders;
 mod inputs;
@@ -49,6 +52,7 @@ const USAGE: &str = "usage:
   harness replay-explain SEED NUMBER [--save FILE]
   harness worst SEED COUNT [--save FILE]
   harness replay-worst SEED NUMBER [--save FILE]
+  harness faults SEED COUNT
   harness logs SEED COUNT [--save FILE]
   harness replay-logs SEED NUMBER [--save FILE]
   harness levels SEED COUNT
@@ -98,6 +102,7 @@ fn run(words: &[&str]) -> io::Result<bool> {
         ["replay-worst", seed, input, rest @ ..] => {
             worst::replay(number(seed)?, number(input)?, save(rest)?)
         }
+        ["faults", seed, count] => Ok(faults::run(number(seed)?, number(count)?)),
         ["logs", seed, count, rest @ ..] => logs::run(number(seed)?, number(count)?, save(rest)?),
         ["replay-logs", seed, input, rest @ ..] => {
             logs::replay(number(seed)?, number(input)?, save(rest)?)

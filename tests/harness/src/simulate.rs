@@ -213,7 +213,7 @@ fn ends(rows: &[Row], list: &[Transmission]) -> Vec<Vec<u64>> {
 }
 
 /// A tick with enough releases between it and the last beginning of a frame, and not too many.
-fn until(rows: &[Row], starts: &Starts) -> u64 {
+pub fn until(rows: &[Row], starts: &Starts) -> u64 {
     let rate: u64 = rows.iter().map(|row| 1_000_000 / u64::from(row[PERIOD])).sum();
     let latest = starts.iter().max().expect("a group");
     let begun = rows.iter().map(|row| release(row, starts, 0)).max().expect("a row");
@@ -221,7 +221,7 @@ fn until(rows: &[Row], starts: &Starts) -> u64 {
 }
 
 /// Always the largest, anything, or mostly the largest.
-fn draw_length(random: &mut Random, manner: u64, lengths: &LengthTable, row: &Row) -> u64 {
+pub fn draw_length(random: &mut Random, manner: u64, lengths: &LengthTable, row: &Row) -> u64 {
     let largest = length(lengths, row);
     match manner {
         0 => largest,
@@ -235,7 +235,7 @@ fn draw_length(random: &mut Random, manner: u64, lengths: &LengthTable, row: &Ro
 /// worst scenario meet and all lengths are largest; none if there is no such scenario.
 fn reaches_bound(random: &mut Random, drawn: &Drawn) -> Option<bool> {
     let row = lowest(&drawn.rows);
-    let (worst, instants) = worst_scenario(drawn, row)?;
+    let (worst, instants) = worst_scenario(None, drawn, row)?;
     let mut lengths = Lent::new(random, &drawn.lengths.concat());
     let mut words = Lent::new(random, &drawn.rows.concat());
     let bound = library::precise_bound_rows(&mut lengths, &mut words, row as u64);

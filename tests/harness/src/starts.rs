@@ -1,6 +1,6 @@
 //! Starts of the groups of a simulated bus.
 
-use crate::tables::Drawn;
+use crate::tables::{is_cheap_under, Drawn};
 use analyser::bounds::{rank, View, Worst};
 use analyser::judgement::LIMITS;
 use analyser::lengths::length;
@@ -20,25 +20,37 @@ pub fn starts(random: &mut Random, rows: &[Row]) -> Starts {
     }
 }
 
-/// Starts for which the worst scenario of a certified row meets, a tick after a long frame below is
-/// queued; none by chance, or if there are too many scenarios.
+/// Starts for which the worst scenario of a certified row meets; none by chance, or if there are too many
+/// scenarios.
 pub fn worst_starts(random: &mut Random, drawn: &Drawn, certified: &[usize]) -> Option<Starts> {
     if certified.is_empty() || random.percent(60) {
         return None;
     }
     let row = random.pick(certified);
-    let (_, mut instants) = worst_scenario(drawn, row)?;
+    blocked_starts(None, drawn, row).map(|(starts, _)| starts)
+}
+
+/// Starts for which the worst scenario of a row meets, a tick after a long frame below is queued, and where
+/// it meets; with faults at least a gap apart if there are any.
+pub fn blocked_starts(gap: Option<u64>, drawn: &Drawn, row: usize) -> Option<(Starts, u64)> {
+    let (_, mut instants) = worst_scenario(gap, drawn, row)?;
     if let Some(blocking) = blocking_frame(drawn, &drawn.rows[row]) {
         instants[blocking[GROUP] as usize - 1] = u64::from(blocking[OFFSET]) + 1;
     }
-    Some(starts_to_meet(&instants))
+    let starts = starts_to_meet(&instants);
+    Some((starts, starts[0] + instants[0]))
 }
 
 /// The exact bound of a row and the instants of the first scenario that gives it, where all frames have
-/// begun; none if there are too many scenarios, or no window.
-pub fn worst_scenario(drawn: &Drawn, row: usize) -> Option<(Worst, Vec<u64>)> {
-    let view = View::new(&drawn.lengths, &drawn.rows, row);
-    if view.scenario_count() > MOST_SCENARIOS || !drawn.is_cheap(row) {
+/// begun, with faults at least a gap apart if there are any; none if there are too many scenarios, or no
+/// window.
+pub fn worst_scenario(gap: Option<u64>, drawn: &Drawn, row: usize) -> Option<(Worst, Vec<u64>)> {
+    let view = View::under(gap, &drawn.lengths, &drawn.rows, row);
+    let cheap = match gap {
+        Some(_) => is_cheap_under(gap, &drawn.lengths, &drawn.rows, row),
+        None => drawn.is_cheap(row),
+    };
+    if view.scenario_count() > MOST_SCENARIOS || !cheap {
         return None;
     }
     view.rough(LIMITS.window)?;

@@ -2,6 +2,7 @@
 
 use crate::lengths;
 use analyser::bounds::{rank, View};
+use analyser::faults::SIGNALLING;
 use analyser::judge_cases::{
     self, apart, counted_table, long_window_table, LONG_WINDOWS, NO_ROUGH_WINDOW,
 };
@@ -152,16 +153,21 @@ pub fn claim_all(random: &mut Random, lengths: &LengthTable, rows: &mut [Row]) {
 
 /// Whether judging a row of accepted rows is not too much work.
 pub fn is_cheap(lengths: &LengthTable, rows: &[Row], row: usize) -> bool {
-    effort(lengths, rows, row) <= MOST_EFFORT
+    is_cheap_under(None, lengths, rows, row)
+}
+
+/// The same where faults begin at least a gap apart.
+pub fn is_cheap_under(gap: Option<u64>, lengths: &LengthTable, rows: &[Row], row: usize) -> bool {
+    effort(gap, lengths, rows, row) <= MOST_EFFORT
 }
 
 /// About how many sums it takes to judge a row.
-fn effort(lengths: &LengthTable, rows: &[Row], row: usize) -> u64 {
-    let view = View::new(lengths, rows, row);
+fn effort(gap: Option<u64>, lengths: &LengthTable, rows: &[Row], row: usize) -> u64 {
+    let view = View::under(gap, lengths, rows, row);
     let counts: Vec<u64> = view.alignment_counts().collect();
     let own = counts[rows[row][GROUP] as usize - 1];
     let alignments = counts.iter().sum::<u64>();
-    let steps = steps(lengths, rows, row);
+    let steps = steps(gap, lengths, rows, row);
     let search = steps * (own * alignments + combinations(&view, alignments));
     if search > MOST_EFFORT {
         return search;
@@ -181,9 +187,11 @@ fn combinations(view: &View, alignments: u64) -> u64 {
 }
 
 /// About how many steps a search takes: the more, the nearer the load is to 1.
-fn steps(lengths: &LengthTable, rows: &[Row], row: usize) -> u64 {
-    let ahead = rows.iter().filter(|other| rank(other) <= rank(&rows[row]));
-    let load: u64 = ahead.map(|row| load(lengths, row)).sum();
+fn steps(gap: Option<u64>, lengths: &LengthTable, rows: &[Row], row: usize) -> u64 {
+    let ahead = || rows.iter().filter(|other| rank(other) <= rank(&rows[row]));
+    let longest = ahead().map(|row| length(lengths, row)).max().unwrap_or(0);
+    let faults = gap.map_or(0, |gap| (SIGNALLING + longest) * WHOLE / gap);
+    let load: u64 = faults + ahead().map(|row| load(lengths, row)).sum::<u64>();
     10 * WHOLE / load.abs_diff(WHOLE).max(500)
 }
 

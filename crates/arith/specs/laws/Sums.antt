@@ -23,6 +23,12 @@ module _ {A : Type 0} where
   sum-le [] le = omega arith
   sum-le (x ∷ xs) le = omega (arith, le x (here refl), sum-le xs (λ y m. le y (there m)))
 
+  -- The sum over two lists is that over the one and that over the other.
+  pub sum-append : (f : A → ℕ) (xs ys : List A) → sum f (xs ++ ys) ≡ sum f xs + sum f ys
+  unfolding sum
+  sum-append f [] ys = omega arith
+  sum-append f (x ∷ xs) ys = let rest = sum-append f xs ys in omega arith
+
   -- Where each term is another's, so is the sum.
   pub sum-same : {f g : A → ℕ} (xs : List A) → ((x : A) → Mem x xs → f x ≡ g x) → sum f xs ≡ sum g xs
   unfolding sum

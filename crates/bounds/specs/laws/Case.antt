@@ -13,6 +13,7 @@ use Rattle.arith.specs.Least.{least, orZero}
 use Rattle.arith.specs.laws.Members.{mem-range}
 use Rattle.arith.specs.laws.Walks.{walk-less}
 use Rattle.bus_model.specs.declared.Frame.{Frame}
+use Rattle.bus_model.specs.declared.Faults.{Faults}
 use Rattle.bus_model.specs.declared.Choice.{Choice}
 use Rattle.bus_model.specs.declared.Choice.the-variants.{Fixed, Any}
 use Rattle.bus_model.specs.Frame.{row}
@@ -49,24 +50,24 @@ own-again k cs (low, high) {a} e = set-again Any (Fixed a) cs (k .group - 1) (om
 -- ---- a visit of a group's alignments
 
 -- It stands at a: with none before a does a response exceed the claim.
-abbrev pub Tries : List Frame → Frame → ℕ → List Choice → ℕ → ℕ → Type 0
-Tries fs k claim cs j a = (valid : Valid fs) (table : InTable fs k) → Trying valid (table .inside) claim cs j a
+abbrev pub Tries : Faults → List Frame → Frame → ℕ → List Choice → ℕ → ℕ → Type 0
+Tries faults fs k claim cs j a = (valid : Valid fs) (table : InTable fs k) → Trying faults valid (table .inside) claim cs j a
 
-pub tries-first : {fs : List Frame} {k : Frame} {claim : ℕ} {cs : List Choice} {j : ℕ} → LeadsTo fs k claim j cs → (1 ≤ j) × (j ≤ 16) → {a : ℕ} (first : Found)
-    → first ≡ least (isAlignment fs k j) (turn fs k j - 0) 0 → a ≡ orZero first → Tries fs k claim cs j a
-tries-first {claim = claim} {cs} {j} l (low, high) first is start valid table =
-    rw start (try-first valid (table .inside) claim cs (l .prefix) (mem-range 1 groups j low (omega arith)) first (rw (table .is) at is))
+pub tries-first : {faults : Faults} {fs : List Frame} {k : Frame} {claim : ℕ} {cs : List Choice} {j : ℕ} → LeadsTo faults fs k claim j cs → (1 ≤ j) × (j ≤ 16) → {a : ℕ} (first : Found)
+    → first ≡ least (isAlignment fs k j) (turn fs k j - 0) 0 → a ≡ orZero first → Tries faults fs k claim cs j a
+tries-first {faults = faults} {claim = claim} {cs} {j} l (low, high) first is start valid table =
+    rw start (try-first faults valid (table .inside) claim cs (l .prefix) (mem-range 1 groups j low (omega arith)) first (rw (table .is) at is))
 
 -- At the start nothing is fixed.
-pub leads-start : (fs : List Frame) (k : Frame) (claim : ℕ) → LeadsTo fs k claim 1 free
-leads-start fs k claim = record { prefix = prefix-start; refines = free-refined fs k; first = case-start fs k claim }
+pub leads-start : (faults : Faults) (fs : List Frame) (k : Frame) (claim : ℕ) → LeadsTo faults fs k claim 1 free
+leads-start faults fs k claim = record { prefix = prefix-start; refines = free-refined fs k; first = case-start faults fs k claim }
 
-module _ {fs : List Frame} (accepted : FineTable fs) {k : Frame} (table : InTable fs k) {claim : ℕ} {cs : List Choice} {j : ℕ} (l : LeadsTo fs k claim j cs) (bounds : (1 ≤ j) × (j ≤ 16)) where
+module _ {faults : Faults} {fs : List Frame} (accepted : FineTable fs) {k : Frame} (table : InTable fs k) {claim : ℕ} {cs : List Choice} {j : ℕ} (l : LeadsTo faults fs k claim j cs) (bounds : (1 ≤ j) × (j ≤ 16)) where
   listed : Mem j (range 1 groups)
   listed = mem-range 1 groups j (bounds .0) (omega (arith, bounds .1))
 
-  module _ {a : ℕ} (tries : Tries fs k claim cs j a) where
-    tried : Trying (accepted .valid) (table .inside) claim cs j a
+  module _ {a : ℕ} (tries : Tries faults fs k claim cs j a) where
+    tried : Trying faults (accepted .valid) (table .inside) claim cs j a
     tried = tries (accepted .valid) table
 
     pub tries-inside : a < turn fs k j
@@ -79,7 +80,7 @@ module _ {fs : List Frame} (accepted : FineTable fs) {k : Frame} (table : InTabl
     pub tries-refined : {cs′ : List Choice} → cs′ ≡ set cs (j - 1) (Fixed a) → RefinedBy fs k free cs′
     tries-refined is = rw is (more-refined fs k cs (l .refines) (l .prefix .long) listed tries-listed)
 
-    leads-on : firstAmong fs k claim (completions fs k cs) ≡ firstAmong fs k claim (completions fs k (set cs (j - 1) (Fixed a))) → LeadsTo fs k claim (j + 1) (set cs (j - 1) (Fixed a))
+    leads-on : firstAmong faults fs k claim (completions fs k cs) ≡ firstAmong faults fs k claim (completions fs k (set cs (j - 1) (Fixed a))) → LeadsTo faults fs k claim (j + 1) (set cs (j - 1) (Fixed a))
     leads-on same =
         record {
           prefix = prefix-more (l .prefix) listed a;
@@ -88,23 +89,23 @@ module _ {fs : List Frame} (accepted : FineTable fs) {k : Frame} (table : InTabl
         }
 
     -- It ends where a response exceeds the claim,
-    pub tries-take : claim < fixingMore fs k 16 (set cs (j - 1) (Fixed a)) → LeadsTo fs k claim (j + 1) (set cs (j - 1) (Fixed a))
+    pub tries-take : claim < fixingMore faults fs k 16 (set cs (j - 1) (Fixed a)) → LeadsTo faults fs k claim (j + 1) (set cs (j - 1) (Fixed a))
     tries-take over =
-        leads-on (subst (λ (f : Frame). claim < fixingMore fs f 16 (set cs (j - 1) (Fixed a)) → firstAmong fs f claim (completions fs f cs) ≡ firstAmong fs f claim (completions fs f (set cs (j - 1) (Fixed a))))
-        (sym (table .is)) (λ more. try-take (accepted .valid) (table .inside) claim cs (l .prefix .long) tried more) over)
+        leads-on (subst (λ (f : Frame). claim < fixingMore faults fs f 16 (set cs (j - 1) (Fixed a)) → firstAmong faults fs f claim (completions fs f cs) ≡ firstAmong faults fs f claim (completions fs f (set cs (j - 1) (Fixed a))))
+        (sym (table .is)) (λ more. try-take faults (accepted .valid) (table .inside) claim cs (l .prefix .long) tried more) over)
 
     -- or at the last;
-    pub tries-last : least (isAlignment fs k j) (turn fs k j - (a + 1)) (a + 1) ≡ Nothing → LeadsTo fs k claim (j + 1) (set cs (j - 1) (Fixed a))
+    pub tries-last : least (isAlignment fs k j) (turn fs k j - (a + 1)) (a + 1) ≡ Nothing → LeadsTo faults fs k claim (j + 1) (set cs (j - 1) (Fixed a))
     tries-last none =
-        leads-on (subst (λ (f : Frame). least (isAlignment fs f j) (turn fs f j - (a + 1)) (a + 1) ≡ Nothing → firstAmong fs f claim (completions fs f cs) ≡ firstAmong fs f claim (completions fs f (set cs (j - 1) (Fixed a))))
-        (sym (table .is)) (λ over. try-last (accepted .valid) (table .inside) claim cs (l .prefix .long) tried over) none)
+        leads-on (subst (λ (f : Frame). least (isAlignment fs f j) (turn fs f j - (a + 1)) (a + 1) ≡ Nothing → firstAmong faults fs f claim (completions fs f cs) ≡ firstAmong faults fs f claim (completions fs f (set cs (j - 1) (Fixed a))))
+        (sym (table .is)) (λ over. try-last faults (accepted .valid) (table .inside) claim cs (l .prefix .long) tried over) none)
 
     -- otherwise it goes on to the next.
     module _ {b : ℕ} (found : least (isAlignment fs k j) (turn fs k j - (a + 1)) (a + 1) ≡ At b) where
-      pub tries-next : fixingMore fs k 16 (set cs (j - 1) (Fixed a)) ≤ claim → Tries fs k claim cs j b
+      pub tries-next : fixingMore faults fs k 16 (set cs (j - 1) (Fixed a)) ≤ claim → Tries faults fs k claim cs j b
       tries-next within valid t =
-          try-next valid (t .inside) claim cs (l .prefix .long) (tries valid t)
-          (subst (λ (f : Frame). fixingMore fs f 16 (set cs (j - 1) (Fixed a)) ≤ claim) (t .is) within)
+          try-next faults valid (t .inside) claim cs (l .prefix .long) (tries valid t)
+          (subst (λ (f : Frame). fixingMore faults fs f 16 (set cs (j - 1) (Fixed a)) ≤ claim) (t .is) within)
           (subst (λ (f : Frame). least (isAlignment fs f j) (turn fs f j - (a + 1)) (a + 1) ≡ At b) (t .is) found)
 
       pub tries-less : turn fs k j - b < turn fs k j - a
@@ -129,37 +130,37 @@ unfolding shown
 shown-free = refl
 
 -- The case of a scenario, by its instance and its alignments.
-pub case-by : (fs : List Frame) (k : Frame) (claim : ℕ) (cs : List Choice) → caseBy (exceedingInstance fs k claim cs) (map shown cs) ≡ caseIn fs k claim cs
+pub case-by : (faults : Faults) (fs : List Frame) (k : Frame) (claim : ℕ) (cs : List Choice) → caseBy (exceedingInstance faults fs k claim cs) (map shown cs) ≡ caseIn faults fs k claim cs
 unfolding caseBy
-case-by fs k claim cs = go (exceedingInstance fs k claim cs) refl
+case-by faults fs k claim cs = go (exceedingInstance faults fs k claim cs) refl
   where
-    go : (r : Found) → exceedingInstance fs k claim cs ≡ r → caseBy (exceedingInstance fs k claim cs) (map shown cs) ≡ caseIn fs k claim cs
-    go (At q) e = rw e (sym (in-at fs k claim cs q e))
-    go Nothing e = rw e (sym (in-none fs k claim cs e))
+    go : (r : Found) → exceedingInstance faults fs k claim cs ≡ r → caseBy (exceedingInstance faults fs k claim cs) (map shown cs) ≡ caseIn faults fs k claim cs
+    go (At q) e = rw e (sym (in-at faults fs k claim cs q e))
+    go Nothing e = rw e (sym (in-none faults fs k claim cs e))
 
 -- The groups count from 1.
-pub leads-at : {fs : List Frame} {k : Frame} {claim : ℕ} (cs : List Choice) (i a : ℕ) → LeadsTo fs k claim (i + 1 + 1) (set cs (i + 1 - 1) (Fixed a)) → LeadsTo fs k claim (i + 1 + 1) (set cs i (Fixed a))
-leads-at {fs} {k} {claim} cs i a = let same : i + 1 - 1 ≡ i = omega arith in subst (λ (n : ℕ). LeadsTo fs k claim (i + 1 + 1) (set cs n (Fixed a))) same
+pub leads-at : {faults : Faults} {fs : List Frame} {k : Frame} {claim : ℕ} (cs : List Choice) (i a : ℕ) → LeadsTo faults fs k claim (i + 1 + 1) (set cs (i + 1 - 1) (Fixed a)) → LeadsTo faults fs k claim (i + 1 + 1) (set cs i (Fixed a))
+leads-at {faults} {fs} {k} {claim} cs i a = let same : i + 1 - 1 ≡ i = omega arith in subst (λ (n : ℕ). LeadsTo faults fs k claim (i + 1 + 1) (set cs n (Fixed a))) same
 
 module _ {fs : List Frame} (accepted : FineTable fs) {k : Frame} (table : InTable fs k) where
   self-valid : ValidFrame k
   self-valid = subst ValidFrame (sym (table .is)) (accepted .valid .frame (table .at) (table .inside))
 
   -- Where the own group is fixed, there is a window, if none lacks.
-  pub refined-window : (cs : List Choice) → length cs ≡ groups → RefinedBy fs k free cs → lacksWindow fs k ≡ false → OwnFixed k cs → (w : ℕ) × (busyWindow fs k cs ≡ At w)
-  refined-window cs long refines has (a, own) =
-      subst (λ (f : Frame). lacksWindow fs f ≡ false → RefinedBy fs f free cs → choiceOf cs (f .group) ≡ Fixed a → (w : ℕ) × (busyWindow fs f cs ≡ At w))
-      (sym (table .is)) (λ windows r fixed. more-window (accepted .valid) (table .inside) cs long (has-windows fs (row fs (table .at)) (λ t. subst T windows t)) r fixed) has refines own
+  pub refined-window : (faults : Faults) (cs : List Choice) → length cs ≡ groups → RefinedBy fs k free cs → lacksWindow faults fs k ≡ false → OwnFixed k cs → (w : ℕ) × (busyWindow faults fs k cs ≡ At w)
+  refined-window faults cs long refines has (a, own) =
+      subst (λ (f : Frame). lacksWindow faults fs f ≡ false → RefinedBy fs f free cs → choiceOf cs (f .group) ≡ Fixed a → (w : ℕ) × (busyWindow faults fs f cs ≡ At w))
+      (sym (table .is)) (λ windows r fixed. more-window (accepted .valid) (table .inside) cs long faults (has-windows faults fs (row fs (table .at)) (λ t. subst T windows t)) r fixed) has refines own
 
-  module _ {claim : ℕ} {cs : List Choice} (l : LeadsTo fs k claim 17 cs) where
+  module _ {faults : Faults} {claim : ℕ} {cs : List Choice} (l : LeadsTo faults fs k claim 17 cs) where
     -- All groups are fixed, k's own too,
     pub leads-own : OwnFixed k cs
     leads-own = l .prefix .fixed (k .group) (group-listed self-valid) (omega (arith, self-valid .group-high))
 
-    pub leads-window : lacksWindow fs k ≡ false → {found : Found} {window : ℕ} → found ≡ busyWindow fs k cs → window ≡ orZero found → busyWindow fs k cs ≡ At window
+    pub leads-window : lacksWindow faults fs k ≡ false → {found : Found} {window : ℕ} → found ≡ busyWindow faults fs k cs → window ≡ orZero found → busyWindow faults fs k cs ≡ At window
     unfolding orZero
-    leads-window has {found} {window} is start = let (w, e) = refined-window cs (l .prefix .long) (l .refines) has leads-own in let same : window ≡ w = start ∙ ap orZero (is ∙ e) in e ∙ ap At (sym same)
+    leads-window has {found} {window} is start = let (w, e) = refined-window faults cs (l .prefix .long) (l .refines) has leads-own in let same : window ≡ w = start ∙ ap orZero (is ∙ e) in e ∙ ap At (sym same)
 
     -- and its case is the first.
-    pub leads-case : {instance : Found} {shows : List ℕ} → instance ≡ exceedingInstance fs k claim cs → shows ≡ map shown cs → caseBy instance shows ≡ firstCase fs k claim
-    leads-case is same = rw (is, same) (case-by fs k claim cs ∙ sym (case-last fs k claim cs (l .prefix)) ∙ l .first)
+    pub leads-case : {instance : Found} {shows : List ℕ} → instance ≡ exceedingInstance faults fs k claim cs → shows ≡ map shown cs → caseBy instance shows ≡ firstCase faults fs k claim
+    leads-case is same = rw (is, same) (case-by faults fs k claim cs ∙ sym (case-last faults fs k claim cs (l .prefix)) ∙ l .first)

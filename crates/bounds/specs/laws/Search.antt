@@ -17,6 +17,7 @@ use Rattle.arith.specs.laws.Tests.{same-test, by-test}
 use Rattle.arith.specs.laws.Members.{of-range, exists-mem, of-exists}
 use Rattle.arith.specs.laws.Walks.{Walk, greatest-more, walk-more, walk-end}
 use Rattle.bus_model.specs.declared.Frame.{Frame}
+use Rattle.bus_model.specs.declared.Faults.{Faults}
 use Rattle.bus_model.specs.declared.Choice.{Choice}
 use Rattle.bus_model.specs.declared.Choice.the-variants.{Fixed, Any}
 use Rattle.bus_model.specs.Frame.{row}
@@ -91,12 +92,12 @@ abbrev pub ownAt : Frame → ℕ → List Choice
 ownAt k a = set free (k .group - 1) (Fixed a)
 
 -- whether there is no window then
-abbrev pub isMissing : List Frame → Frame → ℕ → Bool
-isMissing fs k a = isNone (busyWindow fs k (ownAt k a))
+abbrev pub isMissing : Faults → List Frame → Frame → ℕ → Bool
+isMissing faults fs k a = isNone (busyWindow faults fs k (ownAt k a))
 
 -- Of the alignments from a on one lacks a window, if one does at all.
-pub record Missing (fs : List Frame) (k : Frame) (a : ℕ) : Type 0 where
-  pub walk : Walk (exists (isMissing fs k)) _||_ (isAlignment fs k (k .group)) (turn fs k (k .group)) (lacksWindow fs k) false a
+pub record Missing (faults : Faults) (fs : List Frame) (k : Frame) (a : ℕ) : Type 0 where
+  pub walk : Walk (exists (isMissing faults fs k)) _||_ (isAlignment fs k (k .group)) (turn fs k (k .group)) (lacksWindow faults fs k) false a
   pub listed : Mem a (orEmpty (alignments fs k (k .group)))
 
 module _ {fs : List Frame} (valid : Valid fs) {n : ℕ} (inside : n < length fs) where
@@ -107,15 +108,15 @@ module _ {fs : List Frame} (valid : Valid fs) {n : ℕ} (inside : n < length fs)
   self = valid .frame n inside
 
   -- A scenario that is refined has a window no longer.
-  within-refined : {cs cs′ : List Choice} → RefinedBy fs f cs cs′ → {limit : ℕ} → WindowWithin fs f cs limit → WindowWithin fs f cs′ limit
-  within-refined {cs} {cs′} refines w =
-      let (l, is, le) = window-refine valid inside cs cs′ refines (w .window) (w .is) in
+  within-refined : {faults : Faults} {cs cs′ : List Choice} → RefinedBy fs f cs cs′ → {limit : ℕ} → WindowWithin faults fs f cs limit → WindowWithin faults fs f cs′ limit
+  within-refined {faults} {cs} {cs′} refines w =
+      let (l, is, le) = window-refine valid inside faults cs cs′ refines (w .window) (w .is) in
       record { window = l; is = is; within = omega (arith, w .within); small = w .small }
 
   -- The alignments of the first turn tell whether a window lacks.
-  row-lacks : exists (isMissing fs f) (orEmpty (firstTurn fs f (f .group))) ≡ lacksWindow fs f
+  row-lacks : (faults : Faults) → exists (isMissing faults fs f) (orEmpty (firstTurn fs f (f .group))) ≡ lacksWindow faults fs f
   unfolding lacksWindow
-  row-lacks =
+  row-lacks faults =
       same-test _ _
       (λ t.
       let (a, m, u) = of-exists _ (orEmpty (firstTurn fs f (f .group))) t in
@@ -123,25 +124,25 @@ module _ {fs : List Frame} (valid : Valid fs) {n : ℕ} (inside : n < length fs)
       (λ t.
       let (cs, m, u) = of-exists _ (scenarios fs f (ownGroup f)) t in
       let (a, l, e) = own-scenarios fs self .0 m in
-      let same = window-alike fs f (ownAt f (a % turn fs f (f .group))) (ownAt f a) (alike-turn valid inside free refl (f .group) (group-listed self) a) in
-      exists-mem (isMissing fs f) {x = a % turn fs f (f .group)} (turned valid f (f .group) l) (rw same (rw e at u)))
+      let same = window-alike fs f (ownAt f (a % turn fs f (f .group))) (ownAt f a) (alike-turn valid inside free refl (f .group) (group-listed self) a) faults in
+      exists-mem (isMissing faults fs f) {x = a % turn fs f (f .group)} (turned valid f (f .group) l) (rw same (rw e at u)))
 
-  row-free : {l : ℕ} → busyWindow fs f free ≡ At l → lacksWindow fs f ≡ false
+  row-free : (faults : Faults) {l : ℕ} → busyWindow faults fs f free ≡ At l → lacksWindow faults fs f ≡ false
   unfolding lacksWindow isNone
-  row-free {l} is = none (lacksWindow fs f) refl
+  row-free faults {l} is = none (lacksWindow faults fs f) refl
     where
-      none : (b : Bool) → lacksWindow fs f ≡ b → b ≡ false
+      none : (b : Bool) → lacksWindow faults fs f ≡ b → b ≡ false
       none false e = refl
       none true e =
           let (cs, m, u) = of-exists _ (scenarios fs f (ownGroup f)) (subst T (sym e) tt) in
           let (a, l′, same) = own-scenarios fs self .0 m in
-          let w = within-refined {cs = free} {cs′ = cs} (rw same (refines-group fs f free (group-listed self) refl (free-open (f .group) (group-listed self)) l′)) (record { window = l; is = is; within = omega arith; small = window-small fs f free is }) in
+          let w = within-refined {cs = free} {cs′ = cs} (rw same (refines-group fs f free (group-listed self) refl (free-open (f .group) (group-listed self)) l′)) (record { window = l; is = is; within = omega arith; small = window-small faults fs f free is }) in
           absurd (rw (w .is) at u)
 
 -- A window that is found is a limit.
-pub found-limits : (fs : List Frame) (k : Frame) (cs : List Choice) (limit : Found) → limit ≡ busyWindow fs k cs → Limits fs k cs limit
-found-limits fs k cs (At l) is = record { window = l; is = sym is; within = omega arith; small = window-small fs k cs (sym is) }
-found-limits fs k cs Nothing is = tt
+pub found-limits : (faults : Faults) (fs : List Frame) (k : Frame) (cs : List Choice) (limit : Found) → limit ≡ busyWindow faults fs k cs → Limits faults fs k cs limit
+found-limits faults fs k cs (At l) is = record { window = l; is = sym is; within = omega arith; small = window-small faults fs k cs (sym is) }
+found-limits faults fs k cs Nothing is = tt
 
 module _ {fs : List Frame} (accepted : FineTable fs) {k : Frame} (table : InTable fs k) where
   valid-self : ValidFrame k
@@ -151,34 +152,34 @@ module _ {fs : List Frame} (accepted : FineTable fs) {k : Frame} (table : InTabl
   own-group = (valid-self .group-low, valid-self .group-high)
 
   -- Where there is a window with all groups open, none lacks.
-  pub lacks-none : {l : ℕ} → busyWindow fs k free ≡ At l → lacksWindow fs k ≡ false
-  lacks-none = rw (table .is) (row-free (accepted .valid) (table .inside))
+  pub lacks-none : (faults : Faults) {l : ℕ} → busyWindow faults fs k free ≡ At l → lacksWindow faults fs k ≡ false
+  lacks-none faults = rw (table .is) (row-free (accepted .valid) (table .inside) faults)
 
-  lacks-turn : exists (isMissing fs k) (orEmpty (firstTurn fs k (k .group))) ≡ lacksWindow fs k
-  lacks-turn = rw (table .is) (row-lacks (accepted .valid) (table .inside))
+  lacks-turn : (faults : Faults) → exists (isMissing faults fs k) (orEmpty (firstTurn fs k (k .group))) ≡ lacksWindow faults fs k
+  lacks-turn faults = rw (table .is) (row-lacks (accepted .valid) (table .inside) faults)
 
   -- A loop looks at the first,
-  pub missing-first : {a : ℕ} (first : Found) → first ≡ least (isAlignment fs k (k .group)) (turn fs k (k .group) - 0) 0 → a ≡ orZero first → Missing fs k a
-  missing-first first is at =
-      rw at (record { walk = visit-first (exists (isMissing fs k)) _||_ (lacksWindow fs k) (accepted .valid) k (k .group) first is lacks-turn; listed = first-listed (accepted .valid) k (k .group) first is })
+  pub missing-first : {faults : Faults} {a : ℕ} (first : Found) → first ≡ least (isAlignment fs k (k .group)) (turn fs k (k .group) - 0) 0 → a ≡ orZero first → Missing faults fs k a
+  missing-first {faults} first is at =
+      rw at (record { walk = visit-first (exists (isMissing faults fs k)) _||_ (lacksWindow faults fs k) (accepted .valid) k (k .group) first is (lacks-turn faults); listed = first-listed (accepted .valid) k (k .group) first is })
 
-  module _ {a : ℕ} (m : Missing fs k a) where
+  module _ {faults : Faults} {a : ℕ} (m : Missing faults fs k a) where
     -- stops where one lacks,
-    pub missing-here : busyWindow fs k (ownAt k a) ≡ Nothing → true ≡ lacksWindow fs k
+    pub missing-here : busyWindow faults fs k (ownAt k a) ≡ Nothing → true ≡ lacksWindow faults fs k
     unfolding exists isNone
     missing-here none = rw none at (m .walk .is)
 
-    module _ {l : ℕ} (has : busyWindow fs k (ownAt k a) ≡ At l) where
-      goes-by : (xs : List ℕ) → (false || exists (isMissing fs k) (a ∷ xs)) ≡ (false || exists (isMissing fs k) xs)
+    module _ {l : ℕ} (has : busyWindow faults fs k (ownAt k a) ≡ At l) where
+      goes-by : (xs : List ℕ) → (false || exists (isMissing faults fs k) (a ∷ xs)) ≡ (false || exists (isMissing faults fs k) xs)
       unfolding exists isNone
       goes-by xs = rw has
 
       -- goes on,
-      pub missing-more : {b : ℕ} → least (isAlignment fs k (k .group)) (turn fs k (k .group) - (a + 1)) (a + 1) ≡ At b → Missing fs k b
+      pub missing-more : {b : ℕ} → least (isAlignment fs k (k .group)) (turn fs k (k .group) - (a + 1)) (a + 1) ≡ At b → Missing faults fs k b
       missing-more is = record { walk = walk-more _ _ _ _ _ {next = false} (m .walk) goes-by is; listed = found-listed (accepted .valid) k (k .group) (a + 1) is }
 
       -- and ends where none does.
-      pub missing-end : least (isAlignment fs k (k .group)) (turn fs k (k .group) - (a + 1)) (a + 1) ≡ Nothing → false ≡ lacksWindow fs k
+      pub missing-end : least (isAlignment fs k (k .group)) (turn fs k (k .group) - (a + 1)) (a + 1) ≡ Nothing → false ≡ lacksWindow faults fs k
       unfolding exists
       missing-end none = walk-end _ _ _ _ _ {next = false} (m .walk) goes-by none
 
@@ -199,36 +200,36 @@ module _ {fs : List Frame} (accepted : FineTable fs) {k : Frame} (table : InTabl
     open-group is = let (low, high) = of-range 1 groups (next-open valid-self cs long is .0) in (low, omega arith)
 
     -- The greatest over its alignments is that with one group more.
-    pub open-more : (m : ℕ) {j : ℕ} → nextOpen k cs ≡ At j → greatest (λ a. fixingMore fs k m (set cs (j - 1) (Fixed a))) (orEmpty (firstTurn fs k j)) ≡ fixingMore fs k (suc m) cs
-    open-more m {j} is =
-        subst (λ (f : Frame). nextOpen f cs ≡ At j → greatest (λ a. fixingMore fs f m (set cs (j - 1) (Fixed a))) (orEmpty (firstTurn fs f j)) ≡ fixingMore fs f (suc m) cs)
-        (sym (table .is)) (λ e. sym (more-turn (accepted .valid) (table .inside) cs long m e)) is
+    pub open-more : (faults : Faults) (m : ℕ) {j : ℕ} → nextOpen k cs ≡ At j → greatest (λ a. fixingMore faults fs k m (set cs (j - 1) (Fixed a))) (orEmpty (firstTurn fs k j)) ≡ fixingMore faults fs k (suc m) cs
+    open-more faults m {j} is =
+        subst (λ (f : Frame). nextOpen f cs ≡ At j → greatest (λ a. fixingMore faults fs f m (set cs (j - 1) (Fixed a))) (orEmpty (firstTurn fs f j)) ≡ fixingMore faults fs f (suc m) cs)
+        (sym (table .is)) (λ e. sym (more-turn (accepted .valid) (table .inside) cs long faults m e)) is
 
     -- No more are fixed, or none is left.
-    pub open-end : fixingMore fs k 0 cs ≡ scenarioResponse fs k cs
-    open-end = more-end valid-self cs long fs
+    pub open-end : (faults : Faults) → fixingMore faults fs k 0 cs ≡ scenarioResponse faults fs k cs
+    open-end faults = more-end valid-self cs long faults fs
 
-    pub open-none : (m : ℕ) → nextOpen k cs ≡ Nothing → fixingMore fs k m cs ≡ scenarioResponse fs k cs
-    open-none m none = more-none valid-self cs long fs m none
+    pub open-none : (faults : Faults) (m : ℕ) → nextOpen k cs ≡ Nothing → fixingMore faults fs k m cs ≡ scenarioResponse faults fs k cs
+    open-none faults m none = more-none valid-self cs long faults fs m none
 
     -- No scenario further on has a greater response.
-    pub open-pruned : OwnFixed k cs → {best reach : ℕ} → Reaches fs k cs best reach → (m : ℕ) → fixingMore fs k m cs ≤ scenarioResponse fs k cs
-    open-pruned own w m =
-        subst (λ (f : Frame). (a : ℕ) × (choiceOf cs (f .group) ≡ Fixed a) → busyWindow fs f cs ≡ At (w .window) → fixingMore fs f m cs ≤ scenarioResponse fs f cs)
-        (sym (table .is)) (λ fixed is. more-pruned (accepted .valid) (table .inside) cs long fixed (w .window) is m) own (w .is)
+    pub open-pruned : OwnFixed k cs → {faults : Faults} {best reach : ℕ} → Reaches faults fs k cs best reach → (m : ℕ) → fixingMore faults fs k m cs ≤ scenarioResponse faults fs k cs
+    open-pruned own {faults} w m =
+        subst (λ (f : Frame). (a : ℕ) × (choiceOf cs (f .group) ≡ Fixed a) → busyWindow faults fs f cs ≡ At (w .window) → fixingMore faults fs f m cs ≤ scenarioResponse faults fs f cs)
+        (sym (table .is)) (λ fixed is. more-pruned (accepted .valid) (table .inside) cs long fixed faults (w .window) is m) own (w .is)
 
     -- With an alignment of an open group the scenario is refined.
     finer : {j : ℕ} → Mem j (range 1 groups) → choiceOf cs j ≡ Any → {a : ℕ} → Mem a (orEmpty (alignments fs k j)) → RefinedBy fs k cs (set cs (j - 1) (Fixed a))
     finer listed any m = refines-group fs k cs listed long any m
 
-    window-shorter : (cs′ : List Choice) → RefinedBy fs k cs cs′ → (l : ℕ) → busyWindow fs k cs ≡ At l → (l′ : ℕ) × (busyWindow fs k cs′ ≡ At l′) × (l′ ≤ l)
-    window-shorter cs′ refines l is =
-        subst (λ (f : Frame). RefinedBy fs f cs cs′ → busyWindow fs f cs ≡ At l → (l′ : ℕ) × (busyWindow fs f cs′ ≡ At l′) × (l′ ≤ l))
-        (sym (table .is)) (λ r e. window-refine (accepted .valid) (table .inside) cs cs′ r l e) refines is
+    window-shorter : (faults : Faults) (cs′ : List Choice) → RefinedBy fs k cs cs′ → (l : ℕ) → busyWindow faults fs k cs ≡ At l → (l′ : ℕ) × (busyWindow faults fs k cs′ ≡ At l′) × (l′ ≤ l)
+    window-shorter faults cs′ refines l is =
+        subst (λ (f : Frame). RefinedBy fs f cs cs′ → busyWindow faults fs f cs ≡ At l → (l′ : ℕ) × (busyWindow faults fs f cs′ ≡ At l′) × (l′ ≤ l))
+        (sym (table .is)) (λ r e. window-refine (accepted .valid) (table .inside) faults cs cs′ r l e) refines is
 
-    window-finer : {cs′ : List Choice} → RefinedBy fs k cs cs′ → {limit : ℕ} → WindowWithin fs k cs limit → WindowWithin fs k cs′ limit
-    window-finer {cs′} refines {limit} =
-        subst (λ (f : Frame). RefinedBy fs f cs cs′ → WindowWithin fs f cs limit → WindowWithin fs f cs′ limit) (sym (table .is)) (λ r w. within-refined (accepted .valid) (table .inside) r w) refines
+    window-finer : {faults : Faults} {cs′ : List Choice} → RefinedBy fs k cs cs′ → {limit : ℕ} → WindowWithin faults fs k cs limit → WindowWithin faults fs k cs′ limit
+    window-finer {faults} {cs′} refines {limit} =
+        subst (λ (f : Frame). RefinedBy fs f cs cs′ → WindowWithin faults fs f cs limit → WindowWithin faults fs f cs′ limit) (sym (table .is)) (λ r w. within-refined (accepted .valid) (table .inside) r w) refines
 
     -- What a search knows it still knows there.
     module _ {j : ℕ} (next : nextOpen k cs ≡ At j) {a : ℕ} (m : Mem a (orEmpty (alignments fs k j))) {cs′ : List Choice} (is : cs′ ≡ set cs (j - 1) (Fixed a)) (own : OwnFixed k cs) where
@@ -241,9 +242,9 @@ module _ {fs : List Frame} (accepted : FineTable fs) {k : Frame} (table : InTabl
       pub next-own : OwnFixed k cs′
       next-own = (own .0, next-is)
 
-      pub next-reach : {best reach : ℕ} → Reaches fs k cs best reach → Reaches fs k cs′ best reach
-      next-reach r =
-          let (l, window, shorter) = window-shorter cs′ refines (r .window) (r .is) in
+      pub next-reach : {faults : Faults} {best reach : ℕ} → Reaches faults fs k cs best reach → Reaches faults fs k cs′ best reach
+      next-reach {faults} r =
+          let (l, window, shorter) = window-shorter faults cs′ refines (r .window) (r .is) in
           reach-finer (accepted .valid) (valid-self .period) refines (own-distance fs k cs′ (own .0) next-is ∙ sym (own-distance fs k cs (own .0) (own .1))) r window shorter
 
     -- ---- k's own group is the next
@@ -264,28 +265,28 @@ module _ {fs : List Frame} (accepted : FineTable fs) {k : Frame} (table : InTabl
         own-set = (a, own-is)
 
         -- A limit is one there,
-        pub own-limits : (limit : Found) → Limits fs k cs limit → Limits fs k cs′ limit
-        own-limits (At l) w = window-finer own-refines w
-        own-limits Nothing w = tt
+        pub own-limits : (faults : Faults) (limit : Found) → Limits faults fs k cs limit → Limits faults fs k cs′ limit
+        own-limits faults (At l) w = window-finer own-refines w
+        own-limits faults Nothing w = tt
 
         -- and there is a window, if none lacks.
-        pub own-window : lacksWindow fs k ≡ false → (l : ℕ) × (busyWindow fs k cs′ ≡ At l)
-        own-window has =
+        pub own-window : (faults : Faults) → lacksWindow faults fs k ≡ false → (l : ℕ) × (busyWindow faults fs k cs′ ≡ At l)
+        own-window faults has =
             let long′ : length cs′ ≡ groups = rw is (length-set cs (k .group - 1) (Fixed a) ∙ long) in
             let free′ : RefinedBy fs k free cs′ = rw is (more-refined fs k cs (start .refines) long (group-listed valid-self) m) in
-            subst (λ (f : Frame). lacksWindow fs f ≡ false → RefinedBy fs f free cs′ → choiceOf cs′ (f .group) ≡ Fixed a → (l : ℕ) × (busyWindow fs f cs′ ≡ At l))
-            (sym (table .is)) (λ windows refines own. more-window (accepted .valid) (table .inside) cs′ long′ (has-windows fs (row fs (table .at)) (λ t. subst T windows t)) refines own) has free′ own-is
+            subst (λ (f : Frame). lacksWindow faults fs f ≡ false → RefinedBy fs f free cs′ → choiceOf cs′ (f .group) ≡ Fixed a → (l : ℕ) × (busyWindow faults fs f cs′ ≡ At l))
+            (sym (table .is)) (λ windows refines own. more-window (accepted .valid) (table .inside) cs′ long′ faults (has-windows faults fs (row fs (table .at)) (λ t. subst T windows t)) refines own) has free′ own-is
 
   -- All groups are open at first.
   pub free-start : OwnOpen fs k free
   free-start = record { refines = free-refined fs k; any = free-open (k .group) (group-listed valid-self) }
 
   -- With one group fixed the approximate bound is found, with more that of a level, and with all the precise one.
-  pub one-fixed : {r : ℕ} → r ≡ max 0 (fixingMore fs k 1 free) → r ≡ approximateBound fs k
-  one-fixed e = omega (arith, approximate-more fs valid-self)
+  pub one-fixed : (faults : Faults) {r : ℕ} → r ≡ max 0 (fixingMore faults fs k 1 free) → r ≡ approximateBound faults fs k
+  one-fixed faults e = omega (arith, approximate-more fs valid-self faults)
 
-  pub level-fixed : (m : ℕ) {r : ℕ} → r ≡ max 0 (fixingMore fs k (m + 1) free) → r ≡ levelBound fs k m
-  level-fixed m e = omega (arith, ap (λ (n : ℕ). fixingMore fs k n free) (add-one m), level-found fs valid-self m)
+  pub level-fixed : (faults : Faults) (m : ℕ) {r : ℕ} → r ≡ max 0 (fixingMore faults fs k (m + 1) free) → r ≡ levelBound faults fs k m
+  level-fixed faults m e = omega (arith, ap (λ (n : ℕ). fixingMore faults fs k n free) (add-one m), level-found fs valid-self faults m)
 
-  pub all-fixed : {r : ℕ} → r ≡ max 0 (fixingMore fs k 16 free) → r ≡ preciseBound fs k
-  all-fixed e = omega (arith, precise-more fs valid-self)
+  pub all-fixed : (faults : Faults) {r : ℕ} → r ≡ max 0 (fixingMore faults fs k 16 free) → r ≡ preciseBound faults fs k
+  all-fixed faults e = omega (arith, precise-more fs valid-self faults)

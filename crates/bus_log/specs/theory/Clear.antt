@@ -50,6 +50,7 @@ module _ (fs : List Frame) (starts sent : ℕ → ℕ) (free : ℕ) (e : Entry) 
     best = λ i (inside, waits). clear i inside .best waits;
     positive = s .positive;
     fits = s .fits;
+    hit = λ f is. absurd (let z : _≡_ {A = ℕ} 0 1 = cc in omega arith);
   }
 
   -- Its parts, from what it asks.

@@ -15,7 +15,10 @@ use Rattle.arith.specs.laws.Tests.{and-both}
 use Rattle.arith.specs.laws.Least.{least-at, least-finds}
 use Rattle.bus_model.specs.Frame.{row}
 use Rattle.bus_model.specs.Release.{release}
-use Rattle.bus_model.specs.Bus.{Transmission, oneMore, Waiting, Idle, Next, Runs, Schedule}
+use Rattle.bus_model.specs.Bus.{Transmission, oneMore, Waiting, Idle, Next}
+use Rattle.bus_model.specs.theory.Uncut.{PlainRuns, never-plain}
+use Rattle.arith.specs.declared.Found.{Found}
+use Rattle.arith.specs.declared.Found.the-variants.{Nothing}
 use Rattle.bus_model.specs.declared.Frame.{Frame}
 use Rattle.table_checks.specs.Columns.{field, columns, identifierColumn, kindColumn}
 use Rattle.bus_log.specs.declared.Line.{Line}
@@ -62,23 +65,23 @@ module _ (fs : List Frame) (t : List ℕ) (names : Names fs t) where
     -- ---- from a schedule to entries
 
     -- the transmission that a line shows is its entry's
-    shown : (sent : ℕ → ℕ) (free : ℕ) (l : Line) (x : Transmission) → Shows fs t starts l x → Next fs starts sent free x → x ≡ sending sent (entryOf t l)
+    shown : (sent : ℕ → ℕ) (free : ℕ) (l : Line) (x : Transmission) → Shows fs t starts l x → Next fs starts sent free x → x .fault ≡ Nothing → x ≡ sending sent (entryOf t l)
     unfolding entryOf Waiting
-    shown sent free l x s next =
+    shown sent free l x s next whole =
         let a : x .frame ≡ rowOf t l = named-row l (x .frame) (next .waiting .0) (s .identifier) (s .kind) in
-        fields (x .frame) (x .instance) (x .start) (x .length) a (next .oldest ∙ ap sent a) (s .start) (s .length)
+        fields (x .frame) (x .instance) (x .start) (x .length) (x .fault) a (next .oldest ∙ ap sent a) (s .start) (s .length) whole
       where
-        fields : (f n u c : ℕ) {f′ n′ u′ c′ : ℕ} → f ≡ f′ → n ≡ n′ → u ≡ u′ → c ≡ c′
-            → _≡_ {A = Transmission} (record { frame = f; instance = n; start = u; length = c }) (record { frame = f′; instance = n′; start = u′; length = c′ })
-        fields f n u c a b d e = cc
+        fields : (f n u c : ℕ) (r : Found) {f′ n′ u′ c′ : ℕ} → f ≡ f′ → n ≡ n′ → u ≡ u′ → c ≡ c′ → r ≡ Nothing
+            → _≡_ {A = Transmission} (record { frame = f; instance = n; start = u; length = c; fault = r }) (record { frame = f′; instance = n′; start = u′; length = c′; fault = Nothing })
+        fields f n u c r a b d e g = cc
 
-    to-entries : (T : ℕ) (sent : ℕ → ℕ) (free : ℕ) (log : List Line) (xs : List Transmission) → ShowsAll fs t starts log xs → Runs fs starts T sent free xs
+    to-entries : (T : ℕ) (sent : ℕ → ℕ) (free : ℕ) (log : List Line) (xs : List Transmission) → ShowsAll fs t starts log xs → PlainRuns fs starts T sent free xs
         → Follows fs starts sent free (entriesOf t log)
-    unfolding ShowsAll Runs Follows entryOf
+    unfolding ShowsAll PlainRuns Follows entryOf
     to-entries T sent free [] xs all runs = tt
     to-entries T sent free (l ∷ ls) [] all runs = absurd all
-    to-entries T sent free (l ∷ ls) (x ∷ xs) (shows, all) (next, before, runs) =
-        let same : x ≡ sending sent (entryOf t l) = shown sent free l x shows next in
+    to-entries T sent free (l ∷ ls) (x ∷ xs) (shows, all) (next, whole, before, runs) =
+        let same : x ≡ sending sent (entryOf t l) = shown sent free l x shows next whole in
         let queueing : release starts (row fs (rowOf t l)) (sent (rowOf t l)) ≡ l .release = subst (λ (y : Transmission). release starts (row fs (y .frame)) (y .instance) ≡ l .release) same (shows .queueing) in (
           (subst (Next fs starts sent free) same next, queueing),
           subst (λ (y : Transmission). Follows fs starts (oneMore sent (y .frame)) (y .start + y .length) (entriesOf t ls)) same
@@ -99,21 +102,24 @@ module _ (fs : List Frame) (t : List ℕ) (names : Names fs t) where
     end-after sent free (l ∷ ls) (sends, h) = omega (arith, end-after _ (l .start + l .length) ls h, sends .0 .after)
 
     from-entries : (sent : ℕ → ℕ) (free : ℕ) (log : List Line) → Follows fs starts sent free (entriesOf t log)
-        → ShowsAll fs t starts log (sendings sent (entriesOf t log)) × Runs fs starts (endFrom free log) sent free (sendings sent (entriesOf t log))
-    unfolding Follows endFrom entryOf sendings ShowsAll Runs Idle Waiting
+        → ShowsAll fs t starts log (sendings sent (entriesOf t log)) × PlainRuns fs starts (endFrom free log) sent free (sendings sent (entriesOf t log))
+    unfolding Follows endFrom entryOf sendings ShowsAll PlainRuns Idle Waiting
     from-entries sent free [] h = (tt, λ u i from to waits. omega arith)
     from-entries sent free (l ∷ ls) (sends, h) =
         let (all, runs) = from-entries (oneMore sent (rowOf t l)) (l .start + l .length) ls h in
         let (a, b) = row-named l (sends .0 .waiting .0) in (
           (record { identifier = a; kind = b; queueing = sends .1; start = refl; length = refl }, all),
-          (sends .0, omega (arith, end-after _ (l .start + l .length) ls h, sends .0 .positive), runs),
+          (sends .0, refl, omega (arith, end-after _ (l .start + l .length) ls h, sends .0 .positive), runs),
         )
 
 -- With these starts a log is a beginning just where its entries follow the bus rule.
 pub beginning-entries : (fs : List Frame) (t : List ℕ) → Names fs t → (starts : ℕ → ℕ) (log : List Line)
     → IsBeginning fs t starts log ↔ Follows fs starts (λ i. 0) 0 (entriesOf t log)
-unfolding IsBeginning Schedule
+unfolding IsBeginning
 beginning-entries fs t names starts log = (
-  λ (xs, all, runs). to-entries fs t names starts (lastEnd log) (λ i. 0) 0 log xs all runs,
-  λ h. let (all, runs) = from-entries fs t names starts (λ i. 0) 0 log h in (sendings fs t names starts (λ i. 0) (entriesOf t log), all, runs),
+  λ (xs, all, schedule). to-entries fs t names starts (lastEnd log) (λ i. 0) 0 log xs all (never-plain fs starts (lastEnd log) xs .0 schedule),
+  λ h.
+      let (all, runs) = from-entries fs t names starts (λ i. 0) 0 log h in
+      let xs = sendings fs t names starts (λ i. 0) (entriesOf t log) in
+      (xs, all, never-plain fs starts (lastEnd log) xs .1 runs),
 )

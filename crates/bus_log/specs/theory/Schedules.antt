@@ -6,11 +6,13 @@ use native.Mathlib.Omega.{arith}
 use lib.ListN.{length}
 use Rattle.bus_model.specs.Frame.{row}
 use Rattle.bus_model.specs.Release.{release}
-use Rattle.bus_model.specs.Bus.{Transmission, oneMore, Idle, Runs, Schedule}
+use Rattle.bus_model.specs.Bus.{Transmission, oneMore, Idle, Schedule}
+use Rattle.bus_model.specs.theory.Uncut.{PlainRuns, never-plain}
 use Rattle.bus_model.specs.declared.Frame.{Frame}
+use Rattle.bus_model.specs.declared.Faults.the-variants.{Never}
 use Rattle.table_checks.specs.Columns.{field, identifierColumn, kindColumn}
 use Rattle.bus_log.specs.declared.Line.{Line}
-use Rattle.bus_log.specs.Log.{ShowsAll, endFrom, IsBeginning, AcceptedLog}
+use Rattle.bus_log.specs.Log.{ShowsAll, endFrom, lastEnd, IsBeginning, AcceptedLog}
 
 -- the line that shows a transmission
 unfoldable pub lineOf : List Frame → List ℕ → (ℕ → ℕ) → Transmission → Line
@@ -33,25 +35,27 @@ module _ (fs : List Frame) (t : List ℕ) (starts : ℕ → ℕ) where
   all-shown (x ∷ xs) = (record { identifier = refl; kind = refl; queueing = refl; start = refl; length = refl }, all-shown xs)
 
   -- the last end is not before
-  end-later : (T : ℕ) (sent : ℕ → ℕ) (free : ℕ) (xs : List Transmission) → Runs fs starts T sent free xs → free ≤ endFrom free (logOf xs)
-  unfolding Runs endFrom lineOf
+  end-later : (T : ℕ) (sent : ℕ → ℕ) (free : ℕ) (xs : List Transmission) → PlainRuns fs starts T sent free xs → free ≤ endFrom free (logOf xs)
+  unfolding PlainRuns endFrom lineOf
   end-later T sent free [] runs = omega arith
-  end-later T sent free (x ∷ xs) (next, before, runs) =
+  end-later T sent free (x ∷ xs) (next, whole, before, runs) =
       omega (arith, end-later T (oneMore sent (x .frame)) (x .start + x .length) xs runs, next .after)
 
   -- A schedule's list is also that of the schedule up to its last end.
-  cut : (T : ℕ) (sent : ℕ → ℕ) (free : ℕ) (xs : List Transmission) → Runs fs starts T sent free xs → Runs fs starts (endFrom free (logOf xs)) sent free xs
-  unfolding Runs Idle endFrom lineOf
+  cut : (T : ℕ) (sent : ℕ → ℕ) (free : ℕ) (xs : List Transmission) → PlainRuns fs starts T sent free xs → PlainRuns fs starts (endFrom free (logOf xs)) sent free xs
+  unfolding PlainRuns Idle endFrom lineOf
   cut T sent free [] runs = λ u i from to waits. omega arith
-  cut T sent free (x ∷ xs) (next, before, runs) =
+  cut T sent free (x ∷ xs) (next, whole, before, runs) =
       let later = end-later T (oneMore sent (x .frame)) (x .start + x .length) xs runs in
-      (next, omega (arith, next .positive), cut T (oneMore sent (x .frame)) (x .start + x .length) xs runs)
+      (next, whole, omega (arith, next .positive), cut T (oneMore sent (x .frame)) (x .start + x .length) xs runs)
 
   -- The log of a schedule is accepted.
-  pub schedule-beginning : (T : ℕ) (xs : List Transmission) → Schedule fs starts T xs → IsBeginning fs t starts (logOf xs)
-  unfolding Schedule IsBeginning
-  schedule-beginning T xs s = (xs, all-shown xs, cut T (λ i. 0) 0 xs s)
+  pub schedule-beginning : (T : ℕ) (xs : List Transmission) → Schedule Never fs starts T xs → IsBeginning fs t starts (logOf xs)
+  unfolding IsBeginning
+  schedule-beginning T xs s =
+      let plain = cut T (λ i. 0) 0 xs (never-plain fs starts T xs .0 s) in
+      (xs, all-shown xs, never-plain fs starts (lastEnd (logOf xs)) xs .1 plain)
 
-  pub schedule-accepted : (T : ℕ) (xs : List Transmission) → Schedule fs starts T xs → AcceptedLog fs t (logOf xs)
+  pub schedule-accepted : (T : ℕ) (xs : List Transmission) → Schedule Never fs starts T xs → AcceptedLog fs t (logOf xs)
   unfolding AcceptedLog
   schedule-accepted T xs s = (starts, schedule-beginning T xs s)

@@ -7,6 +7,7 @@ use Rattle.bus_model.specs.Levels.{levelBound, levelCount}
 use Rattle.bus_model.specs.Judgement.{deepestLevel}
 use Rattle.bus_model.specs.examples.Compute.{everything}
 use Rattle.bus_model.specs.declared.Frame.{Frame}
+use Rattle.bus_model.specs.declared.Faults.the-variants.{Never}
 
 -- three groups, the frame in question in the second; were its third group fixed before the first, level 1 would have 38
 abbrev five : List Frame
@@ -19,7 +20,7 @@ five =
 
 -- the bounds of a frame at levels 0, 1, 2 and the last
 abbrev pub Bounded : List Frame → Frame → ℕ → ℕ → ℕ → ℕ → Type 0
-Bounded fs k a b c d = (levelBound fs k 0 ≡ a) × (levelBound fs k 1 ≡ b) × (levelBound fs k 2 ≡ c) × (levelBound fs k 15 ≡ d)
+Bounded fs k a b c d = (levelBound Never fs k 0 ≡ a) × (levelBound Never fs k 1 ≡ b) × (levelBound Never fs k 2 ≡ c) × (levelBound Never fs k 15 ≡ d)
 
 pub levels-fall : Bounded five (row five 4) 50 42 30 30
 unfolding everything

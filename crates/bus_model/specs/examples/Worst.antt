@@ -9,6 +9,7 @@ use Rattle.bus_model.specs.Worst.{lastRow, worstStarts, worstInstance}
 use Rattle.bus_model.specs.examples.Compute.{everything}
 use Rattle.bus_model.specs.examples.Errors.{listing, three}
 use Rattle.bus_model.specs.declared.Frame.{Frame}
+use Rattle.bus_model.specs.declared.Faults.the-variants.{Never}
 
 -- two groups: the last frame waits longest for the second frame of group 1, which comes 30 ticks after the group's start
 abbrev apart : List Frame
@@ -26,7 +27,7 @@ second =
 -- row k ranks last; the starts of the first groups, those of the others all being `rest`, the instance, and the bound
 abbrev pub WorstCase : List Frame → ℕ → List ℕ → ℕ → ℕ → ℕ → ℕ → Type 0
 WorstCase fs k starts others rest n bound =
-    (lastRow fs ≡ k) × (worstStarts fs (row fs k) ≡ starts ++ replicate others rest) × (worstInstance fs (row fs k) ≡ n) × (preciseBound fs (row fs k) ≡ bound)
+    (lastRow fs ≡ k) × (worstStarts fs (row fs k) ≡ starts ++ replicate others rest) × (worstInstance fs (row fs k) ≡ n) × (preciseBound Never fs (row fs k) ≡ bound)
 
 -- document 01's frame 64; a second instance of the window; starts that differ; a second instance of the frame, the first from the meeting tick on
 pub worst-cases : WorstCase listing 3 [] 16 0 0 200 × WorstCase three 2 [] 16 0 1 35 × WorstCase apart 1 (0 ∷ 20 ∷ []) 14 30 0 25 × WorstCase second 1 (0 ∷ []) 15 30 1 15

@@ -1,5 +1,5 @@
 -- Frames that differ in what the bounds do not read have the same bounds and judgements, and where they are released together the
--- same schedules. The bounds read priorities by their order alone, and offsets modulo the period.
+-- same schedules, under any premise about faults. The bounds read priorities by their order alone, and offsets modulo the period.
 use Prim.Native.Nat.{ℕ, suc, _+_, _-_, _*_, _≤_, _<_}
 use mathlib.Core.Path.{_≡_, refl, sym, ap, _∙_, fun-ext}
 use mathlib.Core.List.{List, [], _∷_, map, List·Memᴰ as Mem}
@@ -17,14 +17,16 @@ use Rattle.arith.specs.laws.Members.{mem-getD, getD-within}
 use Rattle.arith.specs.laws.Maps.{sum-map, greatest-map, lcmOf-map, exists-map, keep-map}
 use Rattle.bus_model.specs.Frame.{noFrame, row}
 use Rattle.bus_model.specs.Release.{release}
-use Rattle.bus_model.specs.Bus.{Transmission, Waiting, Idle, Next, Runs, Schedule, MeetsClaim}
+use Rattle.bus_model.specs.Bus.{Transmission, Waiting, Idle, Next, signalling, Runs, Schedule, MeetsClaim}
 use Rattle.bus_model.specs.Valid.{ValidFrame, Valid}
 use Rattle.bus_model.specs.Pattern.{ofGroup, hyperperiod}
-use Rattle.bus_model.specs.Bounds.{groups, windowLimit, isAhead, isBetter, isBelow, ahead, better, below, blocking, phase, isReleasedAt, alignments, distance, choiceOf, orEmpty, choices, scenarios, ownGroup, demand, workAt, groupWork, work, windowLoad, busyWindow, delayLoad, queueingDelay, ownDistance, instanceResponse, responseTime, scenarioResponse, boundOf, scenarioCount}
+use Rattle.bus_model.specs.Bounds.{groups, windowLimit, isAhead, isBetter, isBelow, ahead, better, below, blocking, faultTime, faultLoad, phase, isReleasedAt, alignments, distance, choiceOf, orEmpty, choices, scenarios, ownGroup, demand, workAt, groupWork, work, windowLoad, busyWindow, delayLoad, queueingDelay, ownDistance, instanceResponse, responseTime, scenarioResponse, boundOf, scenarioCount}
 use Rattle.bus_model.specs.Levels.{fixingOrder, fixedAt, fixes, levelBound, levelCount}
 use Rattle.bus_model.specs.Judgement.{scenarioLimit, lacksWindow, tooManyScenarios, deepestLevel, preciseOutcome, crowdedOutcome, refinedOutcome, windowedOutcome, outcomeOf, judge}
 use Rattle.arith.specs.declared.Found.the-variants.{At, Nothing}
 use Rattle.bus_model.specs.declared.Frame.{Frame}
+use Rattle.bus_model.specs.declared.Faults.{Faults}
+use Rattle.bus_model.specs.declared.Faults.the-variants.{Never, Apart}
 use Rattle.bus_model.specs.declared.Choice.{Choice}
 use Rattle.bus_model.specs.declared.Choice.the-variants.{Fixed, Any}
 
@@ -109,37 +111,22 @@ module _ (r o : Frame → ℕ) (phased : (g : Frame) → phase (recast r o g) �
   unfolding work
   work-alike gs cs n = ap (λ (f : ℕ → ℕ). sum f (range 1 groups)) (fun-ext (λ j. rw (alignments-alike, group-recast r o gs j) (group-work-alike (ofGroup gs j) (alignments fs k j) (choiceOf cs j) n)))
 
-  -- ---- windows, delays and responses
+  -- ---- faults
 
-  window-load-alike : windowLoad (map h fs) (h k) ≡ windowLoad fs k
-  unfolding windowLoad
-  window-load-alike = fun-ext (λ cs. fun-ext (λ l. rw (blocking-alike, ahead-alike, work-alike (ahead fs k) cs l)))
+  fault-time-alike : faultTime (map h fs) (h k) ≡ faultTime fs k
+  unfolding faultTime
+  fault-time-alike = ap (λ (n : ℕ). signalling + n) (ap (greatest (λ g. g .length)) ahead-alike ∙ greatest-map h (λ g. g .length) (ahead fs k))
 
-  delay-load-alike : delayLoad (map h fs) (h k) ≡ delayLoad fs k
-  unfolding delayLoad
-  delay-load-alike = fun-ext (λ cs. fun-ext (λ q. fun-ext (λ w. rw (blocking-alike, better-alike, work-alike (better fs k) cs (suc w)))))
+  fault-load-alike : (faults : Faults) → faultLoad faults (map h fs) (h k) ≡ faultLoad faults fs k
+  unfolding faultLoad
+  fault-load-alike Never = refl
+  fault-load-alike (Apart g) = λ i n. releasesBefore 0 g n * fault-time-alike i
+
+  -- ---- scenarios
 
   own-distance-alike : ownDistance (h k) ≡ ownDistance k
   unfolding ownDistance
   own-distance-alike = fun-ext (λ cs. ap (λ (d : ℕ → ℕ). elim (choiceOf cs (k .group)) as (λ _. ℕ) [ Fixed a ↦ d a | Any ↦ 0 ]) (distance-alike k))
-
-  pub window-alike : busyWindow (map h fs) (h k) ≡ busyWindow fs k
-  unfolding busyWindow
-  window-alike = λ i cs. least (λ l. leb (window-load-alike i cs l) l) windowLimit 1
-
-  delay-alike : queueingDelay (map h fs) (h k) ≡ queueingDelay fs k
-  unfolding queueingDelay
-  delay-alike = λ i cs q. least (λ w. leb (delay-load-alike i cs q w) w) windowLimit 0
-
-  pub response-alike : scenarioResponse (map h fs) (h k) ≡ scenarioResponse fs k
-  unfolding scenarioResponse responseTime instanceResponse
-  response-alike = λ i cs.
-      elim (window-alike i cs) as (λ _. ℕ) [
-        | At l ↦ greatest (λ q. orZero (delay-alike i cs q) + k .length - (own-distance-alike i cs + q * k .period)) (range 0 (releasesBefore (own-distance-alike i cs) (k .period) l))
-        | Nothing ↦ 0
-      ]
-
-  -- ---- the bounds and the judgement
 
   choices-alike : choices (map h fs) (h k) ≡ choices fs k
   unfolding choices
@@ -153,34 +140,64 @@ module _ (r o : Frame → ℕ) (phased : (g : Frame) → phase (recast r o g) �
   unfolding scenarios
   scenarios-alike = λ i fixes. combinations (map (λ j. choices-alike i (fixes j) j) (range 1 groups))
 
-  -- Every bound is the same.
-  pub bound-alike : boundOf (map h fs) (h k) ≡ boundOf fs k
-  unfolding boundOf
-  bound-alike = λ i fixes. greatest (response-alike i) (scenarios-alike i fixes)
-
   -- The scenario count is the same.
   pub count-alike : scenarioCount (map h fs) (h k) ≡ scenarioCount fs k
   unfolding scenarioCount
   count-alike = λ i. product (λ j. length (orEmpty (alignments-alike i j))) (range 1 groups)
 
-  -- So is the lack of a window.
-  pub lacks-alike : lacksWindow (map h fs) (h k) ≡ lacksWindow fs k
-  unfolding lacksWindow
-  lacks-alike = λ i. exists (λ cs. isNone (window-alike i cs)) (scenarios-alike i (ownGroup k))
-
-  -- So are the levels' bounds, and the deepest that is looked at.
-  level-alike : levelBound (map h fs) (h k) ≡ levelBound fs k
-  unfolding levelBound fixedAt fixingOrder
-  level-alike = λ i m. bound-alike i (fixes k m)
-
+  -- So is the deepest level that is looked at.
   deepest-alike : deepestLevel (map h fs) (h k) ≡ deepestLevel fs k
   unfolding deepestLevel levelCount fixedAt fixingOrder
   deepest-alike = λ i. greatest (λ m. m) (keep (λ m. leb (product (λ j. length (orEmpty (alignments-alike i j))) (fixedAt k m)) scenarioLimit) (range 0 groups))
 
-  -- So the judgement is the same.
-  pub judge-alike : judge (map h fs) (h k) ≡ judge fs k
-  unfolding judge outcomeOf windowedOutcome refinedOutcome crowdedOutcome preciseOutcome tooManyScenarios
-  judge-alike = fun-ext (λ claim. rw (lacks-alike, bound-alike, count-alike, level-alike, deepest-alike))
+  -- ---- windows, delays and responses, under a premise about faults
+
+  module _ (faults : Faults) where
+    window-load-alike : windowLoad faults (map h fs) (h k) ≡ windowLoad faults fs k
+    unfolding windowLoad
+    window-load-alike = fun-ext (λ cs. fun-ext (λ l. rw (blocking-alike, ahead-alike, work-alike (ahead fs k) cs l, fault-load-alike faults)))
+
+    delay-load-alike : delayLoad faults (map h fs) (h k) ≡ delayLoad faults fs k
+    unfolding delayLoad
+    delay-load-alike = fun-ext (λ cs. fun-ext (λ q. fun-ext (λ w. rw (blocking-alike, better-alike, work-alike (better fs k) cs (suc w), fault-load-alike faults))))
+
+    pub window-alike : busyWindow faults (map h fs) (h k) ≡ busyWindow faults fs k
+    unfolding busyWindow
+    window-alike = λ i cs. least (λ l. leb (window-load-alike i cs l) l) windowLimit 1
+
+    delay-alike : queueingDelay faults (map h fs) (h k) ≡ queueingDelay faults fs k
+    unfolding queueingDelay
+    delay-alike = λ i cs q. least (λ w. leb (delay-load-alike i cs q w) w) windowLimit 0
+
+    pub response-alike : scenarioResponse faults (map h fs) (h k) ≡ scenarioResponse faults fs k
+    unfolding scenarioResponse responseTime instanceResponse
+    response-alike = λ i cs.
+        elim (window-alike i cs) as (λ _. ℕ) [
+          | At l ↦ greatest (λ q. orZero (delay-alike i cs q) + k .length - (own-distance-alike i cs + q * k .period)) (range 0 (releasesBefore (own-distance-alike i cs) (k .period) l))
+          | Nothing ↦ 0
+        ]
+
+    -- ---- the bounds and the judgement
+
+    -- Every bound is the same.
+    pub bound-alike : boundOf faults (map h fs) (h k) ≡ boundOf faults fs k
+    unfolding boundOf
+    bound-alike = λ i fixes. greatest (response-alike i) (scenarios-alike i fixes)
+
+    -- So is the lack of a window.
+    pub lacks-alike : lacksWindow faults (map h fs) (h k) ≡ lacksWindow faults fs k
+    unfolding lacksWindow
+    lacks-alike = λ i. exists (λ cs. isNone (window-alike i cs)) (scenarios-alike i (ownGroup k))
+
+    -- So is every level's bound.
+    level-alike : levelBound faults (map h fs) (h k) ≡ levelBound faults fs k
+    unfolding levelBound fixedAt fixingOrder
+    level-alike = λ i m. bound-alike i (fixes k m)
+
+    -- So the judgement is the same.
+    pub judge-alike : judge faults (map h fs) (h k) ≡ judge faults fs k
+    unfolding judge outcomeOf windowedOutcome refinedOutcome crowdedOutcome preciseOutcome tooManyScenarios
+    judge-alike = fun-ext (λ claim. rw (lacks-alike, bound-alike, count-alike, level-alike, deepest-alike))
 
 -- ---- schedules
 
@@ -212,6 +229,7 @@ module _ {fs gs : List Frame} (twin : Twin fs gs) (starts : ℕ → ℕ) where
         best = λ i w. let v = waits-back sent (x .start) i w in twin .order (x .frame) i inside (v .0) (n .best i v);
         positive = n .positive;
         fits = rw (twin .lengths (x .frame) inside) at (n .fits);
+        hit = n .hit;
       }
 
   runs-twin : (end : ℕ) (sent : ℕ → ℕ) (free : ℕ) (xs : List Transmission) → Runs fs starts end sent free xs → Runs gs starts end sent free xs
@@ -220,9 +238,9 @@ module _ {fs gs : List Frame} (twin : Twin fs gs) (starts : ℕ → ℕ) where
   runs-twin end sent free (x ∷ xs) (n, before, more) = (next-twin sent free n, before, runs-twin end _ _ xs more)
 
 -- So a row that meets its claim in the second meets it in the first.
-meets-twin : {fs gs : List Frame} → Twin fs gs → (k claim : ℕ) → k < length fs → MeetsClaim gs k claim → MeetsClaim fs k claim
+meets-twin : {fs gs : List Frame} → Twin fs gs → (faults : Faults) (k claim : ℕ) → k < length fs → MeetsClaim faults gs k claim → MeetsClaim faults fs k claim
 unfolding MeetsClaim Schedule
-meets-twin twin k claim inside meets starts end xs schedule n = rw (twin .releases k inside starts n) (meets starts end xs (runs-twin twin starts end (λ i. 0) 0 xs schedule) n)
+meets-twin twin faults k claim inside meets starts end xs (runs, apart) n = rw (twin .releases k inside starts n) (meets starts end xs (runs-twin twin starts end (λ i. 0) 0 xs runs, apart) n)
 
 module _ (r : Frame → ℕ) {fs : List Frame} (keeps : KeepsOrder r fs) where
   -- the frame with the other priority alone
@@ -254,13 +272,14 @@ module _ (r : Frame → ℕ) {fs : List Frame} (keeps : KeepsOrder r fs) where
   }
 
   -- The schedules are the same.
-  pub schedule-alike : (starts : ℕ → ℕ) (end : ℕ) (xs : List Transmission) → Schedule (map ranked fs) starts end xs ↔ Schedule fs starts end xs
+  pub schedule-alike : (faults : Faults) (starts : ℕ → ℕ) (end : ℕ) (xs : List Transmission) → Schedule faults (map ranked fs) starts end xs ↔ Schedule faults fs starts end xs
   unfolding Schedule
-  schedule-alike starts end xs = (runs-twin of-ranked starts end (λ i. 0) 0 xs, runs-twin to-ranked starts end (λ i. 0) 0 xs)
+  schedule-alike faults starts end xs =
+      (λ (runs, apart). (runs-twin of-ranked starts end (λ i. 0) 0 xs runs, apart), λ (runs, apart). (runs-twin to-ranked starts end (λ i. 0) 0 xs runs, apart))
 
   -- So a row meets its claim in one just where it does in the other.
-  pub meets-alike : (k : ℕ) → k < length fs → (claim : ℕ) → MeetsClaim (map ranked fs) k claim ↔ MeetsClaim fs k claim
-  meets-alike k l claim = (meets-twin to-ranked k claim l, meets-twin of-ranked k claim (rw (length-map fs ranked) l))
+  pub meets-alike : (faults : Faults) (k : ℕ) → k < length fs → (claim : ℕ) → MeetsClaim faults (map ranked fs) k claim ↔ MeetsClaim faults fs k claim
+  meets-alike faults k l claim = (meets-twin to-ranked faults k claim l, meets-twin of-ranked faults k claim (rw (length-map fs ranked) l))
 
 -- Numbers that rise with the priorities of a table keep their order.
 pub keeps-rising : (r : ℕ → ℕ) {fs : List Frame} → ((f g : Frame) → Mem f fs → Mem g fs → f .priority < g .priority → r (f .priority) < r (g .priority))
@@ -289,8 +308,8 @@ pub early-keeps : (fs : List Frame) → KeepsOrder (λ g. g .priority) fs
 early-keeps fs f g m n = (λ le. le, λ le. le)
 
 -- So its judgement is the same.
-pub judge-early : (fs : List Frame) {k : Frame} → Mem k fs → judge (map early fs) (early k) ≡ judge fs k
-judge-early fs m = judge-alike (λ g. g .priority) phase early-phase (early-keeps fs) m
+pub judge-early : (faults : Faults) (fs : List Frame) {k : Frame} → Mem k fs → judge faults (map early fs) (early k) ≡ judge faults fs k
+judge-early faults fs m = judge-alike (λ g. g .priority) phase early-phase (early-keeps fs) m faults
 
 module _ (fs : List Frame) where
   pub row-early : (i : ℕ) → i < length fs → row (map early fs) i ≡ early (row fs i)

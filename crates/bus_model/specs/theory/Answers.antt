@@ -8,6 +8,7 @@ use Rattle.arith.specs.Lists.{sum}
 use Rattle.arith.specs.laws.Members.{mem-getD}
 use Rattle.arith.specs.laws.Maps.{sum-map}
 use Rattle.bus_model.specs.declared.Frame.{Frame}
+use Rattle.bus_model.specs.declared.Faults.{Faults}
 use Rattle.bus_model.specs.Frame.{noFrame, row}
 use Rattle.bus_model.specs.Bus.{Transmission, Schedule, MeetsClaim}
 use Rattle.bus_model.specs.Pattern.{ofGroup, hyperperiod, patternReleases}
@@ -16,17 +17,17 @@ use Rattle.bus_model.specs.Judgement.{lacksWindow, judge}
 use Rattle.bus_model.specs.theory.Alike.{recast, KeepsOrder, group-recast, hyper-recast, row-alike, bound-alike, count-alike, lacks-alike, judge-alike, schedule-alike, meets-alike}
 
 -- Each group has the same pattern; each row has the same bounds, whatever groups are fixed, the same scenario count, lack of a window
--- and judgements; the same lists are schedules; and the same claims are met.
+-- and judgements; the same lists are schedules; and the same claims are met: whatever the premise about faults.
 pub record SameAnswers (fs gs : List Frame) : Type 0 where
   pub size : length fs ≡ length gs
   pub hyper : (j : ℕ) → hyperperiod (ofGroup fs j) ≡ hyperperiod (ofGroup gs j)
   pub releases : (j : ℕ) → patternReleases (ofGroup fs j) ≡ patternReleases (ofGroup gs j)
-  pub bound : (k : ℕ) → k < length fs → boundOf fs (row fs k) ≡ boundOf gs (row gs k)
+  pub bound : (faults : Faults) (k : ℕ) → k < length fs → boundOf faults fs (row fs k) ≡ boundOf faults gs (row gs k)
   pub count : (k : ℕ) → k < length fs → scenarioCount fs (row fs k) ≡ scenarioCount gs (row gs k)
-  pub lacks : (k : ℕ) → k < length fs → lacksWindow fs (row fs k) ≡ lacksWindow gs (row gs k)
-  pub judged : (k : ℕ) → k < length fs → judge fs (row fs k) ≡ judge gs (row gs k)
-  pub schedules : (starts : ℕ → ℕ) (T : ℕ) (xs : List Transmission) → Schedule fs starts T xs ↔ Schedule gs starts T xs
-  pub meets : (k : ℕ) → k < length fs → (claim : ℕ) → MeetsClaim fs k claim ↔ MeetsClaim gs k claim
+  pub lacks : (faults : Faults) (k : ℕ) → k < length fs → lacksWindow faults fs (row fs k) ≡ lacksWindow faults gs (row gs k)
+  pub judged : (faults : Faults) (k : ℕ) → k < length fs → judge faults fs (row fs k) ≡ judge faults gs (row gs k)
+  pub schedules : (faults : Faults) (starts : ℕ → ℕ) (T : ℕ) (xs : List Transmission) → Schedule faults fs starts T xs ↔ Schedule faults gs starts T xs
+  pub meets : (faults : Faults) (k : ℕ) → k < length fs → (claim : ℕ) → MeetsClaim faults fs k claim ↔ MeetsClaim faults gs k claim
 
 -- Frames with other priorities in the same order have the same answers.
 module _ (r : Frame → ℕ) {fs : List Frame} (keeps : KeepsOrder r fs) where
@@ -50,12 +51,12 @@ module _ (r : Frame → ℕ) {fs : List Frame} (keeps : KeepsOrder r fs) where
     releases = λ j.
         rw (hyper-recast r (λ g. g .offset) fs j, group-recast r (λ g. g .offset) fs j)
         (sum-map other (λ g. hyperperiod (ofGroup fs j) / g .period) (ofGroup fs j));
-    bound = of-row boundOf (λ k m. bound-alike r (λ g. g .offset) (λ g. refl) keeps m);
+    bound = λ faults. of-row (boundOf faults) (λ k m. bound-alike r (λ g. g .offset) (λ g. refl) keeps m faults);
     count = of-row scenarioCount (λ k m. count-alike r (λ g. g .offset) (λ g. refl) keeps m);
-    lacks = of-row lacksWindow (λ k m. lacks-alike r (λ g. g .offset) (λ g. refl) keeps m);
-    judged = of-row judge (λ k m. judge-alike r (λ g. g .offset) (λ g. refl) keeps m);
+    lacks = λ faults. of-row (lacksWindow faults) (λ k m. lacks-alike r (λ g. g .offset) (λ g. refl) keeps m faults);
+    judged = λ faults. of-row (judge faults) (λ k m. judge-alike r (λ g. g .offset) (λ g. refl) keeps m faults);
     schedules = schedule-alike r keeps;
-    meets = λ k l. meets-alike r keeps k (inside l);
+    meets = λ faults k l. meets-alike r keeps faults k (inside l);
   }
 
 -- Two tables with the answers of a third have the same ones.
@@ -64,12 +65,12 @@ answers-through {fs} {gs} a b = record {
   size = a .size ∙ sym (b .size);
   hyper = λ j. a .hyper j ∙ sym (b .hyper j);
   releases = λ j. a .releases j ∙ sym (b .releases j);
-  bound = λ k l. a .bound k l ∙ sym (b .bound k (there l));
+  bound = λ faults k l. a .bound faults k l ∙ sym (b .bound faults k (there l));
   count = λ k l. a .count k l ∙ sym (b .count k (there l));
-  lacks = λ k l. a .lacks k l ∙ sym (b .lacks k (there l));
-  judged = λ k l. a .judged k l ∙ sym (b .judged k (there l));
-  schedules = λ starts T xs. both (a .schedules starts T xs) (b .schedules starts T xs);
-  meets = λ k l claim. both (a .meets k l claim) (b .meets k (there l) claim);
+  lacks = λ faults k l. a .lacks faults k l ∙ sym (b .lacks faults k (there l));
+  judged = λ faults k l. a .judged faults k l ∙ sym (b .judged faults k (there l));
+  schedules = λ faults starts T xs. both (a .schedules faults starts T xs) (b .schedules faults starts T xs);
+  meets = λ faults k l claim. both (a .meets faults k l claim) (b .meets faults k (there l) claim);
 }
   where
     there : {k : ℕ} → k < length fs → k < length gs

@@ -1,5 +1,5 @@
 -- The case that breaks a claim exists just where the precise bound exceeds the claim, hence for verdict 3 and no other that is decided.
-use Prim.Native.Nat.{ℕ, suc, _+_, _-_, _≤_, _<_}
+use Prim.Native.Nat.{ℕ, suc, _-_, _≤_, _<_}
 use mathlib.Core.Path.{_≡_, refl, sym, ap, _∙_}
 use mathlib.Core.List.{List, [], _∷_, _++_, map, List·Memᴰ as Mem, List·Memᴰ·head as here, List·Memᴰ·tail as there, List·Memᴰ·not-nil, List·Memᴰ·cases-cons}
 use mathlib.Core.Bool.{Bool}
@@ -26,6 +26,7 @@ use Rattle.bus_model.specs.theory.Judged.{by-outcome, precise-le-approxi
 use Rattle.arith.specs.declared.Found.{Found}
 use Rattle.arith.specs.declared.Found.the-variants.{At, Nothing}
 use Rattle.bus_model.specs.declared.Frame.{Frame}
+use Rattle.bus_model.specs.declared.Faults.{Faults}
 use Rattle.bus_model.specs.declared.Choice.{Choice}
 use Rattle.bus_model.specs.declared.Outcome.{Outcome}
 use Rattle.bus_model.specs.declared.Outcome.the-variants.{CertifiedApproximate, CertifiedPrecise, ClaimTooSmall, CertifiedLevel, Undecided, NoWindow}
@@ -56,12 +57,12 @@ else-assoc c d e = go (c .instance) refl
     go (At q) is = else-first c (orElse d e) (q, is) ∙ sym (else-first c e (q, is)) ∙ ap (λ (x : Case). orElse x e) (sym (else-first c d (q, is)))
     go Nothing is = else-second c (orElse d e) is ∙ ap (λ (x : Case). orElse x e) (sym (else-second c d is))
 
-module _ (fs : List Frame) (k : Frame) (claim : ℕ) where
+module _ (faults : Faults) (fs : List Frame) (k : Frame) (claim : ℕ) where
   -- ---- in one scenario
 
   -- whether an instance's response exceeds the claim, by its number from 1
   abbrev pub exceeds : List Choice → ℕ → Bool
-  exceeds cs q = ltb claim (instanceResponse fs k cs (q - 1))
+  exceeds cs q = ltb claim (instanceResponse faults fs k cs (q - 1))
 
   module _ (cs : List Choice) where
     -- how many instances are released in a window
@@ -69,20 +70,20 @@ module _ (fs : List Frame) (k : Frame) (claim : ℕ) where
     count l = releasesBefore (ownDistance k cs) (k .period) l
 
     -- It is found among the instances released in the window.
-    pub exceeding-at : (l : ℕ) → busyWindow fs k cs ≡ At l → exceedingInstance fs k claim cs ≡ least (exceeds cs) (count l) 1
+    pub exceeding-at : (l : ℕ) → busyWindow faults fs k cs ≡ At l → exceedingInstance faults fs k claim cs ≡ least (exceeds cs) (count l) 1
     unfolding exceedingInstance
     exceeding-at l e = rw (e, exceedingInstance)
 
-    exceeding-no-window : busyWindow fs k cs ≡ Nothing → exceedingInstance fs k claim cs ≡ Nothing
+    exceeding-no-window : busyWindow faults fs k cs ≡ Nothing → exceedingInstance faults fs k claim cs ≡ Nothing
     unfolding exceedingInstance
     exceeding-no-window e = rw (e, exceedingInstance)
 
     -- An instance whose response exceeds the claim, while none before it does, is the one.
-    pub exceeding-is : (l : ℕ) → busyWindow fs k cs ≡ At l → (q : ℕ) → q < releasesBefore (ownDistance k cs) (k .period) l
-        → claim < instanceResponse fs k cs q → ((i : ℕ) → i < q → instanceResponse fs k cs i ≤ claim) → exceedingInstance fs k claim cs ≡ At (suc q)
+    pub exceeding-is : (l : ℕ) → busyWindow faults fs k cs ≡ At l → (q : ℕ) → q < releasesBefore (ownDistance k cs) (k .period) l
+        → claim < instanceResponse faults fs k cs q → ((i : ℕ) → i < q → instanceResponse faults fs k cs i ≤ claim) → exceedingInstance faults fs k claim cs ≡ At (suc q)
     exceeding-is l window q inside more before =
         let same : suc q - 1 ≡ q = omega arith in
-        let (n, found, le) = least-finds (exceeds cs) (count l) 1 (suc q) (omega arith) (omega arith) (lt→ltb claim (instanceResponse fs k cs (suc q - 1)) (rw same more)) in
+        let (n, found, le) = least-finds (exceeds cs) (count l) 1 (suc q) (omega arith) (omega arith) (lt→ltb claim (instanceResponse faults fs k cs (suc q - 1)) (rw same more)) in
         let (low, high, t) = least-at (exceeds cs) (count l) 1 n found in
         let over = ltb→lt claim _ t in
         let not-before : ¬ (n - 1 < q) = λ less. omega (arith, before (n - 1) less) in
@@ -90,84 +91,84 @@ module _ (fs : List Frame) (k : Frame) (claim : ℕ) where
         exceeding-at l window ∙ (rw is at found)
 
     -- There is none where the scenario's response does not exceed the claim,
-    pub exceeding-none : scenarioResponse fs k cs ≤ claim → exceedingInstance fs k claim cs ≡ Nothing
+    pub exceeding-none : scenarioResponse faults fs k cs ≤ claim → exceedingInstance faults fs k claim cs ≡ Nothing
     unfolding responseTime
-    exceeding-none within = go (busyWindow fs k cs) refl
+    exceeding-none within = go (busyWindow faults fs k cs) refl
       where
-        go : (r : Found) → busyWindow fs k cs ≡ r → exceedingInstance fs k claim cs ≡ Nothing
+        go : (r : Found) → busyWindow faults fs k cs ≡ r → exceedingInstance faults fs k claim cs ≡ Nothing
         go (At l) e =
             exceeding-at l e ∙ least-none (exceeds cs) (count l) 1 (λ q low high t.
-            omega (arith, ltb→lt claim _ t, response-at fs k cs l e, le-greatest (instanceResponse fs k cs) (mem-range 0 (count l) (q - 1) (omega arith) (omega arith))))
+            omega (arith, ltb→lt claim _ t, response-at faults fs k cs l e, le-greatest (instanceResponse faults fs k cs) (mem-range 0 (count l) (q - 1) (omega arith) (omega arith))))
         go Nothing e = exceeding-no-window e
 
     -- and there is one where it does.
-    pub exceeding-some : claim < scenarioResponse fs k cs → (q : ℕ) × (exceedingInstance fs k claim cs ≡ At q)
+    pub exceeding-some : claim < scenarioResponse faults fs k cs → (q : ℕ) × (exceedingInstance faults fs k claim cs ≡ At q)
     unfolding responseTime
-    exceeding-some over = go (busyWindow fs k cs) refl
+    exceeding-some over = go (busyWindow faults fs k cs) refl
       where
-        go : (r : Found) → busyWindow fs k cs ≡ r → (q : ℕ) × (exceedingInstance fs k claim cs ≡ At q)
+        go : (r : Found) → busyWindow faults fs k cs ≡ r → (q : ℕ) × (exceedingInstance faults fs k claim cs ≡ At q)
         go (At l) e =
-            let (i, m, more) = greatest-exceeds (instanceResponse fs k cs) claim (range 0 (count l)) (rw (response-at fs k cs l e) at over) in
+            let (i, m, more) = greatest-exceeds (instanceResponse faults fs k cs) claim (range 0 (count l)) (rw (response-at faults fs k cs l e) at over) in
             let (low, high) = of-range 0 (count l) m in
             let same : suc i - 1 ≡ i = omega arith in
-            let (q, found, le) = least-finds (exceeds cs) (count l) 1 (suc i) (omega arith) (omega arith) (lt→ltb claim (instanceResponse fs k cs (suc i - 1)) (rw same more)) in
+            let (q, found, le) = least-finds (exceeds cs) (count l) 1 (suc i) (omega arith) (omega arith) (lt→ltb claim (instanceResponse faults fs k cs (suc i - 1)) (rw same more)) in
             (q, _∙_ {c = At q} (exceeding-at l e) found)
-        go Nothing e = absurd (omega (arith, response-none fs k cs e))
+        go Nothing e = absurd (omega (arith, response-none faults fs k cs e))
 
-    not-exceeding : exceedingInstance fs k claim cs ≡ Nothing → scenarioResponse fs k cs ≤ claim
+    not-exceeding : exceedingInstance faults fs k claim cs ≡ Nothing → scenarioResponse faults fs k cs ≤ claim
     not-exceeding none =
-        elim (decLe (scenarioResponse fs k cs) claim) [
+        elim (decLe (scenarioResponse faults fs k cs) claim) [
           | yes within ↦ within
           | no more ↦ absurd (none-at (sym none ∙ exceeding-some (omega arith) .1))
         ]
 
     -- So is the case.
-    pub in-at : (q : ℕ) → exceedingInstance fs k claim cs ≡ At q → caseIn fs k claim cs ≡ record { instance = At q; alignments = map shown cs }
+    pub in-at : (q : ℕ) → exceedingInstance faults fs k claim cs ≡ At q → caseIn faults fs k claim cs ≡ record { instance = At q; alignments = map shown cs }
     unfolding caseIn
     in-at q e = rw (e, caseIn)
 
-    pub in-none : exceedingInstance fs k claim cs ≡ Nothing → caseIn fs k claim cs ≡ noCase
+    pub in-none : exceedingInstance faults fs k claim cs ≡ Nothing → caseIn faults fs k claim cs ≡ noCase
     unfolding caseIn
     in-none e = rw (e, caseIn)
 
     -- Without an instance it is none.
-    pub no-case-in : caseIn fs k claim cs .instance ≡ Nothing → caseIn fs k claim cs ≡ noCase
-    no-case-in none = go (exceedingInstance fs k claim cs) refl
+    pub no-case-in : caseIn faults fs k claim cs .instance ≡ Nothing → caseIn faults fs k claim cs ≡ noCase
+    no-case-in none = go (exceedingInstance faults fs k claim cs) refl
       where
-        go : (r : Found) → exceedingInstance fs k claim cs ≡ r → caseIn fs k claim cs ≡ noCase
+        go : (r : Found) → exceedingInstance faults fs k claim cs ≡ r → caseIn faults fs k claim cs ≡ noCase
         go (At q) e = absurd (none-at (sym none ∙ ap (λ (c : Case). c .instance) (in-at q e)))
         go Nothing e = in-none e
 
   -- ---- among scenarios
 
   -- The first of two lists' is that of the one, or else of the other.
-  pub among-append : (xs ys : List (List Choice)) → firstAmong fs k claim (xs ++ ys) ≡ orElse (firstAmong fs k claim xs) (firstAmong fs k claim ys)
+  pub among-append : (xs ys : List (List Choice)) → firstAmong faults fs k claim (xs ++ ys) ≡ orElse (firstAmong faults fs k claim xs) (firstAmong faults fs k claim ys)
   unfolding firstAmong
-  among-append [] ys = sym (else-second noCase (firstAmong fs k claim ys) no-instance)
-  among-append (cs ∷ xs) ys = ap (orElse (caseIn fs k claim cs)) (among-append xs ys) ∙ else-assoc (caseIn fs k claim cs) (firstAmong fs k claim xs) (firstAmong fs k claim ys)
+  among-append [] ys = sym (else-second noCase (firstAmong faults fs k claim ys) no-instance)
+  among-append (cs ∷ xs) ys = ap (orElse (caseIn faults fs k claim cs)) (among-append xs ys) ∙ else-assoc (caseIn faults fs k claim cs) (firstAmong faults fs k claim xs) (firstAmong faults fs k claim ys)
 
   -- There is none where no response exceeds the claim,
-  pub among-none : (xs : List (List Choice)) → ((cs : List Choice) → Mem cs xs → scenarioResponse fs k cs ≤ claim) → firstAmong fs k claim xs ≡ noCase
+  pub among-none : (xs : List (List Choice)) → ((cs : List Choice) → Mem cs xs → scenarioResponse faults fs k cs ≤ claim) → firstAmong faults fs k claim xs ≡ noCase
   unfolding firstAmong
   among-none [] within = refl
   among-none (cs ∷ xs) within =
       let none = in-none cs (exceeding-none cs (within cs (here refl))) in
-      else-second (caseIn fs k claim cs) (firstAmong fs k claim xs) (ap (λ (c : Case). c .instance) none ∙ no-instance)
+      else-second (caseIn faults fs k claim cs) (firstAmong faults fs k claim xs) (ap (λ (c : Case). c .instance) none ∙ no-instance)
       ∙ among-none xs (λ cs′ m. within cs′ (there m))
 
   -- and one where one does.
-  pub among-some : {cs : List Choice} {xs : List (List Choice)} → Mem cs xs → claim < scenarioResponse fs k cs → Exists (firstAmong fs k claim xs)
+  pub among-some : {cs : List Choice} {xs : List (List Choice)} → Mem cs xs → claim < scenarioResponse faults fs k cs → Exists (firstAmong faults fs k claim xs)
   unfolding firstAmong
   among-some {xs = ds ∷ xs} m over =
-      elim (decLe (scenarioResponse fs k ds) claim) [
+      elim (decLe (scenarioResponse faults fs k ds) claim) [
         | yes within ↦
             let none = in-none ds (exceeding-none ds within) in
-            let rest : Exists (firstAmong fs k claim xs) = elim (List·Memᴰ·cases-cons m) [ inl e ↦ absurd (omega (arith, ap (scenarioResponse fs k) e)) | inr n ↦ among-some n over ] in
-            rw (else-second (caseIn fs k claim ds) (firstAmong fs k claim xs) (ap (λ (c : Case). c .instance) none ∙ no-instance)) rest
+            let rest : Exists (firstAmong faults fs k claim xs) = elim (List·Memᴰ·cases-cons m) [ inl e ↦ absurd (omega (arith, ap (scenarioResponse faults fs k) e)) | inr n ↦ among-some n over ] in
+            rw (else-second (caseIn faults fs k claim ds) (firstAmong faults fs k claim xs) (ap (λ (c : Case). c .instance) none ∙ no-instance)) rest
         | no more ↦
             let (q, e) = exceeding-some ds (omega arith) in
-            let some : Exists (caseIn fs k claim ds) = (q, ap (λ (c : Case). c .instance) (in-at ds q e)) in
-            rw (else-first (caseIn fs k claim ds) (firstAmong fs k claim xs) some) some
+            let some : Exists (caseIn faults fs k claim ds) = (q, ap (λ (c : Case). c .instance) (in-at ds q e)) in
+            rw (else-first (caseIn faults fs k claim ds) (firstAmong faults fs k claim xs) some) some
       ]
 
   -- What is shown stands in a scenario, and none before it exceeds the claim.
@@ -176,20 +177,20 @@ module _ (fs : List Frame) (k : Frame) (claim : ℕ) where
     pub scenario : List Choice
     pub after : List (List Choice)
     pub listed : xs ≡ before ++ scenario ∷ after
-    pub within : (cs : List Choice) → Mem cs before → scenarioResponse fs k cs ≤ claim
-    pub least : exceedingInstance fs k claim scenario ≡ At q
+    pub within : (cs : List Choice) → Mem cs before → scenarioResponse faults fs k cs ≤ claim
+    pub least : exceedingInstance faults fs k claim scenario ≡ At q
     pub alignments : c .alignments ≡ map shown scenario
 
-  pub among-shown : (xs : List (List Choice)) (q : ℕ) → firstAmong fs k claim xs .instance ≡ At q → Shown xs (firstAmong fs k claim xs) q
+  pub among-shown : (xs : List (List Choice)) (q : ℕ) → firstAmong faults fs k claim xs .instance ≡ At q → Shown xs (firstAmong faults fs k claim xs) q
   unfolding firstAmong
   among-shown [] q e = absurd (none-at (sym no-instance ∙ e))
-  among-shown (cs ∷ xs) q e = go (exceedingInstance fs k claim cs) refl (among-shown xs q)
+  among-shown (cs ∷ xs) q e = go (exceedingInstance faults fs k claim cs) refl (among-shown xs q)
     where
-      go : (r : Found) → exceedingInstance fs k claim cs ≡ r → (firstAmong fs k claim xs .instance ≡ At q → Shown xs (firstAmong fs k claim xs) q)
-          → Shown (cs ∷ xs) (orElse (caseIn fs k claim cs) (firstAmong fs k claim xs)) q
+      go : (r : Found) → exceedingInstance faults fs k claim cs ≡ r → (firstAmong faults fs k claim xs .instance ≡ At q → Shown xs (firstAmong faults fs k claim xs) q)
+          → Shown (cs ∷ xs) (orElse (caseIn faults fs k claim cs) (firstAmong faults fs k claim xs)) q
       go (At p) is later =
           let now = in-at cs p is in
-          let first = else-first (caseIn fs k claim cs) (firstAmong fs k claim xs) (p, ap (λ (c : Case). c .instance) now) ∙ now in
+          let first = else-first (caseIn faults fs k claim cs) (firstAmong faults fs k claim xs) (p, ap (λ (c : Case). c .instance) now) ∙ now in
           let same : At p ≡ At q = sym (ap (λ (c : Case). c .instance) first) ∙ e in
           record {
             before = [];
@@ -202,7 +203,7 @@ module _ (fs : List Frame) (k : Frame) (claim : ℕ) where
           }
       go Nothing is later =
           let none = in-none cs is in
-          let second = else-second (caseIn fs k claim cs) (firstAmong fs k claim xs) (ap (λ (c : Case). c .instance) none ∙ no-instance) in
+          let second = else-second (caseIn faults fs k claim cs) (firstAmong faults fs k claim xs) (ap (λ (c : Case). c .instance) none ∙ no-instance) in
           let s = later (sym (ap (λ (c : Case). c .instance) second) ∙ e) in
           record {
             before = cs ∷ s .before;
@@ -217,16 +218,16 @@ module _ (fs : List Frame) (k : Frame) (claim : ℕ) where
   -- ---- the first case
 
   -- It exists just where the precise bound exceeds the claim.
-  pub case-exists : Exists (firstCase fs k claim) ↔ (claim < preciseBound fs k)
+  pub case-exists : Exists (firstCase faults fs k claim) ↔ (claim < preciseBound faults fs k)
   unfolding firstCase boundOf
   case-exists = (
-    λ some. elim (decLe (preciseBound fs k) claim) [
+    λ some. elim (decLe (preciseBound faults fs k) claim) [
       | yes within ↦
-          let none = among-none (scenarios fs k everyGroup) (λ cs m. le-trans (le-greatest (scenarioResponse fs k) m) within) in
+          let none = among-none (scenarios fs k everyGroup) (λ cs m. le-trans (le-greatest (scenarioResponse faults fs k) m) within) in
           absurd (none-at (sym no-instance ∙ sym (ap (λ (c : Case). c .instance) none) ∙ some .1))
       | no over ↦ omega arith
     ],
-    λ over. let (cs, m, more) = greatest-exceeds (scenarioResponse fs k) claim (scenarios fs k everyGroup) over in among-some m more,
+    λ over. let (cs, m, more) = greatest-exceeds (scenarioResponse faults fs k) claim (scenarios fs k everyGroup) over in among-some m more,
   )
 
 -- ---- and the judgement
@@ -236,35 +237,35 @@ module _ {fs : List Frame} (valid : Valid fs) {k : ℕ} (inside : k < length fs)
   f = row fs k
 
   -- "Where neither 11 nor 12 is the verdict, it is 3 if and only if such a case exists".
-  pub small-just-with-case : (claim : ℕ) → let v = verdict (judge fs f claim .outcome) in v ≢ 11 → v ≢ 12 → (v ≡ 3) ↔ Exists (firstCase fs f claim)
+  pub small-just-with-case : (faults : Faults) (claim : ℕ) → let v = verdict (judge faults fs f claim .outcome) in v ≢ 11 → v ≢ 12 → (v ≡ 3) ↔ Exists (firstCase faults fs f claim)
   unfolding judge verdict
-  small-just-with-case claim =
-      by-outcome (λ o. verdict o ≢ 11 → verdict o ≢ 12 → (verdict o ≡ 3) ↔ Exists (firstCase fs f claim)) fs f claim
+  small-just-with-case faults claim =
+      by-outcome (λ o. verdict o ≢ 11 → verdict o ≢ 12 → (verdict o ≡ 3) ↔ Exists (firstCase faults fs f claim)) faults fs f claim
       (λ lacks n11 n12. absurd (n11 refl))
-      (λ windows le n11 n12. none (omega (arith, precise-le-approximate valid inside windows)) (λ e. omega arith))
-      (λ windows exceeds many le n11 n12. none (omega (arith, level-refine valid inside windows {m = deepestLevel fs f} {n = lastLevel} (deepest-le fs f), level-last fs (valid .frame k inside))) (λ e. omega arith))
+      (λ windows le n11 n12. none (omega (arith, precise-le-approximate valid inside faults windows)) (λ e. omega arith))
+      (λ windows exceeds many le n11 n12. none (omega (arith, level-refine valid inside faults windows {m = deepestLevel fs f} {n = lastLevel} (deepest-le fs f), level-last fs (valid .frame k inside) faults)) (λ e. omega arith))
       (λ windows less many over n11 n12. absurd (n12 refl))
       (λ windows exceeds few le n11 n12. none le (λ e. omega arith))
-      (λ windows exceeds few less n11 n12. (λ e. case-exists fs f claim .1 less, λ some. refl))
+      (λ windows exceeds few less n11 n12. (λ e. case-exists faults fs f claim .1 less, λ some. refl))
     where
-      none : {v : ℕ} → preciseBound fs f ≤ claim → ¬ (v ≡ 3) → (v ≡ 3) ↔ Exists (firstCase fs f claim)
-      none le other = (λ e. absurd (other e), λ some. absurd (omega (arith, case-exists fs f claim .0 some)))
+      none : {v : ℕ} → preciseBound faults fs f ≤ claim → ¬ (v ≡ 3) → (v ≡ 3) ↔ Exists (firstCase faults fs f claim)
+      none le other = (λ e. absurd (other e), λ some. absurd (omega (arith, case-exists faults fs f claim .0 some)))
 
 -- "For every other verdict the judgement comes without a case".
-pub case-of-small : (fs : List Frame) (k : Frame) (claim : ℕ) (o : Outcome) → verdict o ≡ 3 → caseOf fs k claim o ≡ firstCase fs k claim
+pub case-of-small : (faults : Faults) (fs : List Frame) (k : Frame) (claim : ℕ) (o : Outcome) → verdict o ≡ 3 → caseOf faults fs k claim o ≡ firstCase faults fs k claim
 unfolding verdict caseOf
-case-of-small fs k claim (CertifiedApproximate b) e = absurd (omega arith)
-case-of-small fs k claim (CertifiedPrecise b) e = absurd (omega arith)
-case-of-small fs k claim (ClaimTooSmall b) e = refl
-case-of-small fs k claim (CertifiedLevel b) e = absurd (omega arith)
-case-of-small fs k claim (Undecided b) e = absurd (omega arith)
-case-of-small fs k claim NoWindow e = absurd (omega arith)
+case-of-small faults fs k claim (CertifiedApproximate b) e = absurd (omega arith)
+case-of-small faults fs k claim (CertifiedPrecise b) e = absurd (omega arith)
+case-of-small faults fs k claim (ClaimTooSmall b) e = refl
+case-of-small faults fs k claim (CertifiedLevel b) e = absurd (omega arith)
+case-of-small faults fs k claim (Undecided b) e = absurd (omega arith)
+case-of-small faults fs k claim NoWindow e = absurd (omega arith)
 
-pub case-of-other : (fs : List Frame) (k : Frame) (claim : ℕ) (o : Outcome) → verdict o ≢ 3 → caseOf fs k claim o ≡ noCase
+pub case-of-other : (faults : Faults) (fs : List Frame) (k : Frame) (claim : ℕ) (o : Outcome) → verdict o ≢ 3 → caseOf faults fs k claim o ≡ noCase
 unfolding verdict caseOf
-case-of-other fs k claim (CertifiedApproximate b) other = refl
-case-of-other fs k claim (CertifiedPrecise b) other = refl
-case-of-other fs k claim (ClaimTooSmall b) other = absurd (other refl)
-case-of-other fs k claim (CertifiedLevel b) other = refl
-case-of-other fs k claim (Undecided b) other = refl
-case-of-other fs k claim NoWindow other = refl
+case-of-other faults fs k claim (CertifiedApproximate b) other = refl
+case-of-other faults fs k claim (CertifiedPrecise b) other = refl
+case-of-other faults fs k claim (ClaimTooSmall b) other = absurd (other refl)
+case-of-other faults fs k claim (CertifiedLevel b) other = refl
+case-of-other faults fs k claim (Undecided b) other = refl
+case-of-other faults fs k claim NoWindow other = refl

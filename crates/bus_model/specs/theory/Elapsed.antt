@@ -14,13 +14,14 @@ use Rattle.arith.specs.laws.Releases.{counted}
 use Rattle.bus_model.specs.Frame.{row}
 use Rattle.bus_model.specs.Valid.{Valid}
 use Rattle.bus_model.specs.Release.{release}
-use Rattle.bus_model.specs.Bus.{Transmission, oneMore, Waiting, Next, Runs, Schedule}
+use Rattle.bus_model.specs.Bus.{Transmission, oneMore, Waiting, Next, freeAfter, sentAfter, Runs, Schedule}
 use Rattle.bus_model.specs.Bounds.{isAhead, isBetter, better}
 use Rattle.bus_model.specs.Worst.{Longest}
 use Rattle.bus_model.specs.theory.Rows.{overRows, sum-rows, rows-none, rows-le, rows-most, rows-split}
 use Rattle.bus_model.specs.theory.Arrivals.{releasedBy, arrived}
-use Rattle.bus_model.specs.theory.BusyWindow.{one-more, one-more-same}
+use Rattle.bus_model.specs.theory.BusyWindow.{whole-or-cut, one-more, one-more-same}
 use Rattle.bus_model.specs.declared.Frame.{Frame}
+use Rattle.bus_model.specs.declared.Faults.{Faults}
 
 -- ---- the state in which a transmission of the list is sent
 
@@ -39,7 +40,7 @@ start-after found = rw (found .next .oldest) (found .next .waiting .1)
 module _
     (fs : List Frame) (starts : ℕ → ℕ) (T : ℕ) (P : (ℕ → ℕ) → ℕ → Type 0)
     (step : (sent : ℕ → ℕ) (free : ℕ) (x : Transmission) → Next fs starts sent free x → x .length ≡ row fs (x .frame) .length → P sent free
-    → P (oneMore sent (x .frame)) (x .start + x .length))
+    → P (sentAfter sent x) (freeAfter x))
   where
     pub sent-in : (xs : List Transmission) (sent : ℕ → ℕ) (free : ℕ) → Runs fs starts T sent free xs → Longest fs xs → P sent free
         → {x : Transmission} → Mem x xs → Sending fs starts P x
@@ -100,6 +101,16 @@ module _ {fs : List Frame} (valid : Valid fs) (starts : ℕ → ℕ) (k : ℕ) (
       most : (c : ℕ) → since (oneMore sent i) i ≤ c + since sent i → overRows fs (isAhead f) (since (oneMore sent i)) ≤ c + overRows fs (isAhead f) (since sent)
       most c le = rows-most fs (isAhead f) (since sent) (since (oneMore sent i)) i c inside le other
 
+  -- One that is cut adds nothing.
+  fits-after : (sent : ℕ → ℕ) (free : ℕ) (x : Transmission) → Next fs starts sent free x → x .length ≡ row fs (x .frame) .length → Fits sent free
+      → Fits (sentAfter sent x) (freeAfter x)
+  unfolding sentAfter freeAfter
+  fits-after sent free x next long fits =
+      elim (whole-or-cut (x .fault)) [
+        | inl whole ↦ rw whole (fits-more sent free x next long fits)
+        | inr (e, cut) ↦ let (from, to) = next .hit e cut in rw cut (omega (arith, next .after))
+      ]
+
   -- At tick 0 nothing is sent.
   fits-first : Fits (λ i. 0) 0
   fits-first = omega (arith, rows-none fs (isAhead f) (since (λ i. 0)) (λ i. let none : 0 - before i ≡ 0 = omega arith in rw none (mul-zero _)))
@@ -128,6 +139,6 @@ module _ {fs : List Frame} (valid : Valid fs) (starts : ℕ → ℕ) (k : ℕ) (
         rw first (omega (arith, sum-rows fs (isBetter f) (λ g. g .length * arrived starts g t (suc (x .start - t))), found .holds, found .next .after))
 
   -- Each transmission of a schedule in which all have their largest lengths has such a state.
-  pub sent-fitting : (T : ℕ) {xs : List Transmission} → Schedule fs starts T xs → Longest fs xs → {x : Transmission} → Mem x xs → Sending fs starts Fits x
+  pub sent-fitting : (faults : Faults) (T : ℕ) {xs : List Transmission} → Schedule faults fs starts T xs → Longest fs xs → {x : Transmission} → Mem x xs → Sending fs starts Fits x
   unfolding Schedule
-  sent-fitting T {xs} runs long m = sent-in fs starts T Fits fits-more xs (λ i. 0) 0 runs long fits-first m
+  sent-fitting faults T {xs} (runs, apart) long m = sent-in fs starts T Fits fits-after xs (λ i. 0) 0 runs long fits-first m

@@ -10,18 +10,19 @@ use Rattle.bus_model.specs.Levels.{levelBound}
 use Rattle.bus_model.specs.Judgement.{lacksWindow, tooManyScenarios, deepestLevel, preciseOutcome, crowdedOutcome, refinedOutcome, windowedOutcome, outcomeOf, verdict, boundUsed, marginOf, judge}
 use Rattle.bus_model.specs.Finding.{Finding, findingOf, findingFor}
 use Rattle.bus_model.specs.declared.Frame.{Frame}
+use Rattle.bus_model.specs.declared.Faults.{Faults}
 use Rattle.bus_model.specs.declared.Outcome.{Outcome}
 use Rattle.bus_model.specs.declared.Outcome.the-variants.{CertifiedApproximate, CertifiedPrecise, ClaimTooSmall, CertifiedLevel, Undecided, NoWindow}
 use Rattle.bus_model.specs.declared.Judgement.{Judgement}
 
-pub judge-finds : (fs : List Frame) (k : Frame) (claim : ℕ) → findingOf (judge fs k claim) ≡ findingFor fs k claim
+pub judge-finds : (faults : Faults) (fs : List Frame) (k : Frame) (claim : ℕ) → findingOf (judge faults fs k claim) ≡ findingFor faults fs k claim
 unfolding findingOf findingFor judge outcomeOf windowedOutcome refinedOutcome crowdedOutcome preciseOutcome verdict boundUsed marginOf
-judge-finds fs k claim =
-    by-test (lacksWindow fs k) (λ w. simp w)
-    (λ w. by-test (leb (approximateBound fs k) claim) (λ a. simp (w, a))
+judge-finds faults fs k claim =
+    by-test (lacksWindow faults fs k) (λ w. simp w)
+    (λ w. by-test (leb (approximateBound faults fs k) claim) (λ a. simp (w, a))
     (λ a. by-test (tooManyScenarios fs k)
-    (λ m. by-test (leb (levelBound fs k (deepestLevel fs k)) claim) (λ d. simp (w, a, m, d)) (λ d. simp (w, a, m, d)))
-    (λ m. by-test (leb (preciseBound fs k) claim) (λ p. simp (w, a, m, p)) (λ p. simp (w, a, m, p)))))
+    (λ m. by-test (leb (levelBound faults fs k (deepestLevel fs k)) claim) (λ d. simp (w, a, m, d)) (λ d. simp (w, a, m, d)))
+    (λ m. by-test (leb (preciseBound faults fs k) claim) (λ p. simp (w, a, m, p)) (λ p. simp (w, a, m, p)))))
 
 -- the outcome with a verdict and the bound used
 outcomeBy : ℕ → ℕ → Outcome
@@ -42,9 +43,9 @@ outcome-back NoWindow = refl
 abbrev pub Whole : Judgement → Type 0
 Whole j = j .bound ≡ boundUsed (j .outcome)
 
-pub judge-whole : (fs : List Frame) (k : Frame) (claim : ℕ) → Whole (judge fs k claim)
+pub judge-whole : (faults : Faults) (fs : List Frame) (k : Frame) (claim : ℕ) → Whole (judge faults fs k claim)
 unfolding judge
-judge-whole fs k claim = refl
+judge-whole faults fs k claim = refl
 
 -- the judgement with a finding
 pub judgementBy : Finding → Judgement

@@ -33,6 +33,7 @@ use Rattle.bus_model.specs.theory.OpenGroups.{isAny, isOpen, openGroups,
 use Rattle.arith.specs.declared.Found.{Found}
 use Rattle.arith.specs.declared.Found.the-variants.{At, Nothing}
 use Rattle.bus_model.specs.declared.Frame.{Frame}
+use Rattle.bus_model.specs.declared.Faults.{Faults}
 use Rattle.bus_model.specs.declared.Choice.{Choice}
 use Rattle.bus_model.specs.declared.Choice.the-variants.{Fixed, Any}
 use Rattle.bus_model.specs.declared.Case.{Case}
@@ -63,17 +64,17 @@ module _ (fs : List Frame) (k : Frame) where
   completions-free = ap (λ (lists : List (List Choice)). combinations lists) (map-same (range 1 groups) (λ j m. completing-any j (free-open j m)))
 
   -- Their greatest response is that where all open groups take each of their alignments.
-  pub completions-most : ValidFrame k → (cs : List Choice) → length cs ≡ groups → fixingMore fs k groups cs ≡ greatest (scenarioResponse fs k) (completions fs k cs)
+  pub completions-most : (faults : Faults) → ValidFrame k → (cs : List Choice) → length cs ≡ groups → fixingMore faults fs k groups cs ≡ greatest (scenarioResponse faults fs k) (completions fs k cs)
   unfolding fixingMore completions openGroups isAny
-  completions-most valid cs long =
+  completions-most faults valid cs long =
       let few : length (openGroups k cs) ≤ groups = le-trans (keep-le (isOpen cs) (fixingOrder k)) (order-length valid) in
-      ap (λ (js : List ℕ). refined fs k js cs) (take-all groups (openGroups k cs) few)
+      ap (λ (js : List ℕ). refined faults fs k js cs) (take-all groups (openGroups k cs) few)
       ∙ refined-choices fs k (λ j. completing fs k j (choiceOf cs j)) (openGroups k cs) cs (record {
         long = long;
         group = open-groups valid cs long .group;
         all = λ j m. completing-any j (open-groups valid cs long .left j m);
         rest = λ i m. go i m (choiceOf cs i) refl;
-      })
+      }) faults
     where
       go : (i : ℕ) → Mem i (range 1 groups) → (c : Choice) → choiceOf cs i ≡ c → Mem i (openGroups k cs) ⊎ (completing fs k i (choiceOf cs i) ≡ choiceOf cs i ∷ [])
       go i m (Fixed a) e = inr (completing-fixed i e)
@@ -127,103 +128,103 @@ module _ (fs : List Frame) (k : Frame) (cs : List Choice) where
 -- ---- the first case with the alignments that are fixed
 
 -- among the scenarios with group j at one of these alignments
-unfoldable pub firstWith : List Frame → Frame → ℕ → List Choice → ℕ → List ℕ → Case
-firstWith fs k claim cs j als = firstAmong fs k claim (flatMap (λ a. completions fs k (set cs (j - 1) (Fixed a))) als)
+unfoldable pub firstWith : Faults → List Frame → Frame → ℕ → List Choice → ℕ → List ℕ → Case
+firstWith faults fs k claim cs j als = firstAmong faults fs k claim (flatMap (λ a. completions fs k (set cs (j - 1) (Fixed a))) als)
 
-module _ (fs : List Frame) (k : Frame) (claim : ℕ) where
+module _ (faults : Faults) (fs : List Frame) (k : Frame) (claim : ℕ) where
   -- At the start it is the first of all.
-  pub case-start : firstAmong fs k claim (completions fs k free) ≡ firstCase fs k claim
+  pub case-start : firstAmong faults fs k claim (completions fs k free) ≡ firstCase faults fs k claim
   unfolding firstCase
-  case-start = ap (firstAmong fs k claim) (completions-free fs k)
+  case-start = ap (firstAmong faults fs k claim) (completions-free fs k)
 
   module _ (cs : List Choice) where
     -- At the end it is the scenario's.
-    pub case-last : Prefix 17 cs → firstAmong fs k claim (completions fs k cs) ≡ caseIn fs k claim cs
+    pub case-last : Prefix 17 cs → firstAmong faults fs k claim (completions fs k cs) ≡ caseIn faults fs k claim cs
     unfolding firstAmong
-    case-last p = rw (completions-last fs k cs p) (go (caseIn fs k claim cs .instance) refl)
+    case-last p = rw (completions-last fs k cs p) (go (caseIn faults fs k claim cs .instance) refl)
       where
-        go : (r : Found) → caseIn fs k claim cs .instance ≡ r → orElse (caseIn fs k claim cs) noCase ≡ caseIn fs k claim cs
-        go (At q) e = else-first (caseIn fs k claim cs) noCase (q, e)
-        go Nothing e = else-second (caseIn fs k claim cs) noCase e ∙ sym (no-case-in fs k claim cs e)
+        go : (r : Found) → caseIn faults fs k claim cs .instance ≡ r → orElse (caseIn faults fs k claim cs) noCase ≡ caseIn faults fs k claim cs
+        go (At q) e = else-first (caseIn faults fs k claim cs) noCase (q, e)
+        go Nothing e = else-second (caseIn faults fs k claim cs) noCase e ∙ sym (no-case-in faults fs k claim cs e)
 
     module _ (valid : ValidFrame k) (long : length cs ≡ groups) (j : ℕ) where
       -- the scenario with the group at alignment a
       abbrev put : ℕ → List Choice
       put a = set cs (j - 1) (Fixed a)
 
-      at-most : (a : ℕ) → fixingMore fs k groups (put a) ≡ greatest (scenarioResponse fs k) (completions fs k (put a))
-      at-most a = completions-most fs k valid (put a) (length-set cs (j - 1) (Fixed a) ∙ long)
+      at-most : (a : ℕ) → fixingMore faults fs k groups (put a) ≡ greatest (scenarioResponse faults fs k) (completions fs k (put a))
+      at-most a = completions-most fs k faults valid (put a) (length-set cs (j - 1) (Fixed a) ∙ long)
 
       -- No scenario with an alignment exceeds the claim: there is none with it.
-      none-with : (a : ℕ) → fixingMore fs k groups (put a) ≤ claim → firstAmong fs k claim (completions fs k (put a)) ≡ noCase
-      none-with a within = among-none fs k claim (completions fs k (put a)) (λ ds m. le-trans (le-greatest (scenarioResponse fs k) m) (rw (at-most a) at within))
+      none-with : (a : ℕ) → fixingMore faults fs k groups (put a) ≤ claim → firstAmong faults fs k claim (completions fs k (put a)) ≡ noCase
+      none-with a within = among-none faults fs k claim (completions fs k (put a)) (λ ds m. le-trans (le-greatest (scenarioResponse faults fs k) m) (rw (at-most a) at within))
 
       -- One does: there is one.
-      some-with : (a : ℕ) → claim < fixingMore fs k groups (put a) → Exists (firstAmong fs k claim (completions fs k (put a)))
+      some-with : (a : ℕ) → claim < fixingMore faults fs k groups (put a) → Exists (firstAmong faults fs k claim (completions fs k (put a)))
       some-with a over =
-          let (ds, m, more) = greatest-exceeds (scenarioResponse fs k) claim (completions fs k (put a)) (rw (at-most a) at over) in
-          among-some fs k claim m more
+          let (ds, m, more) = greatest-exceeds (scenarioResponse faults fs k) claim (completions fs k (put a)) (rw (at-most a) at over) in
+          among-some faults fs k claim m more
 
-      with-cons : (a : ℕ) (als : List ℕ) → firstWith fs k claim cs j (a ∷ als) ≡ orElse (firstAmong fs k claim (completions fs k (put a))) (firstWith fs k claim cs j als)
+      with-cons : (a : ℕ) (als : List ℕ) → firstWith faults fs k claim cs j (a ∷ als) ≡ orElse (firstAmong faults fs k claim (completions fs k (put a))) (firstWith faults fs k claim cs j als)
       unfolding firstWith flatMap
-      with-cons a als = among-append fs k claim (completions fs k (put a)) _
+      with-cons a als = among-append faults fs k claim (completions fs k (put a)) _
 
       -- An alignment with which none exceeds is passed over;
-      pub with-skip : (a : ℕ) (als : List ℕ) → fixingMore fs k groups (put a) ≤ claim → firstWith fs k claim cs j (a ∷ als) ≡ firstWith fs k claim cs j als
+      pub with-skip : (a : ℕ) (als : List ℕ) → fixingMore faults fs k groups (put a) ≤ claim → firstWith faults fs k claim cs j (a ∷ als) ≡ firstWith faults fs k claim cs j als
       with-skip a als within =
-          with-cons a als ∙ else-second (firstAmong fs k claim (completions fs k (put a))) (firstWith fs k claim cs j als) (ap (λ (c : Case). c .instance) (none-with a within) ∙ no-instance)
+          with-cons a als ∙ else-second (firstAmong faults fs k claim (completions fs k (put a))) (firstWith faults fs k claim cs j als) (ap (λ (c : Case). c .instance) (none-with a within) ∙ no-instance)
 
       -- the first with which one does is taken.
-      pub with-take : (a : ℕ) (als : List ℕ) → claim < fixingMore fs k groups (put a) → firstWith fs k claim cs j (a ∷ als) ≡ firstAmong fs k claim (completions fs k (put a))
-      with-take a als over = with-cons a als ∙ else-first (firstAmong fs k claim (completions fs k (put a))) (firstWith fs k claim cs j als) (some-with a over)
+      pub with-take : (a : ℕ) (als : List ℕ) → claim < fixingMore faults fs k groups (put a) → firstWith faults fs k claim cs j (a ∷ als) ≡ firstAmong faults fs k claim (completions fs k (put a))
+      with-take a als over = with-cons a als ∙ else-first (firstAmong faults fs k claim (completions fs k (put a))) (firstWith faults fs k claim cs j als) (some-with a over)
 
       -- The last one is taken untested: where none exceeds with it, there is none.
-      pub with-last : (a : ℕ) → firstWith fs k claim cs j (a ∷ []) ≡ firstAmong fs k claim (completions fs k (put a))
+      pub with-last : (a : ℕ) → firstWith faults fs k claim cs j (a ∷ []) ≡ firstAmong faults fs k claim (completions fs k (put a))
       unfolding firstWith flatMap
-      with-last a = ap (firstAmong fs k claim) (append-nil (completions fs k (put a)))
+      with-last a = ap (firstAmong faults fs k claim) (append-nil (completions fs k (put a)))
 
       -- Where none exceeds with any of them, there is none,
-      with-within : (als : List ℕ) → ((a : ℕ) → Mem a als → fixingMore fs k groups (put a) ≤ claim) → firstWith fs k claim cs j als ≡ noCase
+      with-within : (als : List ℕ) → ((a : ℕ) → Mem a als → fixingMore faults fs k groups (put a) ≤ claim) → firstWith faults fs k claim cs j als ≡ noCase
       unfolding firstWith flatMap firstAmong
       with-within [] within = refl
       with-within (a ∷ als) within = with-skip a als (within a (here refl)) ∙ with-within als (λ b m. within b (there m))
 
       -- and where there is none, none exceeds.
-      within-of : (als : List ℕ) → firstWith fs k claim cs j als .instance ≡ Nothing → (a : ℕ) → Mem a als → fixingMore fs k groups (put a) ≤ claim
+      within-of : (als : List ℕ) → firstWith faults fs k claim cs j als .instance ≡ Nothing → (a : ℕ) → Mem a als → fixingMore faults fs k groups (put a) ≤ claim
       within-of [] none a m = absurd (List·Memᴰ·not-nil m)
       within-of (b ∷ als) none a m =
-          elim (decLe (fixingMore fs k groups (put b)) claim) [
+          elim (decLe (fixingMore faults fs k groups (put b)) claim) [
             | yes within ↦ elim (List·Memᴰ·cases-cons m) [
               | inl e ↦ rw e within
               | inr n ↦ within-of als (sym (ap (λ (c : Case). c .instance) (with-skip b als within)) ∙ none) a n
             ]
             | no over ↦
-                let exceeds : claim < fixingMore fs k groups (put b) = omega arith in
+                let exceeds : claim < fixingMore faults fs k groups (put b) = omega arith in
                 let (q, e) = some-with b exceeds in
                 absurd (none-at (sym none ∙ ap (λ (c : Case). c .instance) (with-take b als exceeds) ∙ e))
           ]
 
-      with-append : (als bls : List ℕ) → firstWith fs k claim cs j (als ++ bls) ≡ orElse (firstWith fs k claim cs j als) (firstWith fs k claim cs j bls)
+      with-append : (als bls : List ℕ) → firstWith faults fs k claim cs j (als ++ bls) ≡ orElse (firstWith faults fs k claim cs j als) (firstWith faults fs k claim cs j bls)
       unfolding firstWith
       with-append als bls =
           let at : ℕ → List (List Choice) = λ a. completions fs k (put a) in
-          ap (firstAmong fs k claim) (flatMap-append at als bls) ∙ among-append fs k claim (flatMap at als) (flatMap at bls)
+          ap (firstAmong faults fs k claim) (flatMap-append at als bls) ∙ among-append faults fs k claim (flatMap at als) (flatMap at bls)
 
       -- More alignments add nothing, if none of them exceeds unless one before does.
-      with-more : (als bls : List ℕ) → (((a : ℕ) → Mem a als → fixingMore fs k groups (put a) ≤ claim) → (a : ℕ) → Mem a bls → fixingMore fs k groups (put a) ≤ claim)
-          → firstWith fs k claim cs j als ≡ firstWith fs k claim cs j (als ++ bls)
-      with-more als bls follows = go (firstWith fs k claim cs j als .instance) refl
+      with-more : (als bls : List ℕ) → (((a : ℕ) → Mem a als → fixingMore faults fs k groups (put a) ≤ claim) → (a : ℕ) → Mem a bls → fixingMore faults fs k groups (put a) ≤ claim)
+          → firstWith faults fs k claim cs j als ≡ firstWith faults fs k claim cs j (als ++ bls)
+      with-more als bls follows = go (firstWith faults fs k claim cs j als .instance) refl
         where
-          go : (r : Found) → firstWith fs k claim cs j als .instance ≡ r → firstWith fs k claim cs j als ≡ firstWith fs k claim cs j (als ++ bls)
-          go (At q) e = sym (with-append als bls ∙ else-first (firstWith fs k claim cs j als) (firstWith fs k claim cs j bls) (q, e))
+          go : (r : Found) → firstWith faults fs k claim cs j als .instance ≡ r → firstWith faults fs k claim cs j als ≡ firstWith faults fs k claim cs j (als ++ bls)
+          go (At q) e = sym (with-append als bls ∙ else-first (firstWith faults fs k claim cs j als) (firstWith faults fs k claim cs j bls) (q, e))
           go Nothing e =
               let within = within-of als e in
-              with-within als within ∙ sym (with-append als bls ∙ else-second (firstWith fs k claim cs j als) (firstWith fs k claim cs j bls) e ∙ with-within bls (follows within))
+              with-within als within ∙ sym (with-append als bls ∙ else-second (firstWith faults fs k claim cs j als) (firstWith faults fs k claim cs j bls) e ∙ with-within bls (follows within))
 
     -- Among all alignments it is the first.
-    pub with-all : {j : ℕ} → Prefix j cs → Mem j (range 1 groups) → firstWith fs k claim cs j (orEmpty (alignments fs k j)) ≡ firstAmong fs k claim (completions fs k cs)
+    pub with-all : {j : ℕ} → Prefix j cs → Mem j (range 1 groups) → firstWith faults fs k claim cs j (orEmpty (alignments fs k j)) ≡ firstAmong faults fs k claim (completions fs k cs)
     unfolding firstWith
-    with-all p listed = ap (firstAmong fs k claim) (sym (completions-split fs k cs p listed))
+    with-all p listed = ap (firstAmong faults fs k claim) (sym (completions-split fs k cs p listed))
 
 -- ---- the alignments of the first turn suffice
 
@@ -247,17 +248,17 @@ module _ {fs : List Frame} (valid : Valid fs) {k : ℕ} (inside : k < length fs)
   same-open a b = keep-same (fixingOrder f) (λ i m. open-set cs long listed a (order-group self m) ∙ sym (open-set cs long listed b (order-group self m)))
 
   -- The greatest response with an alignment is that with the same one of the first turn.
-  pub more-alike : (m a : ℕ) → fixingMore fs f m (here-at (a % turn fs f j)) ≡ fixingMore fs f m (here-at a)
+  pub more-alike : (faults : Faults) (m a : ℕ) → fixingMore faults fs f m (here-at (a % turn fs f j)) ≡ fixingMore faults fs f m (here-at a)
   unfolding fixingMore
-  more-alike m a =
-      ap (λ (js : List ℕ). refined fs f (take m js) (here-at (a % turn fs f j))) (same-open (a % turn fs f j) a)
-      ∙ refined-alike valid inside (take m (openGroups f (here-at a))) (λ i l. open-groups self (here-at a) (here-long a) .group i (of-take m (openGroups f (here-at a)) l))
+  more-alike faults m a =
+      ap (λ (js : List ℕ). refined faults fs f (take m js) (here-at (a % turn fs f j))) (same-open (a % turn fs f j) a)
+      ∙ refined-alike valid inside faults (take m (openGroups f (here-at a))) (λ i l. open-groups self (here-at a) (here-long a) .group i (of-take m (openGroups f (here-at a)) l))
       (here-at (a % turn fs f j)) (here-at a) (alike-turn valid inside cs long j listed a) (here-long (a % turn fs f j)) (here-long a)
 
   -- The first case with an alignment of the group is one with an alignment of its first turn.
-  pub with-turn : (claim : ℕ) → firstWith fs f claim cs j (orEmpty (firstTurn fs f j)) ≡ firstWith fs f claim cs j (orEmpty (alignments fs f j))
+  pub with-turn : (faults : Faults) (claim : ℕ) → firstWith faults fs f claim cs j (orEmpty (firstTurn fs f j)) ≡ firstWith faults fs f claim cs j (orEmpty (alignments fs f j))
   unfolding alignments firstTurn orEmpty
-  with-turn claim = go (firstTurn fs f j) refl (alignments fs f j) refl
+  with-turn faults claim = go (firstTurn fs f j) refl (alignments fs f j) refl
     where
       later : List ℕ
       later = keep (isAlignment fs f j) (range (turn fs f j) (hyperperiod (ofGroup fs j) - turn fs f j))
@@ -269,53 +270,53 @@ module _ {fs : List Frame} (valid : Valid fs) {k : ℕ} (inside : k < length fs)
           = rw zero-add at (range-append 0 (turn fs f j) (hyperperiod (ofGroup fs j) - turn fs f j)) in
           ap (λ (n : ℕ). keep (isAlignment fs f j) (range 0 n)) (sym all) ∙ ap (keep (isAlignment fs f j)) parts ∙ keep-append (isAlignment fs f j) (range 0 (turn fs f j)) (range (turn fs f j) (hyperperiod (ofGroup fs j) - turn fs f j))
 
-      follows : ((a : ℕ) → Mem a (firstTurn fs f j) → fixingMore fs f groups (here-at a) ≤ claim) → (a : ℕ) → Mem a later → fixingMore fs f groups (here-at a) ≤ claim
-      follows within a m = rw (more-alike groups a) at (within (a % turn fs f j) (turned-alignment valid f j (rw split (Memᴰ·append-right (firstTurn fs f j) m))))
+      follows : ((a : ℕ) → Mem a (firstTurn fs f j) → fixingMore faults fs f groups (here-at a) ≤ claim) → (a : ℕ) → Mem a later → fixingMore faults fs f groups (here-at a) ≤ claim
+      follows within a m = rw (more-alike faults groups a) at (within (a % turn fs f j) (turned-alignment valid f j (rw split (Memᴰ·append-right (firstTurn fs f j) m))))
 
-      go : (xs : List ℕ) → firstTurn fs f j ≡ xs → (ys : List ℕ) → alignments fs f j ≡ ys → firstWith fs f claim cs j (orEmpty xs) ≡ firstWith fs f claim cs j (orEmpty ys)
+      go : (xs : List ℕ) → firstTurn fs f j ≡ xs → (ys : List ℕ) → alignments fs f j ≡ ys → firstWith faults fs f claim cs j (orEmpty xs) ≡ firstWith faults fs f claim cs j (orEmpty ys)
       go [] e [] e′ = refl
       go [] e (y ∷ ys) e′ = absurd (List·Memᴰ·not-nil (subst (Mem _) e (turned-alignment valid f j (subst (Mem y) (sym e′) (here refl)))))
       go (x ∷ xs) e [] e′ = absurd (List·Memᴰ·not-nil (subst (Mem x) e′ (first-alignment valid f j (subst (Mem x) (sym e) (here refl)))))
-      go (x ∷ xs) e (y ∷ ys) e′ = with-more fs f claim cs self long j (x ∷ xs) later (λ w. follows (rw e w)) ∙ ap (firstWith fs f claim cs j) (sym (sym e′ ∙ split ∙ ap (λ zs. zs ++ later) e))
+      go (x ∷ xs) e (y ∷ ys) e′ = with-more faults fs f claim cs self long j (x ∷ xs) later (λ w. follows (rw e w)) ∙ ap (firstWith faults fs f claim cs j) (sym (sym e′ ∙ split ∙ ap (λ zs. zs ++ later) e))
 
 -- ---- a visit of the group's alignments
 
-module _ {fs : List Frame} (valid : Valid fs) {k : ℕ} (inside : k < length fs) (claim : ℕ) (cs : List Choice) where
+module _ (faults : Faults) {fs : List Frame} (valid : Valid fs) {k : ℕ} (inside : k < length fs) (claim : ℕ) (cs : List Choice) where
   abbrev h : Frame
   h = row fs k
 
   -- It stands at a: with none before a does a response exceed the claim.
   pub record Trying (j a : ℕ) : Type 0 where
-    pub walk : Walk {A = ℕ} (firstWith fs h claim cs j) (λ n c. c) (isAlignment fs h j) (turn fs h j) (firstAmong fs h claim (completions fs h cs)) 0 a
+    pub walk : Walk {A = ℕ} (firstWith faults fs h claim cs j) (λ n c. c) (isAlignment fs h j) (turn fs h j) (firstAmong faults fs h claim (completions fs h cs)) 0 a
     pub listed : Mem a (orEmpty (alignments fs h j))
 
   -- It starts at the first.
   pub try-first : {j : ℕ} → Prefix j cs → Mem j (range 1 groups) → (first : Found) → first ≡ least (isAlignment fs h j) (turn fs h j - 0) 0 → Trying j (orZero first)
   try-first {j} p listed first is =
       record {
-        walk = visit-first (firstWith fs h claim cs j) (λ n c. c) (firstAmong fs h claim (completions fs h cs)) valid h j {done = 0} first is
-            (with-turn valid inside cs (p .long) j listed claim ∙ with-all fs h claim cs p listed);
+        walk = visit-first (firstWith faults fs h claim cs j) (λ n c. c) (firstAmong faults fs h claim (completions fs h cs)) valid h j {done = 0} first is
+            (with-turn valid inside cs (p .long) j listed faults claim ∙ with-all faults fs h claim cs p listed);
         listed = first-listed valid h j first is;
       }
 
   module _ (long : length cs ≡ groups) {j a : ℕ} (try : Trying j a) where
     -- It ends where a response exceeds the claim,
-    pub try-take : claim < fixingMore fs h groups (set cs (j - 1) (Fixed a)) → firstAmong fs h claim (completions fs h cs) ≡ firstAmong fs h claim (completions fs h (set cs (j - 1) (Fixed a)))
-    try-take over = sym (try .walk .is) ∙ with-take fs h claim cs (valid .frame k inside) long j a _ over
+    pub try-take : claim < fixingMore faults fs h groups (set cs (j - 1) (Fixed a)) → firstAmong faults fs h claim (completions fs h cs) ≡ firstAmong faults fs h claim (completions fs h (set cs (j - 1) (Fixed a)))
+    try-take over = sym (try .walk .is) ∙ with-take faults fs h claim cs (valid .frame k inside) long j a _ over
 
     -- or at the last;
     pub try-last : least (isAlignment fs h j) (turn fs h j - (a + 1)) (a + 1) ≡ Nothing
-        → firstAmong fs h claim (completions fs h cs) ≡ firstAmong fs h claim (completions fs h (set cs (j - 1) (Fixed a)))
+        → firstAmong faults fs h claim (completions fs h cs) ≡ firstAmong faults fs h claim (completions fs h (set cs (j - 1) (Fixed a)))
     try-last none =
         let over : least (isAlignment fs h j) (turn fs h j - suc a) (suc a) ≡ Nothing = rw add-one at none in
-        sym (try .walk .is) ∙ ap (λ (als : List ℕ). firstWith fs h claim cs j (a ∷ als)) (keep-end (isAlignment fs h j) (turn fs h j) (suc a) over)
-        ∙ with-last fs h claim cs (valid .frame k inside) long j a
+        sym (try .walk .is) ∙ ap (λ (als : List ℕ). firstWith faults fs h claim cs j (a ∷ als)) (keep-end (isAlignment fs h j) (turn fs h j) (suc a) over)
+        ∙ with-last faults fs h claim cs (valid .frame k inside) long j a
 
     -- otherwise it goes on to the next.
-    pub try-next : fixingMore fs h groups (set cs (j - 1) (Fixed a)) ≤ claim → {b : ℕ} → least (isAlignment fs h j) (turn fs h j - (a + 1)) (a + 1) ≡ At b → Trying j b
+    pub try-next : fixingMore faults fs h groups (set cs (j - 1) (Fixed a)) ≤ claim → {b : ℕ} → least (isAlignment fs h j) (turn fs h j - (a + 1)) (a + 1) ≡ At b → Trying j b
     try-next within found =
         record {
-          walk = walk-more (firstWith fs h claim cs j) (λ n c. c) (isAlignment fs h j) (turn fs h j) (firstAmong fs h claim (completions fs h cs)) {next = 0} (try .walk)
-              (λ als. with-skip fs h claim cs (valid .frame k inside) long j a als within) found;
+          walk = walk-more (firstWith faults fs h claim cs j) (λ n c. c) (isAlignment fs h j) (turn fs h j) (firstAmong faults fs h claim (completions fs h cs)) {next = 0} (try .walk)
+              (λ als. with-skip faults fs h claim cs (valid .frame k inside) long j a als within) found;
           listed = found-listed valid h j (a + 1) found;
         }

@@ -6,14 +6,15 @@ use native.Mathlib.Nat.{suc-mul}
 use Rattle.bus_model.specs.Valid.{Valid}
 use Rattle.bus_model.specs.Bounds.{delayLoad}
 use Rattle.bus_model.specs.theory.Frames.{better-ahead}
-use Rattle.bus_model.specs.theory.Work.{work-mono}
+use Rattle.bus_model.specs.theory.Work.{work-mono, fault-mono}
 use Rattle.bus_model.specs.declared.Frame.{Frame}
+use Rattle.bus_model.specs.declared.Faults.{Faults}
 use Rattle.bus_model.specs.declared.Choice.{Choice}
 
-module _ {fs : List Frame} (valid : Valid fs) (k : Frame) (cs : List Choice) where
+module _ (faults : Faults) {fs : List Frame} (valid : Valid fs) (k : Frame) (cs : List Choice) where
   -- no delay is below x
   abbrev pub DelayFrom : ℕ → ℕ → Type 0
-  DelayFrom q x = (w : ℕ) → delayLoad fs k cs q w ≤ w → x ≤ w
+  DelayFrom q x = (w : ℕ) → delayLoad faults fs k cs q w ≤ w → x ≤ w
 
   -- No delay of the next instance is below one of this plus a length.
   pub delay-next : (q x : ℕ) → DelayFrom q x → DelayFrom (suc q) (x + k .length)
@@ -21,4 +22,6 @@ module _ {fs : List Frame} (valid : Valid fs) (k : Frame) (cs : List Choice) whe
   delay-next q x from w allows =
       let earlier : suc (w - k .length) ≤ suc w = omega arith in
       let less = work-mono earlier fs valid k (better-ahead fs k) cs in
+      let whole : w - k .length + k .length ≤ w + k .length = omega arith in
+      let cut = fault-mono whole faults fs k in
       omega (arith, suc-mul q (k .length), from (w - k .length) (omega (arith, suc-mul q (k .length))))

@@ -15,7 +15,7 @@ use Rattle.arith.specs.laws.Members.{exists-mem}
 use Rattle.arith.specs.laws.Tests.{cond-yes, cond-cases}
 use Rattle.arith.specs.laws.Least.{not-none}
 use Rattle.bus_model.specs.Frame.{row}
-use Rattle.bus_model.specs.Valid.{Valid}
+use Rattle.bus_model.specs.Valid.{Valid, ValidFaults}
 use Rattle.bus_model.specs.Bus.{MeetsClaim}
 use Rattle.bus_model.specs.Bounds.{windowLimit, ownGroup, everyGroup, busyWindow, approximateBound, preciseBound}
 use Rattle.bus_model.specs.Levels.{levelBound}
@@ -24,37 +24,39 @@ use Rattle.bus_model.specs.theory.Scenarios.{Windowed, bound-le-limit, w
 use Rattle.bus_model.specs.theory.Soundness.{sound-approximate, sound-precise}
 use Rattle.bus_model.specs.theory.Levels.{sound-level, level-le-limit}
 use Rattle.bus_model.specs.declared.Frame.{Frame}
+use Rattle.bus_model.specs.declared.Faults.{Faults}
+use Rattle.bus_model.specs.declared.Faults.the-variants.{Never}
 use Rattle.bus_model.specs.declared.Outcome.{Outcome}
 use Rattle.bus_model.specs.declared.Outcome.the-variants.{CertifiedApproximate, CertifiedPrecise, ClaimTooSmall, CertifiedLevel, Undecided, NoWindow}
 
 -- The approximate scenarios have windows where none lacks one.
-pub has-windows : (fs : List Frame) (k : Frame) → ¬ T (lacksWindow fs k) → Windowed fs k (ownGroup k)
+pub has-windows : (faults : Faults) (fs : List Frame) (k : Frame) → ¬ T (lacksWindow faults fs k) → Windowed faults fs k (ownGroup k)
 unfolding lacksWindow
-has-windows fs k has cs m = not-none (busyWindow fs k cs) (λ t. has (exists-mem _ m t))
+has-windows faults fs k has cs m = not-none (busyWindow faults fs k cs) (λ t. has (exists-mem _ m t))
 
 -- A frame whose verdict is not 11 lacks none.
-pub not-lacking : (fs : List Frame) (k : Frame) (claim : ℕ) → verdict (judge fs k claim .outcome) ≢ 11 → ¬ T (lacksWindow fs k)
+pub not-lacking : (faults : Faults) (fs : List Frame) (k : Frame) (claim : ℕ) → verdict (judge faults fs k claim .outcome) ≢ 11 → ¬ T (lacksWindow faults fs k)
 unfolding judge outcomeOf verdict
-not-lacking fs k claim other t = other (ap verdict (cond-yes (lacksWindow fs k) NoWindow (windowedOutcome fs k claim) t))
+not-lacking faults fs k claim other t = other (ap verdict (cond-yes (lacksWindow faults fs k) NoWindow (windowedOutcome faults fs k claim) t))
 
 -- What holds of an outcome in each of document 01's cases holds of the outcome.
-pub by-outcome : (P : Outcome → Type 0) (fs : List Frame) (k : Frame) (claim : ℕ)
-    → (T (lacksWindow fs k) → P NoWindow)
-    → (Windowed fs k (ownGroup k) → approximateBound fs k ≤ claim → P (CertifiedApproximate (approximateBound fs k)))
-    → (Windowed fs k (ownGroup k) → claim < approximateBound fs k → T (tooManyScenarios fs k) → levelBound fs k (deepestLevel fs k) ≤ claim → P (CertifiedLevel (levelBound fs k (deepestLevel fs k))))
-    → (Windowed fs k (ownGroup k) → claim < approximateBound fs k → T (tooManyScenarios fs k) → claim < levelBound fs k (deepestLevel fs k) → P (Undecided (approximateBound fs k)))
-    → (Windowed fs k (ownGroup k) → claim < approximateBound fs k → ¬ T (tooManyScenarios fs k) → preciseBound fs k ≤ claim → P (CertifiedPrecise (preciseBound fs k)))
-    → (Windowed fs k (ownGroup k) → claim < approximateBound fs k → ¬ T (tooManyScenarios fs k) → claim < preciseBound fs k → P (ClaimTooSmall (preciseBound fs k)))
-    → P (outcomeOf fs k claim)
+pub by-outcome : (P : Outcome → Type 0) (faults : Faults) (fs : List Frame) (k : Frame) (claim : ℕ)
+    → (T (lacksWindow faults fs k) → P NoWindow)
+    → (Windowed faults fs k (ownGroup k) → approximateBound faults fs k ≤ claim → P (CertifiedApproximate (approximateBound faults fs k)))
+    → (Windowed faults fs k (ownGroup k) → claim < approximateBound faults fs k → T (tooManyScenarios fs k) → levelBound faults fs k (deepestLevel fs k) ≤ claim → P (CertifiedLevel (levelBound faults fs k (deepestLevel fs k))))
+    → (Windowed faults fs k (ownGroup k) → claim < approximateBound faults fs k → T (tooManyScenarios fs k) → claim < levelBound faults fs k (deepestLevel fs k) → P (Undecided (approximateBound faults fs k)))
+    → (Windowed faults fs k (ownGroup k) → claim < approximateBound faults fs k → ¬ T (tooManyScenarios fs k) → preciseBound faults fs k ≤ claim → P (CertifiedPrecise (preciseBound faults fs k)))
+    → (Windowed faults fs k (ownGroup k) → claim < approximateBound faults fs k → ¬ T (tooManyScenarios fs k) → claim < preciseBound faults fs k → P (ClaimTooSmall (preciseBound faults fs k)))
+    → P (outcomeOf faults fs k claim)
 unfolding outcomeOf windowedOutcome refinedOutcome crowdedOutcome preciseOutcome
-by-outcome P fs k claim lacking approximate level undecided precise small =
-    cond-cases P (lacksWindow fs k) lacking (λ has.
-    let windows = has-windows fs k has in
-    cond-cases P (leb (approximateBound fs k) claim) (λ t. approximate windows (leb→le _ _ t)) (λ more.
-    let exceeds : claim < approximateBound fs k = not-leb more in
+by-outcome P faults fs k claim lacking approximate level undecided precise small =
+    cond-cases P (lacksWindow faults fs k) lacking (λ has.
+    let windows = has-windows faults fs k has in
+    cond-cases P (leb (approximateBound faults fs k) claim) (λ t. approximate windows (leb→le _ _ t)) (λ more.
+    let exceeds : claim < approximateBound faults fs k = not-leb more in
     cond-cases P (tooManyScenarios fs k) (λ many.
-    cond-cases P (leb (levelBound fs k (deepestLevel fs k)) claim) (λ t. level windows exceeds many (leb→le _ _ t)) (λ more′. undecided windows exceeds many (not-leb more′))) (λ few.
-    cond-cases P (leb (preciseBound fs k) claim) (λ t. precise windows exceeds few (leb→le _ _ t)) (λ more′. small windows exceeds few (not-leb more′)))))
+    cond-cases P (leb (levelBound faults fs k (deepestLevel fs k)) claim) (λ t. level windows exceeds many (leb→le _ _ t)) (λ more′. undecided windows exceeds many (not-leb more′))) (λ few.
+    cond-cases P (leb (preciseBound faults fs k) claim) (λ t. precise windows exceeds few (leb→le _ _ t)) (λ more′. small windows exceeds few (not-leb more′)))))
   where
     not-leb : {b : ℕ} → ¬ T (leb b claim) → claim < b
     not-leb {b} h = let less : ¬ (b ≤ claim) = λ le. h (le→leb b claim le) in omega arith
@@ -62,34 +64,34 @@ by-outcome P fs k claim lacking approximate level undecided precise small =
 -- ---- the levels between the bounds
 
 -- the outcome without them, as document 01 alone gives it
-unfoldable pub plainOutcome : List Frame → Frame → ℕ → Outcome
-plainOutcome fs k claim =
-    let b = approximateBound fs k in
-    cond (lacksWindow fs k) NoWindow (cond (leb b claim) (CertifiedApproximate b) (cond (tooManyScenarios fs k) (Undecided b) (preciseOutcome fs k claim)))
+unfoldable pub plainOutcome : Faults → List Frame → Frame → ℕ → Outcome
+plainOutcome faults fs k claim =
+    let b = approximateBound faults fs k in
+    cond (lacksWindow faults fs k) NoWindow (cond (leb b claim) (CertifiedApproximate b) (cond (tooManyScenarios fs k) (Undecided b) (preciseOutcome faults fs k claim)))
 
-module _ (fs : List Frame) (k : Frame) (claim : ℕ) where
+module _ (faults : Faults) (fs : List Frame) (k : Frame) (claim : ℕ) where
   -- "Other verdicts are untouched".
-  pub untouched : verdict (plainOutcome fs k claim) ≢ 12 → outcomeOf fs k claim ≡ plainOutcome fs k claim
+  pub untouched : verdict (plainOutcome faults fs k claim) ≢ 12 → outcomeOf faults fs k claim ≡ plainOutcome faults fs k claim
   unfolding plainOutcome outcomeOf windowedOutcome refinedOutcome verdict
-  untouched other = go (lacksWindow fs k) (leb (approximateBound fs k) claim) (tooManyScenarios fs k) other
+  untouched other = go (lacksWindow faults fs k) (leb (approximateBound faults fs k) claim) (tooManyScenarios fs k) other
     where
-      go : (lacks fits many : Bool) → verdict (cond lacks NoWindow (cond fits (CertifiedApproximate (approximateBound fs k)) (cond many (Undecided (approximateBound fs k)) (preciseOutcome fs k claim)))) ≢ 12
-          → cond lacks NoWindow (cond fits (CertifiedApproximate (approximateBound fs k)) (cond many (crowdedOutcome fs k claim (approximateBound fs k)) (preciseOutcome fs k claim)))
-          ≡ cond lacks NoWindow (cond fits (CertifiedApproximate (approximateBound fs k)) (cond many (Undecided (approximateBound fs k)) (preciseOutcome fs k claim)))
+      go : (lacks fits many : Bool) → verdict (cond lacks NoWindow (cond fits (CertifiedApproximate (approximateBound faults fs k)) (cond many (Undecided (approximateBound faults fs k)) (preciseOutcome faults fs k claim)))) ≢ 12
+          → cond lacks NoWindow (cond fits (CertifiedApproximate (approximateBound faults fs k)) (cond many (crowdedOutcome faults fs k claim (approximateBound faults fs k)) (preciseOutcome faults fs k claim)))
+          ≡ cond lacks NoWindow (cond fits (CertifiedApproximate (approximateBound faults fs k)) (cond many (Undecided (approximateBound faults fs k)) (preciseOutcome faults fs k claim)))
       go true fits many h = refl
       go false true many h = refl
       go false false true h = absurd (h refl)
       go false false false h = refl
 
   -- "Where 12 was given", the deepest level decides.
-  pub levels-decide : verdict (plainOutcome fs k claim) ≡ 12 → outcomeOf fs k claim ≡ crowdedOutcome fs k claim (approximateBound fs k)
+  pub levels-decide : verdict (plainOutcome faults fs k claim) ≡ 12 → outcomeOf faults fs k claim ≡ crowdedOutcome faults fs k claim (approximateBound faults fs k)
   unfolding plainOutcome outcomeOf windowedOutcome refinedOutcome preciseOutcome verdict
-  levels-decide undecided = go (lacksWindow fs k) (leb (approximateBound fs k) claim) (tooManyScenarios fs k) (leb (preciseBound fs k) claim) undecided
+  levels-decide undecided = go (lacksWindow faults fs k) (leb (approximateBound faults fs k) claim) (tooManyScenarios fs k) (leb (preciseBound faults fs k) claim) undecided
     where
       go : (lacks fits many small : Bool)
-          → verdict (cond lacks NoWindow (cond fits (CertifiedApproximate (approximateBound fs k)) (cond many (Undecided (approximateBound fs k)) (cond small (CertifiedPrecise (preciseBound fs k)) (ClaimTooSmall (preciseBound fs k)))))) ≡ 12
-          → cond lacks NoWindow (cond fits (CertifiedApproximate (approximateBound fs k)) (cond many (crowdedOutcome fs k claim (approximateBound fs k)) (cond small (CertifiedPrecise (preciseBound fs k)) (ClaimTooSmall (preciseBound fs k)))))
-          ≡ crowdedOutcome fs k claim (approximateBound fs k)
+          → verdict (cond lacks NoWindow (cond fits (CertifiedApproximate (approximateBound faults fs k)) (cond many (Undecided (approximateBound faults fs k)) (cond small (CertifiedPrecise (preciseBound faults fs k)) (ClaimTooSmall (preciseBound faults fs k)))))) ≡ 12
+          → cond lacks NoWindow (cond fits (CertifiedApproximate (approximateBound faults fs k)) (cond many (crowdedOutcome faults fs k claim (approximateBound faults fs k)) (cond small (CertifiedPrecise (preciseBound faults fs k)) (ClaimTooSmall (preciseBound faults fs k)))))
+          ≡ crowdedOutcome faults fs k claim (approximateBound faults fs k)
       go true fits many small e = absurd (omega arith)
       go false true many small e = absurd (omega arith)
       go false false true small e = refl
@@ -112,10 +114,10 @@ margin-positive {b = zero} le = not-below _
 margin-positive {claim} {b = suc b} le = rw (le-ltb claim (suc b) le) (not-below _)
 
 -- The margin is negative exactly for verdicts 3 and 12.
-pub margin-sign : (fs : List Frame) (k : Frame) (claim : ℕ) → MarginSign (judge fs k claim)
+pub margin-sign : (faults : Faults) (fs : List Frame) (k : Frame) (claim : ℕ) → MarginSign (judge faults fs k claim)
 unfolding judge marginOf verdict
-margin-sign fs k claim =
-    by-outcome (λ o. (marginOf claim o <ℤ pos 0) ↔ ((verdict o ≡ 3) ⊎ (verdict o ≡ 12))) fs k claim
+margin-sign faults fs k claim =
+    by-outcome (λ o. (marginOf claim o <ℤ pos 0) ↔ ((verdict o ≡ 3) ⊎ (verdict o ≡ 12))) faults fs k claim
     (λ lacks. (λ t. absurd (not-below 0 t), elim [ inl e ↦ omega arith | inr e ↦ omega arith ]))
     (λ windows le. (λ t. absurd (margin-positive le t), elim [ inl e ↦ absurd (omega arith) | inr e ↦ absurd (omega arith) ]))
     (λ windows exceeds many le. (λ t. absurd (margin-positive le t), elim [ inl e ↦ absurd (omega arith) | inr e ↦ absurd (omega arith) ]))
@@ -139,17 +141,22 @@ module _ {fs : List Frame} (valid : Valid fs) {k : ℕ} (inside : k < length fs)
   abbrev f : Frame
   f = row fs k
 
-  -- A frame that is certified meets its claim.
-  pub certified-meets : (claim : ℕ) → T (certifies (judge fs f claim .outcome)) → MeetsClaim fs k claim
+  -- A frame that is certified under a premise about faults meets its claim in every schedule under that premise.
+  pub certified-meets-under : (faults : Faults) → ValidFaults faults → (claim : ℕ) → T (certifies (judge faults fs f claim .outcome)) → MeetsClaim faults fs k claim
   unfolding judge verdict certifies
-  certified-meets claim =
-      by-outcome (λ o. T (certifies o) → MeetsClaim fs k claim) fs f claim
+  certified-meets-under faults fine claim =
+      by-outcome (λ o. T (certifies o) → MeetsClaim faults fs k claim) faults fs f claim
       (λ lacks t. absurd t)
-      (λ windows le t. sound-approximate valid inside windows claim le)
-      (λ windows exceeds many le t. sound-level valid inside windows (deepestLevel fs f) claim le)
+      (λ windows le t. sound-approximate valid inside faults fine windows claim le)
+      (λ windows exceeds many le t. sound-level valid inside faults fine windows (deepestLevel fs f) claim le)
       (λ windows less many over t. absurd t)
-      (λ windows exceeds few le t. sound-precise valid inside windows claim le)
+      (λ windows exceeds few le t. sound-precise valid inside faults fine windows claim le)
       (λ windows exceeds few less t. absurd t)
+
+  -- A frame that is certified meets its claim.
+  pub certified-meets : (claim : ℕ) → T (certifies (judge Never fs f claim .outcome)) → MeetsClaim Never fs k claim
+  unfolding ValidFaults
+  certified-meets = certified-meets-under Never tt
 
   -- ---- the bounds
 
@@ -157,23 +164,23 @@ module _ {fs : List Frame} (valid : Valid fs) {k : ℕ} (inside : k < length fs)
   own = eqb-refl (f .group)
 
   -- Where the approximate scenarios have windows, the precise ones have.
-  pub precise-windows : Windowed fs f (ownGroup f) → Windowed fs f everyGroup
-  precise-windows windows = windows-refine valid inside (ownGroup f) everyGroup (λ j t. tt) windows
+  pub precise-windows : (faults : Faults) → Windowed faults fs f (ownGroup f) → Windowed faults fs f everyGroup
+  precise-windows faults windows = windows-refine valid inside faults (ownGroup f) everyGroup (λ j t. tt) windows
 
   -- The precise bound is at most the approximate one.
-  pub precise-le-approximate : Windowed fs f (ownGroup f) → preciseBound fs f ≤ approximateBound fs f
-  precise-le-approximate windows = bound-refine valid inside (ownGroup f) everyGroup (λ j t. tt) windows own
+  pub precise-le-approximate : (faults : Faults) → Windowed faults fs f (ownGroup f) → preciseBound faults fs f ≤ approximateBound faults fs f
+  precise-le-approximate faults windows = bound-refine valid inside faults (ownGroup f) everyGroup (λ j t. tt) windows own
 
   -- The bound used is at most the longest window.
-  pub judged-le-limit : (claim : ℕ) → judge fs f claim .bound ≤ windowLimit
+  pub judged-le-limit : (faults : Faults) (claim : ℕ) → judge faults fs f claim .bound ≤ windowLimit
   unfolding judge boundUsed
-  judged-le-limit claim =
-      let approximate = bound-le-limit valid inside (ownGroup f) own in
-      let precise = bound-le-limit valid inside everyGroup tt in
-      by-outcome (λ o. boundUsed o ≤ windowLimit) fs f claim
+  judged-le-limit faults claim =
+      let approximate = bound-le-limit valid inside faults (ownGroup f) own in
+      let precise = bound-le-limit valid inside faults everyGroup tt in
+      by-outcome (λ o. boundUsed o ≤ windowLimit) faults fs f claim
       (λ lacks. omega arith)
       (λ windows le. approximate)
-      (λ windows exceeds many le. level-le-limit valid inside (deepestLevel fs f))
+      (λ windows exceeds many le. level-le-limit valid inside faults (deepestLevel fs f))
       (λ windows less many over. approximate)
       (λ windows exceeds few le. precise)
       (λ windows exceeds few less. precise)

@@ -22,6 +22,7 @@ use Rattle.bus_model.specs.theory.Order.{order-group}
 use Rattle.bus_model.specs.theory.Refine.{refined, free, listed-named, refined-bound}
 use Rattle.bus_model.specs.theory.OpenGroups.{fixingMore, all-open}
 use Rattle.bus_model.specs.declared.Frame.{Frame}
+use Rattle.bus_model.specs.declared.Faults.{Faults}
 
 module _ (fs : List Frame) {k : Frame} (valid : ValidFrame k) where
   -- what a level fixes are groups
@@ -30,11 +31,11 @@ module _ (fs : List Frame) {k : Frame} (valid : ValidFrame k) where
   level-groups m j l = order-group valid (of-take (suc m) (fixingOrder k) l)
 
   -- The bound of level m is found where m + 1 groups are fixed.
-  pub level-found : (m : ℕ) → fixingMore fs k (suc m) free ≡ levelBound fs k m
+  pub level-found : (faults : Faults) (m : ℕ) → fixingMore faults fs k (suc m) free ≡ levelBound faults fs k m
   unfolding fixingMore levelBound fixedAt
-  level-found m =
-      ap (λ (js : List ℕ). refined fs k (take (suc m) js) free) (all-open valid)
-      ∙ refined-bound fs k (fixes k m) (fixedAt k m) (listed-named (fixedAt k m) (level-groups m))
+  level-found faults m =
+      ap (λ (js : List ℕ). refined faults fs k (take (suc m) js) free) (all-open valid)
+      ∙ refined-bound fs k (fixes k m) (fixedAt k m) (listed-named (fixedAt k m) (level-groups m)) faults
 
 -- ---- the order by numbers
 

@@ -15,7 +15,7 @@ use Rattle.arith.specs.laws.Tests.{same-test}
 use Rattle.arith.specs.laws.Members.{apart-range, mem-keep, of-keep, take-more, named-mem, of-named, of-range, mem-range}
 use Rattle.arith.specs.laws.Sums.{le-greatest, greatest-le, product-take, product-first}
 use Rattle.bus_model.specs.Frame.{row}
-use Rattle.bus_model.specs.Valid.{ValidFrame, Valid}
+use Rattle.bus_model.specs.Valid.{ValidFrame, Valid, ValidFaults}
 use Rattle.bus_model.specs.Bus.{MeetsClaim}
 use Rattle.bus_model.specs.Bounds.{groups, windowLimit, scenarioCount, alignments, orEmpty, ownGroup, everyGroup, approximateBound, preciseBound}
 use Rattle.bus_model.specs.Levels.{fixingOrder, fixedAt, fixes, levelBound, levelCount}
@@ -25,6 +25,7 @@ use Rattle.bus_model.specs.theory.Order.{order-all, order-length}
 use Rattle.bus_model.specs.theory.Scenarios.{_⊆_, Windowed, bound-same, bound-le-limit, windows-refine, bound-refine}
 use Rattle.bus_model.specs.theory.Soundness.{sound}
 use Rattle.bus_model.specs.declared.Frame.{Frame}
+use Rattle.bus_model.specs.declared.Faults.{Faults}
 
 -- the last level, which fixes every group
 abbrev pub lastLevel : ℕ
@@ -60,14 +61,14 @@ module _ {k : Frame} (valid : ValidFrame k) where
 
 module _ (fs : List Frame) {k : Frame} (valid : ValidFrame k) where
   -- The first level's is the approximate bound,
-  pub level-first : levelBound fs k 0 ≡ approximateBound fs k
+  pub level-first : (faults : Faults) → levelBound faults fs k 0 ≡ approximateBound faults fs k
   unfolding levelBound
-  level-first = bound-same fs k (fixes k 0) (ownGroup k) (λ j m. fixes-first valid j)
+  level-first faults = bound-same faults fs k (fixes k 0) (ownGroup k) (λ j m. fixes-first valid j)
 
   -- the last one's is the precise bound.
-  pub level-last : levelBound fs k lastLevel ≡ preciseBound fs k
+  pub level-last : (faults : Faults) → levelBound faults fs k lastLevel ≡ preciseBound faults fs k
   unfolding levelBound
-  level-last = bound-same fs k (fixes k lastLevel) everyGroup (fixes-last valid)
+  level-last faults = bound-same faults fs k (fixes k lastLevel) everyGroup (fixes-last valid)
 
 module _ {fs : List Frame} (valid : Valid fs) {k : ℕ} (inside : k < length fs) where
   abbrev f : Frame
@@ -77,22 +78,22 @@ module _ {fs : List Frame} (valid : Valid fs) {k : ℕ} (inside : k < length fs)
   self = valid .frame k inside
 
   -- "No level's bound exceeds the one above it", where the approximate bound has windows.
-  pub level-refine : Windowed fs f (ownGroup f) → {m n : ℕ} → m ≤ n → levelBound fs f n ≤ levelBound fs f m
+  pub level-refine : (faults : Faults) → Windowed faults fs f (ownGroup f) → {m n : ℕ} → m ≤ n → levelBound faults fs f n ≤ levelBound faults fs f m
   unfolding levelBound
-  level-refine windows {m} {n} le =
-      bound-refine valid inside (fixes f m) (fixes f n) (fixes-deeper self le)
-      (windows-refine valid inside (ownGroup f) (fixes f m) (own-fixes self m) windows)
+  level-refine faults windows {m} {n} le =
+      bound-refine valid inside faults (fixes f m) (fixes f n) (fixes-deeper self le)
+      (windows-refine valid inside faults (ownGroup f) (fixes f m) (own-fixes self m) windows)
       (own-fixes self m (f .group) (eqb-refl (f .group)))
 
   -- Each is sound.
-  pub sound-level : Windowed fs f (ownGroup f) → (m claim : ℕ) → levelBound fs f m ≤ claim → MeetsClaim fs k claim
+  pub sound-level : (faults : Faults) → ValidFaults faults → Windowed faults fs f (ownGroup f) → (m claim : ℕ) → levelBound faults fs f m ≤ claim → MeetsClaim faults fs k claim
   unfolding levelBound
-  sound-level windows m = sound valid inside (fixes f m) (own-fixes self m) windows
+  sound-level faults fine windows m = sound valid inside faults fine (fixes f m) (own-fixes self m) windows
 
   -- None exceeds the longest window.
-  pub level-le-limit : (m : ℕ) → levelBound fs f m ≤ windowLimit
+  pub level-le-limit : (faults : Faults) (m : ℕ) → levelBound faults fs f m ≤ windowLimit
   unfolding levelBound
-  level-le-limit m = bound-le-limit valid inside (fixes f m) (own-fixes self m (f .group) (eqb-refl (f .group)))
+  level-le-limit faults m = bound-le-limit valid inside faults (fixes f m) (own-fixes self m (f .group) (eqb-refl (f .group)))
 
 -- ---- the deepest level that is looked at
 

@@ -1,5 +1,5 @@
 -- A search that fixes the open groups of a scenario one after the other: k's own first, then the others, rising.
--- From no group fixed it finds the bounds, each level's, and from some alignments the greatest response with these.
+-- From no group fixed it finds the bounds, and from some alignments the greatest response with these.
 use Prim.Native.Nat.{ℕ, zero, suc, _-_, _≤_, _<_}
 use mathlib.Core.Path.{_≡_, refl, sym, ap, subst, _∙_, fun-ext}
 use mathlib.Core.List.{List, [], _∷_, List·Memᴰ as Mem, List·Memᴰ·head as here, List·Memᴰ·tail as there}
@@ -28,6 +28,7 @@ use Rattle.bus_model.specs.theory.Turns.{firstTurn, refined-turn}
 use Rattle.arith.specs.declared.Found.{Found}
 use Rattle.arith.specs.declared.Found.the-variants.{At, Nothing}
 use Rattle.bus_model.specs.declared.Frame.{Frame}
+use Rattle.bus_model.specs.declared.Faults.{Faults}
 use Rattle.bus_model.specs.declared.Choice.{Choice}
 use Rattle.bus_model.specs.declared.Choice.the-variants.{Fixed, Any}
 
@@ -49,8 +50,8 @@ unfoldable pub nextOpen : Frame → List Choice → Found
 nextOpen k cs = cond (isOpen cs (k .group)) (At (k .group)) (least (isOpen cs) groups 1)
 
 -- the greatest response where m open groups more take each of their alignments
-unfoldable pub fixingMore : List Frame → Frame → ℕ → List Choice → ℕ
-fixingMore fs k m cs = refined fs k (take m (openGroups k cs)) cs
+unfoldable pub fixingMore : Faults → List Frame → Frame → ℕ → List Choice → ℕ
+fixingMore faults fs k m cs = refined faults fs k (take m (openGroups k cs)) cs
 
 -- ---- which groups are open
 
@@ -145,32 +146,32 @@ module _ {k : Frame} (valid : ValidFrame k) (cs : List Choice) (long : length cs
   -- ---- the search
 
   -- It ends where no more are to be fixed,
-  pub more-end : (fs : List Frame) → fixingMore fs k 0 cs ≡ scenarioResponse fs k cs
+  pub more-end : (faults : Faults) (fs : List Frame) → fixingMore faults fs k 0 cs ≡ scenarioResponse faults fs k cs
   unfolding fixingMore refined
-  more-end fs = refl
+  more-end faults fs = refl
 
   -- or where none is left.
-  pub more-none : (fs : List Frame) (m : ℕ) → nextOpen k cs ≡ Nothing → fixingMore fs k m cs ≡ scenarioResponse fs k cs
+  pub more-none : (faults : Faults) (fs : List Frame) (m : ℕ) → nextOpen k cs ≡ Nothing → fixingMore faults fs k m cs ≡ scenarioResponse faults fs k cs
   unfolding fixingMore refined
-  more-none fs m none = rw (open-none none) (go m)
+  more-none faults fs m none = rw (open-none none) (go m)
     where
-      go : (n : ℕ) → refined fs k (take n []) cs ≡ scenarioResponse fs k cs
+      go : (n : ℕ) → refined faults fs k (take n []) cs ≡ scenarioResponse faults fs k cs
       go zero = refl
       go (suc n) = refl
 
   -- With the next group at an alignment the others are to follow.
-  then-others : (fs : List Frame) (m : ℕ) {j : ℕ} {js : List ℕ} → openGroups k cs ≡ j ∷ js
-      → _≡_ {A = ℕ → ℕ} (λ a. refined fs k (take m js) (set cs (j - 1) (Fixed a))) (λ a. fixingMore fs k m (set cs (j - 1) (Fixed a)))
+  then-others : (faults : Faults) (fs : List Frame) (m : ℕ) {j : ℕ} {js : List ℕ} → openGroups k cs ≡ j ∷ js
+      → _≡_ {A = ℕ → ℕ} (λ a. refined faults fs k (take m js) (set cs (j - 1) (Fixed a))) (λ a. fixingMore faults fs k m (set cs (j - 1) (Fixed a)))
   unfolding fixingMore
-  then-others fs m {j} {js} e = fun-ext (λ a. ap (λ (is : List ℕ). refined fs k (take m is) (set cs (j - 1) (Fixed a))) (sym (open-rest e a)))
+  then-others faults fs m {j} {js} e = fun-ext (λ a. ap (λ (is : List ℕ). refined faults fs k (take m is) (set cs (j - 1) (Fixed a))) (sym (open-rest e a)))
 
   -- The next group takes each of its alignments.
-  pub more-step : (fs : List Frame) (m : ℕ) {j : ℕ} → nextOpen k cs ≡ At j
-      → fixingMore fs k (suc m) cs ≡ greatest (λ a. fixingMore fs k m (set cs (j - 1) (Fixed a))) (orEmpty (alignments fs k j))
+  pub more-step : (faults : Faults) (fs : List Frame) (m : ℕ) {j : ℕ} → nextOpen k cs ≡ At j
+      → fixingMore faults fs k (suc m) cs ≡ greatest (λ a. fixingMore faults fs k m (set cs (j - 1) (Fixed a))) (orEmpty (alignments fs k j))
   unfolding fixingMore refined
-  more-step fs m {j} next =
+  more-step faults fs m {j} next =
       let (js, e) = open-next next in
-      rw e (ap (λ (h : ℕ → ℕ). greatest h (orEmpty (alignments fs k j))) (then-others fs m e))
+      rw e (ap (λ (h : ℕ → ℕ). greatest h (orEmpty (alignments fs k j))) (then-others faults fs m e))
 
 -- ---- what it finds
 
@@ -193,16 +194,16 @@ all-open {k} valid = keep-all (isOpen free) (fixingOrder k) (λ j m. rw (free-op
 
 module _ (fs : List Frame) {k : Frame} (valid : ValidFrame k) where
   -- The approximate bound, where one group is fixed,
-  pub approximate-more : fixingMore fs k 1 free ≡ approximateBound fs k
+  pub approximate-more : (faults : Faults) → fixingMore faults fs k 1 free ≡ approximateBound faults fs k
   unfolding fixingMore fixingOrder range
-  approximate-more = ap (λ (js : List ℕ). refined fs k (take 1 js) free) (all-open valid) ∙ approximate-refined fs valid
+  approximate-more faults = ap (λ (js : List ℕ). refined faults fs k (take 1 js) free) (all-open valid) ∙ approximate-refined fs valid faults
 
   -- and the precise one, where all are.
-  pub precise-more : fixingMore fs k groups free ≡ preciseBound fs k
+  pub precise-more : (faults : Faults) → fixingMore faults fs k groups free ≡ preciseBound faults fs k
   unfolding fixingMore
-  precise-more =
-      ap (λ (js : List ℕ). refined fs k js free) (ap (take groups) (all-open valid) ∙ take-all groups (fixingOrder k) (order-length valid))
-      ∙ refined-bound fs k everyGroup (fixingOrder k) (record { group = λ j m. order-group valid m; named = λ j m. tt; all = λ j m t. order-all valid m })
+  precise-more faults =
+      ap (λ (js : List ℕ). refined faults fs k js free) (ap (take groups) (all-open valid) ∙ take-all groups (fixingOrder k) (order-length valid))
+      ∙ refined-bound fs k everyGroup (fixingOrder k) (record { group = λ j m. order-group valid m; named = λ j m. tt; all = λ j m t. order-all valid m }) faults
 
 module _ {fs : List Frame} (valid : Valid fs) {k : ℕ} (inside : k < length fs) where
   abbrev f : Frame
@@ -223,32 +224,32 @@ module _ {fs : List Frame} (valid : Valid fs) {k : ℕ} (inside : k < length fs)
         }
 
     -- The next group need only take the alignments of its first turn.
-    pub more-turn : (m : ℕ) {j : ℕ} → nextOpen f cs ≡ At j
-        → fixingMore fs f (suc m) cs ≡ greatest (λ a. fixingMore fs f m (set cs (j - 1) (Fixed a))) (orEmpty (firstTurn fs f j))
-    more-turn m {j} next =
+    pub more-turn : (faults : Faults) (m : ℕ) {j : ℕ} → nextOpen f cs ≡ At j
+        → fixingMore faults fs f (suc m) cs ≡ greatest (λ a. fixingMore faults fs f m (set cs (j - 1) (Fixed a))) (orEmpty (firstTurn fs f j))
+    more-turn faults m {j} next =
         let (js, e) = open-next self cs long next in
         let all = open-groups self cs long in
-        let same = then-others self cs long fs m e in
-        more-step self cs long fs m next
+        let same = then-others self cs long faults fs m e in
+        more-step self cs long faults fs m next
         ∙ ap (λ (h : ℕ → ℕ). greatest h (orEmpty (alignments fs f j))) (sym same)
-        ∙ sym (refined-turn valid inside cs long j (all .group j (rw e (here refl))) (take m js) (λ i l. all .group i (rw e (there (of-take m js l)))))
+        ∙ sym (refined-turn valid inside cs long j (all .group j (rw e (here refl))) faults (take m js) (λ i l. all .group i (rw e (there (of-take m js l)))))
         ∙ ap (λ (h : ℕ → ℕ). greatest h (orEmpty (firstTurn fs f j))) same
 
     -- ---- which branches may be left out, where the frame's own group is fixed and the scenario has a window
 
-    module _ (own : (a : ℕ) × (choiceOf cs (f .group) ≡ Fixed a)) (l : ℕ) (window : busyWindow fs f cs ≡ At l) where
+    module _ (own : (a : ℕ) × (choiceOf cs (f .group) ≡ Fixed a)) (faults : Faults) (l : ℕ) (window : busyWindow faults fs f cs ≡ At l) where
       -- where the scenario has no greater response than what is found
-      pub more-pruned : (m : ℕ) → fixingMore fs f m cs ≤ scenarioResponse fs f cs
+      pub more-pruned : (m : ℕ) → fixingMore faults fs f m cs ≤ scenarioResponse faults fs f cs
       unfolding fixingMore
-      more-pruned m = open-pruned valid inside (more-open m) own l window
+      more-pruned m = open-pruned valid inside (more-open m) own faults l window
 
     -- It has one, where the approximate bound's scenarios have, and its alignments are such.
-    pub more-window : Windowed fs f (ownGroup f) → RefinedBy fs f free cs → {a : ℕ} → choiceOf cs (f .group) ≡ Fixed a
-        → (l : ℕ) × (busyWindow fs f cs ≡ At l)
+    pub more-window : (faults : Faults) → Windowed faults fs f (ownGroup f) → RefinedBy fs f free cs → {a : ℕ} → choiceOf cs (f .group) ≡ Fixed a
+        → (l : ℕ) × (busyWindow faults fs f cs ≡ At l)
     unfolding Allows
-    more-window windows refines {a} own =
+    more-window faults windows refines {a} own =
         let listed = group-listed self in
         let real : Mem a (orEmpty (alignments fs f (f .group))) = rw (free-open (f .group) listed, own) at (refines (f .group) listed) in
         let (l, e) = windows _ (own-scenarios fs self .1 (a, real, refl)) in
-        let (l′, e′, shorter) = window-refine valid inside _ cs (refines-taken fs f free cs refines listed refl own) l e in
+        let (l′, e′, shorter) = window-refine valid inside faults _ cs (refines-taken fs f free cs refines listed refl own) l e in
         (l′, e′)

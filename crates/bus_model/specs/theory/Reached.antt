@@ -17,10 +17,10 @@ use Rattle.arith.specs.laws.Sums.{le-greatest, greatest-le}
 use Rattle.arith.specs.laws.Least.{least-at}
 use Rattle.arith.specs.laws.Releases.{next-after}
 use Rattle.bus_model.specs.Frame.{noFrame, row}
-use Rattle.bus_model.specs.Valid.{ValidFrame, Valid, Early}
+use Rattle.bus_model.specs.Valid.{ValidFrame, Valid, Early, ValidFaults}
 use Rattle.bus_model.specs.Release.{release}
 use Rattle.bus_model.specs.Bus.{Transmission, Schedule, MeetsClaim}
-use Rattle.bus_model.specs.Bounds.{groups, windowLimit, below, better, blocking, isBelow, alignments, distance, orEmpty, choiceOf, scenarios, everyGroup, busyWindow, delayLoad, instanceResponse, preciseBound}
+use Rattle.bus_model.specs.Bounds.{groups, windowLimit, below, better, blocking, faultLoad, isBelow, alignments, distance, orEmpty, choiceOf, scenarios, everyGroup, busyWindow, delayLoad, instanceResponse, preciseBound}
 use Rattle.bus_model.specs.Judgement.{lacksWindow, verdict, judge}
 use Rattle.bus_model.specs.Case.{shown, firstCase}
 use Rattle.bus_model.specs.Worst.{RanksLast, worstCase, forGroup, meetingTick, startsOf, worstStarts, instanceFrom, worstInstance, Longest, Responds}
@@ -37,6 +37,7 @@ use Rattle.bus_model.specs.theory.Meeting.{next-le, work-arrives}
 use Rattle.arith.specs.declared.Found.{Found}
 use Rattle.arith.specs.declared.Found.the-variants.{At}
 use Rattle.bus_model.specs.declared.Frame.{Frame}
+use Rattle.bus_model.specs.declared.Faults.the-variants.{Never}
 use Rattle.bus_model.specs.declared.Choice.{Choice}
 use Rattle.bus_model.specs.declared.Choice.the-variants.{Fixed, Any}
 
@@ -140,24 +141,24 @@ module _ {fs : List Frame} (valid : Valid fs) {k : ℕ} (inside : k < length fs)
       -- ---- instance q of its window, in a schedule whose transmissions have their largest lengths
 
       module _
-          (l : ℕ) (window : busyWindow fs f cs ≡ At l) (q : ℕ) (released : d + q * f .period < l)
-          (T : ℕ) {xs : List Transmission} (schedule : Schedule fs starts T xs) (longest : Longest fs xs)
+          (l : ℕ) (window : busyWindow Never fs f cs ≡ At l) (q : ℕ) (released : d + q * f .period < l)
+          (T : ℕ) {xs : List Transmission} (schedule : Schedule Never fs starts T xs) (longest : Longest fs xs)
         where
           -- It responds no earlier than the scenario has it.
           responds-late : {x : Transmission} → Mem x xs → x .frame ≡ k → x .instance ≡ instanceFrom f α (suc q)
-              → release starts f (instanceFrom f α (suc q)) + instanceResponse fs f cs q ≤ x .start + x .length
-          unfolding delayLoad
+              → release starts f (instanceFrom f α (suc q)) + instanceResponse Never fs f cs q ≤ x .start + x .length
+          unfolding delayLoad faultLoad
           responds-late {x} n mine which =
               let A = meetingTick als in
-              let found = sent-fitting valid starts k A T schedule longest n in
-              let (w, e, le) = delay-within valid inside cs α own l window q released in
-              let whole = response-whole valid inside cs α own l window q released w e in
+              let found = sent-fitting valid starts k A Never T schedule longest n in
+              let (w, e, le) = delay-within valid inside Never cs α own l window q released in
+              let whole = response-whole valid inside Never cs α own l window q released w e in
               let (low, high) = released-between q in
               let started = rw (mine, which) at (start-after found) in
               let arrives = work-arrives fs f starts A cs (forGroup als) (fixed cs m) meets (better fs f) (λ g b. valid-frame valid (in-table b)) (λ g b. frame-early (in-table b)) (suc (x .start - A)) in
               let time = elapsed valid starts k A inside mine found (omega arith) in
               let before : x .instance - releasedBy starts f A ≡ q = omega (arith, instance-is q) in
-              let soonest = delay-least fs f cs q w (x .start - A) e (omega (arith, none-blocks, rw before at time)) in
+              let soonest = delay-least Never fs f cs q w (x .start - A) e (omega (arith, none-blocks, rw before at time)) in
               omega (arith, rw mine at (longest x n))
             where
               in-table : {g : Frame} → Mem g (better fs f) → Mem g fs
@@ -165,16 +166,17 @@ module _ {fs : List Frame} (valid : Valid fs) {k : ℕ} (inside : k < length fs)
 
   -- ---- the worst case, where no window lacks
 
-  module _ (has : ¬ T (lacksWindow fs f)) where
+  module _ (has : ¬ T (lacksWindow Never fs f)) where
     abbrev bound : ℕ
-    bound = preciseBound fs f
+    bound = preciseBound Never fs f
 
-    windows : Windowed fs f everyGroup
-    windows = precise-windows valid inside (has-windows fs f has)
+    windows : Windowed Never fs f everyGroup
+    windows = precise-windows valid inside Never (has-windows Never fs f has)
 
     -- The bound is met in every schedule.
-    bound-meets : MeetsClaim fs k bound
-    bound-meets = sound-precise valid inside (has-windows fs f has) bound (le-refl _)
+    bound-meets : MeetsClaim Never fs k bound
+    unfolding ValidFaults
+    bound-meets = sound-precise valid inside Never tt (has-windows Never fs f has) bound (le-refl _)
 
     -- It is not 0, for a transmission takes a tick or more.
     pub bound-some : 1 ≤ bound
@@ -184,21 +186,21 @@ module _ {fs : List Frame} (valid : Valid fs) {k : ℕ} (inside : k < length fs)
         let T = release starts f 0 + bound in
         let (xs, schedule, longest) = longest-schedule valid starts T in
         let done = bound-meets starts T xs schedule 0 (le-refl _) in
-        let found = sent-fitting valid starts k 0 T schedule longest (done .listed) in
+        let found = sent-fitting valid starts k 0 Never T schedule longest (done .listed) in
         omega (arith, found .next .positive, done .ended, rw (done .frame, done .instance) at (start-after found))
 
     -- The worst case exists, and stands in a scenario.
     worst-exists : Exists (worstCase fs f)
     unfolding worstCase
-    worst-exists = case-exists fs f (bound - 1) .1 (omega (arith, bound-some))
+    worst-exists = case-exists Never fs f (bound - 1) .1 (omega (arith, bound-some))
 
     -- the number of its instance
     abbrev q : ℕ
     q = worst-exists .0
 
-    worst-shown : Shown fs f (bound - 1) (scenarios fs f everyGroup) (worstCase fs f) q
+    worst-shown : Shown Never fs f (bound - 1) (scenarios fs f everyGroup) (worstCase fs f) q
     unfolding worstCase firstCase
-    worst-shown = among-shown fs f (bound - 1) (scenarios fs f everyGroup) q (worst-exists .1)
+    worst-shown = among-shown Never fs f (bound - 1) (scenarios fs f everyGroup) q (worst-exists .1)
 
     -- that scenario, and its window
     abbrev worst : List Choice
@@ -207,14 +209,14 @@ module _ {fs : List Frame} (valid : Valid fs) {k : ℕ} (inside : k < length fs)
     worst-listed : Mem worst (scenarios fs f everyGroup)
     worst-listed = rw (worst-shown .listed) (Memᴰ·append-right (worst-shown .before) (here refl))
 
-    worst-window : (l : ℕ) × (busyWindow fs f worst ≡ At l)
+    worst-window : (l : ℕ) × (busyWindow Never fs f worst ≡ At l)
     worst-window = windows worst worst-listed
 
     -- The instance is released in it, and has the bound as its response.
-    worst-q : (l : ℕ) → busyWindow fs f worst ≡ At l → (1 ≤ q) × (distance f (forGroup (map shown worst) (f .group)) + (q - 1) * f .period < l) × (bound ≤ instanceResponse fs f worst (q - 1))
+    worst-q : (l : ℕ) → busyWindow Never fs f worst ≡ At l → (1 ≤ q) × (distance f (forGroup (map shown worst) (f .group)) + (q - 1) * f .period < l) × (bound ≤ instanceResponse Never fs f worst (q - 1))
     worst-q l window =
-        let (low, high, t) = least-at (exceeds fs f (bound - 1) worst) (count fs f (bound - 1) worst l) 1 q (sym (exceeding-at fs f (bound - 1) worst l window) ∙ worst-shown .least) in
-        let released = listed-released valid inside worst (forGroup (map shown worst) (f .group)) (fixed worst worst-listed (f .group) (group-listed self)) l window (mem-range 0 (count fs f (bound - 1) worst l) (q - 1) (omega arith) (omega arith)) in
+        let (low, high, t) = least-at (exceeds Never fs f (bound - 1) worst) (count Never fs f (bound - 1) worst l) 1 q (sym (exceeding-at Never fs f (bound - 1) worst l window) ∙ worst-shown .least) in
+        let released = listed-released valid inside Never worst (forGroup (map shown worst) (f .group)) (fixed worst worst-listed (f .group) (group-listed self)) l window (mem-range 0 (count Never fs f (bound - 1) worst l) (q - 1) (omega arith) (omega arith)) in
         (low, released, omega (arith, ltb→lt (bound - 1) _ t, bound-some))
 
     -- Its numbers are small: the instance is one of a window, and an alignment one of its group's.
@@ -223,7 +225,7 @@ module _ {fs : List Frame} (valid : Valid fs) {k : ℕ} (inside : k < length fs)
     worst-number =
         let (l, window) = worst-window in
         let (low, released, reaches) = worst-q l window in
-        let (some, high, fits) = window-at fs f worst l window in
+        let (some, high, fits) = window-at Never fs f worst l window in
         rw (worst-exists .1) (low, omega (arith, le-mul-of-pos-right (q - 1) (self .period)))
 
     pub worst-alignment : (j : ℕ) → Mem j (range 1 groups) → Mem (forGroup (worstCase fs f .alignments) j) (orEmpty (alignments fs f j))
@@ -244,7 +246,7 @@ module _ {fs : List Frame} (valid : Valid fs) {k : ℕ} (inside : k < length fs)
       -- In every schedule with these starts and the largest lengths, instance n responds no earlier than the bound.
       abbrev Late : List ℕ → ℕ → Type 0
       Late starts n =
-          (T : ℕ) (xs : List Transmission) → Schedule fs (forGroup starts) T xs → Longest fs xs → (x : Transmission) → Mem x xs → x .frame ≡ k → x .instance ≡ n
+          (T : ℕ) (xs : List Transmission) → Schedule Never fs (forGroup starts) T xs → Longest fs xs → (x : Transmission) → Mem x xs → x .frame ≡ k → x .instance ≡ n
           → release (forGroup starts) f n + bound ≤ x .start + x .length
 
       -- So it is with those of the worst case.
@@ -267,7 +269,7 @@ module _ {fs : List Frame} (valid : Valid fs) {k : ℕ} (inside : k < length fs)
       end = release starting f (worstInstance fs f) + bound
 
       -- The last frame's precise bound is reached.
-      bound-reached : Responds fs starting k (worstInstance fs f) (preciseBound fs f)
+      bound-reached : Responds fs starting k (worstInstance fs f) (preciseBound Never fs f)
       unfolding MeetsClaim
       bound-reached =
           let (xs, schedule, longest) = longest-schedule valid starting end in
@@ -284,7 +286,7 @@ module _ {fs : List Frame} (valid : Valid fs) {k : ℕ} (inside : k < length fs)
           }
 
       -- So a smaller claim is missed in some schedule.
-      smaller-missed : (claim : ℕ) → claim < preciseBound fs f → ¬ MeetsClaim fs k claim
+      smaller-missed : (claim : ℕ) → claim < preciseBound Never fs f → ¬ MeetsClaim Never fs k claim
       unfolding MeetsClaim
       smaller-missed claim less met =
           let r = bound-reached in
@@ -292,19 +294,20 @@ module _ {fs : List Frame} (valid : Valid fs) {k : ℕ} (inside : k < length fs)
           omega (arith, done .ended, worst-late end (r .list) (r .schedule) (r .longest) (done .sent) (done .listed) (done .frame) (done .instance))
 
       -- The claims that are met in all schedules are those from the bound on.
-      claims-met : (claim : ℕ) → MeetsClaim fs k claim ↔ (preciseBound fs f ≤ claim)
+      claims-met : (claim : ℕ) → MeetsClaim Never fs k claim ↔ (preciseBound Never fs f ≤ claim)
+      unfolding ValidFaults
       claims-met claim = (
-        λ met. let no : ¬ (claim < preciseBound fs f) = λ less. smaller-missed claim less met in omega arith,
-        λ le. sound-precise valid inside (has-windows fs f has) claim le,
+        λ met. let no : ¬ (claim < preciseBound Never fs f) = λ less. smaller-missed claim less met in omega arith,
+        λ le. sound-precise valid inside Never tt (has-windows Never fs f has) claim le,
       )
 
   -- ---- the statements, for a frame whose verdict is not 11
 
-  module _ (early : Early fs) (last : RanksLast fs k) (claim : ℕ) (windowed : verdict (judge fs f claim .outcome) ≢ 11) where
+  module _ (early : Early fs) (last : RanksLast fs k) (claim : ℕ) (windowed : verdict (judge Never fs f claim .outcome) ≢ 11) where
     -- The last frame's precise bound is reached to the tick, with these starts and the largest lengths.
-    pub last-reached : Responds fs (forGroup (worstStarts fs f)) k (worstInstance fs f) (preciseBound fs f)
-    last-reached = bound-reached (not-lacking fs f claim windowed) early last
+    pub last-reached : Responds fs (forGroup (worstStarts fs f)) k (worstInstance fs f) (preciseBound Never fs f)
+    last-reached = bound-reached (not-lacking Never fs f claim windowed) early last
 
     -- It is the least claim that is met in all schedules.
-    pub last-least : (c : ℕ) → MeetsClaim fs k c ↔ (preciseBound fs f ≤ c)
-    last-least = claims-met (not-lacking fs f claim windowed) early last
+    pub last-least : (c : ℕ) → MeetsClaim Never fs k c ↔ (preciseBound Never fs f ≤ c)
+    last-least = claims-met (not-lacking Never fs f claim windowed) early last

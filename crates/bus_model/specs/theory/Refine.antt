@@ -23,15 +23,16 @@ use Rattle.bus_model.specs.theory.Response.{response-refine}
 use Rattle.bus_model.specs.theory.Scenarios.{scenario-is, scenariosOf, mem-choices, of-choices, choices-length, allows-self}
 use Rattle.arith.specs.declared.Found.the-variants.{At}
 use Rattle.bus_model.specs.declared.Frame.{Frame}
+use Rattle.bus_model.specs.declared.Faults.{Faults}
 use Rattle.bus_model.specs.declared.Choice.{Choice}
 use Rattle.bus_model.specs.declared.Choice.the-variants.{Fixed, Any}
 
 -- ---- group by group
 
 -- the greatest response where the groups js take each of their alignments, one after the other, and the others stand as in cs
-unfoldable pub refined : List Frame → Frame → List ℕ → List Choice → ℕ
-refined fs k [] cs = scenarioResponse fs k cs
-refined fs k (j ∷ js) cs = greatest (λ a. refined fs k js (set cs (j - 1) (Fixed a))) (orEmpty (alignments fs k j))
+unfoldable pub refined : Faults → List Frame → Frame → List ℕ → List Choice → ℕ
+refined faults fs k [] cs = scenarioResponse faults fs k cs
+refined faults fs k (j ∷ js) cs = greatest (λ a. refined faults fs k js (set cs (j - 1) (Fixed a))) (orEmpty (alignments fs k j))
 
 -- no group is fixed
 abbrev pub free : List Choice
@@ -60,16 +61,16 @@ module _ (fs : List Frame) (k : Frame) where
   Leaf (j ∷ js) cs cs′ = (a : ℕ) × Mem a (orEmpty (alignments fs k j)) × Leaf js (set cs (j - 1) (Fixed a)) cs′
 
   -- Each of them counts.
-  leaf-le : (js : List ℕ) (cs cs′ : List Choice) → Leaf js cs cs′ → scenarioResponse fs k cs′ ≤ refined fs k js cs
+  leaf-le : (faults : Faults) (js : List ℕ) (cs cs′ : List Choice) → Leaf js cs cs′ → scenarioResponse faults fs k cs′ ≤ refined faults fs k js cs
   unfolding Leaf refined
-  leaf-le [] cs cs′ e = rw e (omega arith)
-  leaf-le (j ∷ js) cs cs′ (a, m, l) = le-trans (leaf-le js (set cs (j - 1) (Fixed a)) cs′ l) (le-greatest (λ b. refined fs k js (set cs (j - 1) (Fixed b))) m)
+  leaf-le faults [] cs cs′ e = rw e (omega arith)
+  leaf-le faults (j ∷ js) cs cs′ (a, m, l) = le-trans (leaf-le faults js (set cs (j - 1) (Fixed a)) cs′ l) (le-greatest (λ b. refined faults fs k js (set cs (j - 1) (Fixed b))) m)
 
   -- Nothing else does.
-  refined-le : (js : List ℕ) (cs : List Choice) {n : ℕ} → ((cs′ : List Choice) → Leaf js cs cs′ → scenarioResponse fs k cs′ ≤ n) → refined fs k js cs ≤ n
+  refined-le : (faults : Faults) (js : List ℕ) (cs : List Choice) {n : ℕ} → ((cs′ : List Choice) → Leaf js cs cs′ → scenarioResponse faults fs k cs′ ≤ n) → refined faults fs k js cs ≤ n
   unfolding Leaf refined
-  refined-le [] cs le = le cs refl
-  refined-le (j ∷ js) cs le = greatest-le _ (λ a m. refined-le js (set cs (j - 1) (Fixed a)) (λ cs′ l. le cs′ (a, m, l)))
+  refined-le faults [] cs le = le cs refl
+  refined-le faults (j ∷ js) cs le = greatest-le _ (λ a m. refined-le faults js (set cs (j - 1) (Fixed a)) (λ cs′ l. le cs′ (a, m, l)))
 
   -- What one alignment after the other keeps holds at the end.
   leaf-keeps : (P : List ℕ → List Choice → Type 0)
@@ -157,10 +158,10 @@ module _ (fs : List Frame) (k : Frame) (lists : ℕ → List Choice) where
         (λ i l none. elim (opens .rest i l) [ inl n ↦ absurd (none n) | inr e ↦ sym (List·Memᴰ·eq-of-singleton (rw e at (of-choices lists m i l))) ])
 
     -- Group by group their greatest response is found.
-    pub refined-choices : refined fs k js cs ≡ greatest (scenarioResponse fs k) (scenariosOf lists)
-    refined-choices =
-        let most = refined-le fs k js cs (λ cs′ leaf. le-greatest (scenarioResponse fs k) (leaf-taken leaf)) in
-        let least = greatest-le (scenariosOf lists) (λ cs′ m. leaf-le fs k js cs cs′ (taken-leaf m)) in
+    pub refined-choices : (faults : Faults) → refined faults fs k js cs ≡ greatest (scenarioResponse faults fs k) (scenariosOf lists)
+    refined-choices faults =
+        let most = refined-le fs k faults js cs (λ cs′ leaf. le-greatest (scenarioResponse faults fs k) (leaf-taken leaf)) in
+        let least = greatest-le (scenariosOf lists) (λ cs′ m. leaf-le fs k faults js cs cs′ (taken-leaf m)) in
         omega arith
 
 -- ---- and the scenarios of a bound
@@ -201,7 +202,7 @@ module _ (fs : List Frame) (k : Frame) (fixes : ℕ → Bool) (js : List ℕ) (n
   listed-leaf = taken-leaf fs k (λ j. choices fs k (fixes j) j) js free named-opens
 
   -- Group by group the bound is found.
-  pub refined-bound : refined fs k js free ≡ boundOf fs k fixes
+  pub refined-bound : (faults : Faults) → refined faults fs k js free ≡ boundOf faults fs k fixes
   unfolding boundOf scenarios
   refined-bound = refined-choices fs k (λ j. choices fs k (fixes j) j) js free named-opens
 
@@ -218,7 +219,7 @@ module _ (fs : List Frame) {k : Frame} (valid : ValidFrame k) where
       }
 
   -- It is found by that.
-  pub approximate-refined : refined fs k (k .group ∷ []) free ≡ approximateBound fs k
+  pub approximate-refined : (faults : Faults) → refined faults fs k (k .group ∷ []) free ≡ approximateBound faults fs k
   approximate-refined = refined-bound fs k (ownGroup k) (k .group ∷ []) own-named
 
   -- Its scenarios are those in which the own group has one of its alignments and no other is fixed.
@@ -277,9 +278,9 @@ module _ {fs : List Frame} (valid : Valid fs) {k : ℕ} (inside : k < length fs)
   f = row fs k
 
   -- No scenario that refines one with a window has a greater response, where the frame's own group is fixed.
-  response-below : (cs cs′ : List Choice) → RefinedBy fs f cs cs′ → {a : ℕ} → choiceOf cs (f .group) ≡ Fixed a → {l : ℕ} → busyWindow fs f cs ≡ At l
-      → scenarioResponse fs f cs′ ≤ scenarioResponse fs f cs
-  response-below cs cs′ refines {a} own {l} window = response-refine valid inside cs cs′ refines l window a own (own-kept fs f cs cs′ refines (valid .frame k inside) own)
+  response-below : (faults : Faults) (cs cs′ : List Choice) → RefinedBy fs f cs cs′ → {a : ℕ} → choiceOf cs (f .group) ≡ Fixed a → {l : ℕ} → busyWindow faults fs f cs ≡ At l
+      → scenarioResponse faults fs f cs′ ≤ scenarioResponse faults fs f cs
+  response-below faults cs cs′ refines {a} own {l} window = response-refine valid inside faults cs cs′ refines l window a own (own-kept fs f cs cs′ refines (valid .frame k inside) own)
 
   -- cs′ refines cs, and cs leaves the groups js open
   record Finer (cs : List Choice) (js : List ℕ) (cs′ : List Choice) : Type 0 where
@@ -299,12 +300,12 @@ module _ {fs : List Frame} (valid : Valid fs) {k : ℕ} (inside : k < length fs)
       }
 
   -- A scenario fixes the frame's own group and has a window; the groups js are still open.
-  module _ {js : List ℕ} {cs : List Choice} (still : StillOpen js cs) (own : (a : ℕ) × (choiceOf cs (f .group) ≡ Fixed a)) (l : ℕ) (window : busyWindow fs f cs ≡ At l) where
+  module _ {js : List ℕ} {cs : List Choice} (still : StillOpen js cs) (own : (a : ℕ) × (choiceOf cs (f .group) ≡ Fixed a)) (faults : Faults) (l : ℕ) (window : busyWindow faults fs f cs ≡ At l) where
     -- nothing is refined yet
     unrefined : Finer cs js cs
     unrefined = record { long = still .long; group = still .group; left = still .left; refines = refines-self fs f cs }
 
     -- The branch may be left out where that has no greater response than what is found.
-    pub open-pruned : refined fs f js cs ≤ scenarioResponse fs f cs
+    pub open-pruned : refined faults fs f js cs ≤ scenarioResponse faults fs f cs
     open-pruned =
-        refined-le fs f js cs (λ cs′ leaf. response-below cs cs′ (leaf-keeps fs f (Finer cs) (finer-more cs) js unrefined leaf .refines) (own .1) window)
+        refined-le fs f faults js cs (λ cs′ leaf. response-below faults cs cs′ (leaf-keeps fs f (Finer cs) (finer-more cs) js unrefined leaf .refines) (own .1) window)

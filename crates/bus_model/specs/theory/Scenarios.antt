@@ -22,6 +22,7 @@ use Rattle.bus_model.specs.theory.Response.{window-at, window-refine, re
 use Rattle.arith.specs.declared.Found.{Found}
 use Rattle.arith.specs.declared.Found.the-variants.{At, Nothing}
 use Rattle.bus_model.specs.declared.Frame.{Frame}
+use Rattle.bus_model.specs.declared.Faults.{Faults}
 use Rattle.bus_model.specs.declared.Choice.{Choice}
 use Rattle.bus_model.specs.declared.Choice.the-variants.{Fixed, Any}
 
@@ -104,14 +105,14 @@ unfolding scenarios scenarioCount choices
 count-scenarios fs k = length-combinations (λ j. choices fs k true j) (range 1 groups) ∙ simp length-map
 
 -- Where the same groups are fixed, the bound is the same.
-pub bound-same : (fs : List Frame) (k : Frame) (fixes fixes′ : ℕ → Bool) → ((j : ℕ) → Mem j (range 1 groups) → fixes j ≡ fixes′ j) → boundOf fs k fixes ≡ boundOf fs k fixes′
+pub bound-same : (faults : Faults) (fs : List Frame) (k : Frame) (fixes fixes′ : ℕ → Bool) → ((j : ℕ) → Mem j (range 1 groups) → fixes j ≡ fixes′ j) → boundOf faults fs k fixes ≡ boundOf faults fs k fixes′
 unfolding boundOf scenarios
-bound-same fs k fixes fixes′ same =
-    ap (λ (lists : List (List Choice)). greatest (scenarioResponse fs k) (combinations lists)) (map-same (range 1 groups) (λ j m. ap (λ (b : Bool). choices fs k b j) (same j m)))
+bound-same faults fs k fixes fixes′ same =
+    ap (λ (lists : List (List Choice)). greatest (scenarioResponse faults fs k) (combinations lists)) (map-same (range 1 groups) (λ j m. ap (λ (b : Bool). choices fs k b j) (same j m)))
 
 -- every one of the scenarios has a window
-abbrev pub Windowed : List Frame → Frame → (ℕ → Bool) → Type 0
-Windowed fs k fixes = (cs : List Choice) → Mem cs (scenarios fs k fixes) → (l : ℕ) × (busyWindow fs k cs ≡ At l)
+abbrev pub Windowed : Faults → List Frame → Frame → (ℕ → Bool) → Type 0
+Windowed faults fs k fixes = (cs : List Choice) → Mem cs (scenarios fs k fixes) → (l : ℕ) × (busyWindow faults fs k cs ≡ At l)
 
 -- a choice where the group is fixed, and `any` where it is not
 unfoldable pub whereFixed : Bool → Choice → Choice
@@ -195,31 +196,31 @@ module _ {fs : List Frame} (valid : Valid fs) {k : ℕ} (inside : k < length fs)
   own-fixed fixes own m = let (a, l, e) = fixed-choice fs f (f .group) (fixes (f .group)) own (of-scenarios fs f fixes m (f .group) listed) in (a, e)
 
   -- No bound exceeds the longest window.
-  pub bound-le-limit : (fixes : ℕ → Bool) → T (fixes (f .group)) → boundOf fs f fixes ≤ windowLimit
+  pub bound-le-limit : (faults : Faults) (fixes : ℕ → Bool) → T (fixes (f .group)) → boundOf faults fs f fixes ≤ windowLimit
   unfolding boundOf
-  bound-le-limit fixes own = greatest-le (scenarios fs f fixes) (λ cs m. go cs (own-fixed fixes own m) (busyWindow fs f cs) refl)
+  bound-le-limit faults fixes own = greatest-le (scenarios fs f fixes) (λ cs m. go cs (own-fixed fixes own m) (busyWindow faults fs f cs) refl)
     where
-      go : (cs : List Choice) → (a : ℕ) × (choiceOf cs (f .group) ≡ Fixed a) → (r : Found) → busyWindow fs f cs ≡ r → scenarioResponse fs f cs ≤ windowLimit
-      go cs (a, fixes-own) (At l) e = let (low, high, fits) = window-at fs f cs l e in le-trans (response-le valid inside cs a fixes-own l e) high
-      go cs own Nothing e = rw (response-none fs f cs e) (omega arith)
+      go : (cs : List Choice) → (a : ℕ) × (choiceOf cs (f .group) ≡ Fixed a) → (r : Found) → busyWindow faults fs f cs ≡ r → scenarioResponse faults fs f cs ≤ windowLimit
+      go cs (a, fixes-own) (At l) e = let (low, high, fits) = window-at faults fs f cs l e in le-trans (response-le valid inside faults cs a fixes-own l e) high
+      go cs own Nothing e = rw (response-none faults fs f cs e) (omega arith)
 
-  module _ (fixes fixes′ : ℕ → Bool) (more : fixes ⊆ fixes′) (windows : Windowed fs f fixes) where
+  module _ (faults : Faults) (fixes fixes′ : ℕ → Bool) (more : fixes ⊆ fixes′) (windows : Windowed faults fs f fixes) where
     -- Where fewer groups are fixed and windows exist, they exist where more are.
-    pub windows-refine : Windowed fs f fixes′
+    pub windows-refine : Windowed faults fs f fixes′
     windows-refine cs m =
         let (l, e) = windows _ (coarse-listed fs f fixes fixes′ more cs m) in
-        let (l′, e′, le) = window-refine valid inside _ cs (coarse-refines fs f fixes fixes′ more cs m) l e in
+        let (l′, e′, le) = window-refine valid inside faults _ cs (coarse-refines fs f fixes fixes′ more cs m) l e in
         (l′, e′)
 
     -- And the bound is not greater.
-    pub bound-refine : T (fixes (f .group)) → boundOf fs f fixes′ ≤ boundOf fs f fixes
+    pub bound-refine : T (fixes (f .group)) → boundOf faults fs f fixes′ ≤ boundOf faults fs f fixes
     unfolding boundOf
     bound-refine own = greatest-le (scenarios fs f fixes′) each
       where
-        each : (cs : List Choice) → Mem cs (scenarios fs f fixes′) → scenarioResponse fs f cs ≤ greatest (scenarioResponse fs f) (scenarios fs f fixes)
+        each : (cs : List Choice) → Mem cs (scenarios fs f fixes′) → scenarioResponse faults fs f cs ≤ greatest (scenarioResponse faults fs f) (scenarios fs f fixes)
         each cs m =
             let in-list = coarse-listed fs f fixes fixes′ more cs m in
             let (l, e) = windows _ in-list in
             let (a, is) = own-fixed fixes own in-list in
             let same = sym (coarse-same fs f fixes fixes′ more cs m (f .group) listed own) ∙ is in
-            le-trans (response-refine valid inside _ cs (coarse-refines fs f fixes fixes′ more cs m) l e a is same) (le-greatest (scenarioResponse fs f) in-list)
+            le-trans (response-refine valid inside faults _ cs (coarse-refines fs f fixes fixes′ more cs m) l e a is same) (le-greatest (scenarioResponse faults fs f) in-list)

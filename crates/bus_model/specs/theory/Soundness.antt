@@ -13,7 +13,7 @@ use Rattle.arith.specs.Least.{orZero}
 use Rattle.arith.specs.laws.Sums.{le-greatest}
 use Rattle.arith.specs.laws.Releases.{count-le}
 use Rattle.bus_model.specs.Frame.{row}
-use Rattle.bus_model.specs.Valid.{ValidFrame, Valid}
+use Rattle.bus_model.specs.Valid.{ValidFrame, Valid, ValidFaults}
 use Rattle.bus_model.specs.Release.{release}
 use Rattle.bus_model.specs.Bus.{Transmission, Finished, MeetsClaim}
 use Rattle.bus_model.specs.Bounds.{ahead, better, alignments, distance, choiceOf, work, ownGroup, everyGroup, windowLoad, busyWindow, delayLoad, queueingDelay, instanceResponse, scenarioResponse, boundOf, approximateBound, preciseBound}
@@ -22,12 +22,13 @@ use Rattle.bus_model.specs.theory.Arrivals.{releasedBy, arrived}
 use Rattle.bus_model.specs.theory.BusyWindow.{Window, busy-window}
 use Rattle.bus_model.specs.theory.Frames.{better-ahead, self-ahead, group-listed}
 use Rattle.bus_model.specs.theory.Alignment.{Aligned, Stands, aligned}
-use Rattle.bus_model.specs.theory.Work.{Allows}
+use Rattle.bus_model.specs.theory.Work.{Allows, fault-mono}
 use Rattle.bus_model.specs.theory.Response.{window-at, delay-at, own-distance, delay-within, instance-response}
 use Rattle.bus_model.specs.theory.Scenarios.{scenario, scenario-choice, whereFixed, chosen, chosen-listed, chosen-fixed, _⊆_, Windowed, windows-refine}
 use Rattle.bus_model.specs.theory.Cover.{Agrees, covers}
 use Rattle.arith.specs.declared.Found.the-variants.{At}
 use Rattle.bus_model.specs.declared.Frame.{Frame}
+use Rattle.bus_model.specs.declared.Faults.{Faults}
 use Rattle.bus_model.specs.declared.Choice.{Choice}
 use Rattle.bus_model.specs.declared.Choice.the-variants.{Fixed}
 
@@ -44,9 +45,9 @@ module _ {fs : List Frame} (valid : Valid fs) {k : ℕ} (inside : k < length fs)
 
   -- Instance n and its busy window, which opens at the alignments α; a scenario that agrees with these, and its window.
   module _
-      (starts : ℕ → ℕ) (T : ℕ) (xs : List Transmission) (n : ℕ) (win : Window fs starts T xs k n)
+      (faults : Faults) (starts : ℕ → ℕ) (T : ℕ) (xs : List Transmission) (n : ℕ) (win : Window faults fs starts T xs k n)
       (α : ℕ → ℕ) (stands : Stands fs f starts (win .t1) α)
-      (cs : List Choice) (agrees : Agrees fs f α cs) (own : choiceOf cs (f .group) ≡ Fixed (α (f .group))) (l : ℕ) (window : busyWindow fs f cs ≡ At l)
+      (cs : List Choice) (agrees : Agrees fs f α cs) (own : choiceOf cs (f .group) ≡ Fixed (α (f .group))) (l : ℕ) (window : busyWindow faults fs f cs ≡ At l)
     where
       -- the frame's own distance
       abbrev d : ℕ
@@ -81,7 +82,7 @@ module _ {fs : List Frame} (valid : Valid fs) {k : ℕ} (inside : k < length fs)
       within : d + q * f .period < l
       unfolding windowLoad
       within =
-          let (low, high, fits) = window-at fs f cs l window in
+          let (low, high, fits) = window-at faults fs f cs l window in
           let late : ¬ (l ≤ d + q * f .period) = λ after. omega (arith, win .busy l low (omega (arith, placed)), ahead-covers l) in
           omega arith
 
@@ -91,26 +92,28 @@ module _ {fs : List Frame} (valid : Valid fs) {k : ℕ} (inside : k < length fs)
       fewer w after = let few = count-le (starts (f .group) + f .offset) (self .period) (win .t1 + suc w) n (omega arith) in omega arith
 
       -- It is released when its delay ends: otherwise the bus would be busy beyond that.
-      in-time : (w : ℕ) → queueingDelay fs f cs q ≡ At w → release starts f n ≤ win .t1 + w
+      in-time : (w : ℕ) → queueingDelay faults fs f cs q ≡ At w → release starts f n ≤ win .t1 + w
       unfolding delayLoad
       in-time w e = let early : ¬ (win .t1 + w < release starts f n) = too-late in omega arith
         where
           too-late : ¬ (win .t1 + w < release starts f n)
           too-late after =
               let longer = win .busy (suc w) (omega arith) (omega arith) in
+              let next : suc w ≤ w + f .length = omega (arith, self .length) in
+              let cut = fault-mono next faults fs f in
               let all = ahead-sum valid inside (λ g. g .length * arrived starts g (win .t1) (suc w)) in
-              omega (arith, mul-le-mul-left (f .length) (fewer w after), better-covers (suc w), delay-at fs f cs q w e)
+              omega (arith, mul-le-mul-left (f .length) (fewer w after), better-covers (suc w), delay-at faults fs f cs q w e)
 
       -- It is finished when the claim runs out.
-      finished : (claim : ℕ) → scenarioResponse fs f cs ≤ claim → release starts f n + claim ≤ T → Finished xs k n (release starts f n + claim)
+      finished : (claim : ℕ) → scenarioResponse faults fs f cs ≤ claim → release starts f n + claim ≤ T → Finished xs k n (release starts f n + claim)
       unfolding instanceResponse orZero delayLoad
       finished claim bound before =
-          let (w, e, le) = delay-within valid inside cs (α (f .group)) own l window q within in
-          let response = instance-response valid inside cs (α (f .group)) own l window q within in
-          let fits = delay-at fs f cs q w e in
+          let (w, e, le) = delay-within valid inside faults cs (α (f .group)) own l window q within in
+          let response = instance-response valid inside faults cs (α (f .group)) own l window q within in
+          let fits = delay-at faults fs f cs q w e in
           let ends : w + f .length ≤ d + q * f .period + claim = omega (arith, ap orZero e, own-distance fs f cs (α (f .group)) own) in
           let b = win .begins w (omega (arith, better-covers (suc w))) (in-time w e) (omega (arith, placed, self .length)) in
-          record { sent = b .sent; listed = b .listed; frame = b .frame; instance = b .instance; ended = omega (arith, b, placed) }
+          record { sent = b .sent; listed = b .listed; frame = b .frame; instance = b .instance; whole = b .whole; ended = omega (arith, b, placed) }
 
   -- ---- the bounds
 
@@ -124,21 +127,21 @@ module _ {fs : List Frame} (valid : Valid fs) {k : ℕ} (inside : k < length fs)
       go false = real j
 
   -- A claim that is not below a bound is met, if the bound fixes the frame's own group and the approximate scenarios have windows.
-  pub sound : (fixes : ℕ → Bool) → ownGroup f ⊆ fixes → Windowed fs f (ownGroup f) → (claim : ℕ) → boundOf fs f fixes ≤ claim → MeetsClaim fs k claim
+  pub sound : (faults : Faults) → ValidFaults faults → (fixes : ℕ → Bool) → ownGroup f ⊆ fixes → Windowed faults fs f (ownGroup f) → (claim : ℕ) → boundOf faults fs f fixes ≤ claim → MeetsClaim faults fs k claim
   unfolding MeetsClaim boundOf
-  sound fixes more windows claim bound starts T xs schedule n before =
-      let win = busy-window valid inside schedule n in
+  sound faults fine fixes more windows claim bound starts T xs schedule n before =
+      let win = busy-window valid inside fine schedule n in
       let (α, real, stands) = aligned fs valid f starts (win .t1) in
       let cs = scenario (chosen fixes α) in
       let listed = chosen-listed fs f fixes α (λ j t. real j) in
       let own = chosen-fixed fixes α (f .group) (group-listed self) (more (f .group) (eqb-refl (f .group))) in
-      let (l, window) = windows-refine valid inside (ownGroup f) fixes more windows cs listed in
-      finished starts T xs n win α stands cs (chosen-agrees fixes α real) own l window claim (le-trans (le-greatest (scenarioResponse fs f) listed) bound) (omega arith)
+      let (l, window) = windows-refine valid inside faults (ownGroup f) fixes more windows cs listed in
+      finished faults starts T xs n win α stands cs (chosen-agrees fixes α real) own l window claim (le-trans (le-greatest (scenarioResponse faults fs f) listed) bound) before
 
   -- The approximate bound is sound.
-  pub sound-approximate : Windowed fs f (ownGroup f) → (claim : ℕ) → approximateBound fs f ≤ claim → MeetsClaim fs k claim
-  sound-approximate = sound (ownGroup f) (λ j t. t)
+  pub sound-approximate : (faults : Faults) → ValidFaults faults → Windowed faults fs f (ownGroup f) → (claim : ℕ) → approximateBound faults fs f ≤ claim → MeetsClaim faults fs k claim
+  sound-approximate faults fine = sound faults fine (ownGroup f) (λ j t. t)
 
   -- The precise bound is sound where the approximate bound has windows.
-  pub sound-precise : Windowed fs f (ownGroup f) → (claim : ℕ) → preciseBound fs f ≤ claim → MeetsClaim fs k claim
-  sound-precise = sound everyGroup (λ j t. tt)
+  pub sound-precise : (faults : Faults) → ValidFaults faults → Windowed faults fs f (ownGroup f) → (claim : ℕ) → preciseBound faults fs f ≤ claim → MeetsClaim faults fs k claim
+  sound-precise faults fine = sound faults fine everyGroup (λ j t. tt)

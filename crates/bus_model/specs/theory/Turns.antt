@@ -20,7 +20,7 @@ use Rattle.arith.specs.laws.Multiples.{lcmOf-pos, lcmOf-least}
 use Rattle.bus_model.specs.Frame.{row}
 use Rattle.bus_model.specs.Valid.{ValidFrame, Valid}
 use Rattle.bus_model.specs.Pattern.{ofGroup, hyperperiod}
-use Rattle.bus_model.specs.Bounds.{groups, windowLimit, ahead, blocking, phase, isReleasedAt, alignments, orEmpty, distance, choiceOf, demand, workAt, groupWork, work, windowLoad, busyWindow, delayLoad, queueingDelay, ownDistance, instanceResponse, responseTime, scenarioResponse}
+use Rattle.bus_model.specs.Bounds.{groups, windowLimit, ahead, blocking, phase, isReleasedAt, alignments, orEmpty, distance, choiceOf, demand, workAt, groupWork, work, faultLoad, windowLoad, busyWindow, delayLoad, queueingDelay, ownDistance, instanceResponse, responseTime, scenarioResponse}
 use Rattle.bus_model.specs.theory.Pattern.{hyperperiod-multiple}
 use Rattle.bus_model.specs.theory.Frames.{Part, phase-fits, group-listed, valid-frame, better-ahead, of-ahead, of-group, group-part, self-ahead, group-divides, group-pos}
 use Rattle.bus_model.specs.theory.Alignment.{released-at, released-turn, or-empty}
@@ -29,6 +29,7 @@ use Rattle.bus_model.specs.theory.Refine.{refined, set-same, set-other}
 use Rattle.arith.specs.declared.Found.{Found}
 use Rattle.arith.specs.declared.Found.the-variants.{At, Nothing}
 use Rattle.bus_model.specs.declared.Frame.{Frame}
+use Rattle.bus_model.specs.declared.Faults.{Faults}
 use Rattle.bus_model.specs.declared.Choice.{Choice}
 use Rattle.bus_model.specs.declared.Choice.the-variants.{Fixed, Any}
 
@@ -203,14 +204,14 @@ module _ (fs : List Frame) (k : Frame) where
       work-alike n = sum-same (range 1 groups) (λ j m. choice-alike j n (choiceOf cs j) (choiceOf cs′ j) (alike j m))
 
     -- They have the same window,
-    pub window-alike : busyWindow fs k cs ≡ busyWindow fs k cs′
+    pub window-alike : (faults : Faults) → busyWindow faults fs k cs ≡ busyWindow faults fs k cs′
     unfolding busyWindow windowLoad
-    window-alike = ap (λ (w : ℕ → ℕ). least (λ l. leb (blocking fs k + w l) l) windowLimit 1) (fun-ext (work-alike (λ g m. m)))
+    window-alike faults = ap (λ (w : ℕ → ℕ). least (λ l. leb (blocking fs k + w l + faultLoad faults fs k l) l) windowLimit 1) (fun-ext (work-alike (λ g m. m)))
 
     -- and the same delays.
-    pub delay-alike : (q : ℕ) → queueingDelay fs k cs q ≡ queueingDelay fs k cs′ q
+    pub delay-alike : (faults : Faults) (q : ℕ) → queueingDelay faults fs k cs q ≡ queueingDelay faults fs k cs′ q
     unfolding queueingDelay delayLoad
-    delay-alike q = ap (λ (h : ℕ → ℕ). least (λ w. leb (blocking fs k + q * k .length + h (suc w)) w) windowLimit 0) (fun-ext (work-alike (better-ahead fs k)))
+    delay-alike faults q = ap (λ (h : ℕ → ℕ). least (λ w. leb (blocking fs k + q * k .length + h (suc w) + faultLoad faults fs k (w + k .length)) w) windowLimit 0) (fun-ext (work-alike (better-ahead fs k)))
 
 module _ {fs : List Frame} (valid : Valid fs) {k : ℕ} (inside : k < length fs) where
   abbrev f : Frame
@@ -230,26 +231,27 @@ module _ {fs : List Frame} (valid : Valid fs) {k : ℕ} (inside : k < length fs)
         go Any Any u = refl
 
     -- and so are the response times.
-    time-alike : (l : ℕ) → responseTime fs f cs l ≡ responseTime fs f cs′ l
+    time-alike : (faults : Faults) (l : ℕ) → responseTime faults fs f cs l ≡ responseTime faults fs f cs′ l
     unfolding responseTime instanceResponse
-    time-alike l =
+    time-alike faults l =
         ap₂ (λ (h : ℕ → ℕ) (d : ℕ). greatest h (range 0 (releasesBefore d (f .period) l)))
-        (fun-ext (λ q. rw (delay-alike fs f cs cs′ alike q, own-alike)))
+        (fun-ext (λ q. rw (delay-alike fs f cs cs′ alike faults q, own-alike)))
         own-alike
 
     -- So they have the same response.
-    pub response-alike : scenarioResponse fs f cs ≡ scenarioResponse fs f cs′
+    pub response-alike : (faults : Faults) → scenarioResponse faults fs f cs ≡ scenarioResponse faults fs f cs′
     unfolding scenarioResponse
-    response-alike = ap₂ (λ (r : Found) (h : ℕ → ℕ). elim r as (λ _. ℕ) [ At l ↦ h l | Nothing ↦ 0 ]) (window-alike fs f cs cs′ alike) (fun-ext time-alike)
+    response-alike faults =
+        ap₂ (λ (r : Found) (h : ℕ → ℕ). elim r as (λ _. ℕ) [ At l ↦ h l | Nothing ↦ 0 ]) (window-alike fs f cs cs′ alike faults) (fun-ext (time-alike faults))
 
   -- Group by group the same is found from both.
-  pub refined-alike : (js : List ℕ) → ((j : ℕ) → Mem j js → Mem j (range 1 groups)) → (cs cs′ : List Choice) → Alike fs f cs cs′ → length cs ≡ groups → length cs′ ≡ groups
-      → refined fs f js cs ≡ refined fs f js cs′
+  pub refined-alike : (faults : Faults) (js : List ℕ) → ((j : ℕ) → Mem j js → Mem j (range 1 groups)) → (cs cs′ : List Choice) → Alike fs f cs cs′ → length cs ≡ groups → length cs′ ≡ groups
+      → refined faults fs f js cs ≡ refined faults fs f js cs′
   unfolding refined
-  refined-alike [] group cs cs′ alike long long′ = response-alike cs cs′ alike
-  refined-alike (j ∷ js) group cs cs′ alike long long′ =
+  refined-alike faults [] group cs cs′ alike long long′ = response-alike cs cs′ alike faults
+  refined-alike faults (j ∷ js) group cs cs′ alike long long′ =
       ap (λ (h : ℕ → ℕ). greatest h (orEmpty (alignments fs f j))) (fun-ext (λ a.
-      refined-alike js (λ i l. group i (there l)) (set cs (j - 1) (Fixed a)) (set cs′ (j - 1) (Fixed a))
+      refined-alike faults js (λ i l. group i (there l)) (set cs (j - 1) (Fixed a)) (set cs′ (j - 1) (Fixed a))
       (alike-set fs f cs cs′ alike long long′ (group j (here refl)) a a (same-self fs f j (Fixed a)))
       (length-set cs (j - 1) (Fixed a) ∙ long) (length-set cs′ (j - 1) (Fixed a) ∙ long′)))
 
@@ -266,11 +268,11 @@ module _ {fs : List Frame} (valid : Valid fs) {k : ℕ} (inside : k < length fs)
     alike-turn a = alike-set fs f cs cs (alike-self fs f cs) long long listed (a % turn fs f j) a (λ g m. distance-turn valid f j m a)
 
     -- So no more need be refined.
-    pub refined-turn : (js : List ℕ) → ((i : ℕ) → Mem i js → Mem i (range 1 groups))
-        → greatest (λ a. refined fs f js (set cs (j - 1) (Fixed a))) (orEmpty (firstTurn fs f j)) ≡ greatest (λ a. refined fs f js (set cs (j - 1) (Fixed a))) (orEmpty (alignments fs f j))
-    refined-turn js group =
-        greatest-turn valid f j (λ a. refined fs f js (fixed a)) (λ a.
-        refined-alike js group (fixed (a % turn fs f j)) (fixed a) (alike-turn a) (length-set cs (j - 1) (Fixed (a % turn fs f j)) ∙ long) (length-set cs (j - 1) (Fixed a) ∙ long))
+    pub refined-turn : (faults : Faults) (js : List ℕ) → ((i : ℕ) → Mem i js → Mem i (range 1 groups))
+        → greatest (λ a. refined faults fs f js (set cs (j - 1) (Fixed a))) (orEmpty (firstTurn fs f j)) ≡ greatest (λ a. refined faults fs f js (set cs (j - 1) (Fixed a))) (orEmpty (alignments fs f j))
+    refined-turn faults js group =
+        greatest-turn valid f j (λ a. refined faults fs f js (fixed a)) (λ a.
+        refined-alike faults js group (fixed (a % turn fs f j)) (fixed a) (alike-turn a) (length-set cs (j - 1) (Fixed (a % turn fs f j)) ∙ long) (length-set cs (j - 1) (Fixed a) ∙ long))
 
 -- ---- a visit of the first turn
 

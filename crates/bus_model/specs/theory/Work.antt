@@ -1,26 +1,29 @@
--- The work of a scenario: it grows with time, it is least where every group's alignment is fixed,
+-- The work of a scenario: it grows with time, as the load of faults does, it is least where every group's alignment is fixed,
 -- and that of the frames ahead is that of the better ones and the frame's own.
-use Prim.Native.Nat.{ℕ, _+_, _≤_, _<_}
+use Prim.Native.Nat.{ℕ, suc, _+_, _-_, _*_, _≤_, _<_}
 use mathlib.Core.Path.{_≡_, refl, sym, ap, fun-ext}
 use mathlib.Core.List.{List, [], _∷_, List·Memᴰ as Mem, List·Memᴰ·head as here, List·Memᴰ·not-nil}
 use mathlib.Core.Bool.{cond}
 use mathlib.Core.Logic.{_≢_}
 use native.Mathlib.Omega.{arith}
-use native.Mathlib.Nat.{le-refl, le-of-eq, le-trans, mul-le-mul-left}
+use native.Mathlib.Nat.{le-refl, le-of-eq, le-trans, mul-le-mul-left, mul-le-mul-right}
 use lib.Dec.{eqb, eqb-refl, eqb→eq}
 use lib.ListN.{length}
 use Rattle.arith.specs.Lists.{sum, greatest, range}
+use Rattle.arith.specs.Releases.{releasesBefore}
 use Rattle.arith.specs.laws.Tests.{cond-yes, cond-no}
 use Rattle.arith.specs.laws.Sums.{sum-le, sum-keep, sum-at, le-greatest, greatest-le}
-use Rattle.arith.specs.laws.Releases.{count-mono}
+use Rattle.arith.specs.laws.Releases.{count-mono, count-grows, count-ahead}
 use Rattle.bus_model.specs.Frame.{row}
 use Rattle.bus_model.specs.Valid.{ValidFrame, Valid}
 use Rattle.bus_model.specs.Pattern.{ofGroup}
-use Rattle.bus_model.specs.Bounds.{groups, ahead, better, phase, alignments, orEmpty, choiceOf, demand, workAt, groupWork, work}
+use Rattle.bus_model.specs.Bounds.{groups, ahead, better, phase, alignments, orEmpty, choiceOf, demand, workAt, groupWork, work, faultTime, faultLoad}
 use Rattle.bus_model.specs.theory.Rows.{ahead-sum}
 use Rattle.bus_model.specs.theory.Frames.{Part, valid-frame, of-ahead, of-group, group-part}
 use Rattle.bus_model.specs.theory.Alignment.{phase-aligned}
 use Rattle.bus_model.specs.declared.Frame.{Frame}
+use Rattle.bus_model.specs.declared.Faults.{Faults}
+use Rattle.bus_model.specs.declared.Faults.the-variants.{Never, Apart}
 use Rattle.bus_model.specs.declared.Choice.{Choice}
 use Rattle.bus_model.specs.declared.Choice.the-variants.{Fixed, Any}
 
@@ -48,6 +51,20 @@ module _ {n n′ : ℕ} (le : n ≤ n′) where
   unfolding work
   work-mono fs valid k {gs} part cs =
       sum-le (range 1 groups) (λ j m. group-mono (ofGroup gs j) (λ g l. valid-frame valid (of-ahead fs k (part g (of-group gs j l .0)))) (alignments fs k j) (choiceOf cs j))
+
+  -- So does the load of faults.
+  pub fault-mono : (faults : Faults) (fs : List Frame) (k : Frame) → faultLoad faults fs k n ≤ faultLoad faults fs k n′
+  unfolding faultLoad
+  fault-mono Never fs k = omega arith
+  fault-mono (Apart g) fs k = mul-le-mul-right (faultTime fs k) (count-grows 0 g le)
+
+-- The faults that load a start: some at once, and then as many as there are releases of a frame of period g and some distance.
+pub fault-start : {g : ℕ} → 1 ≤ g → (fs : List Frame) (k : Frame) → 1 ≤ k .length → (w : ℕ)
+    → faultLoad (Apart g) fs k (w + k .length) ≡ (releasesBefore 0 g (k .length - 1) + releasesBefore (releasesBefore 0 g (k .length - 1) * g - (k .length - 1)) g (suc w)) * faultTime fs k
+unfolding faultLoad
+fault-start {g} some fs k long w =
+    let same : w + k .length ≡ suc w + (k .length - 1) = omega arith in
+    rw same (ap (λ (n : ℕ). n * faultTime fs k) (count-ahead some (suc w) (k .length - 1)))
 
 -- ---- fewer choices, less work
 

@@ -7,6 +7,7 @@ use mathlib.Core.List.{List, [], _++_}
 use lib.ListN.{length, getD}
 use Rattle.bus_model.specs.Frame.{row}
 use Rattle.bus_model.specs.Judgement.{judge}
+use Rattle.bus_model.specs.declared.Faults.the-variants.{Never}
 use Rattle.table_checks.specs.declared.Checked.{Checked}
 use Rattle.table_checks.specs.declared.Checked.the-variants.{Passed, Failed}
 use Rattle.table_checks.specs.Columns.{field, columns, identifierColumn}
@@ -42,7 +43,7 @@ unfoldable pub judgeCheckedBefore : Checked → List ℕ → ℕ → Judged
 judgeCheckedBefore (Failed f) rows r = NotJudged (ofTable f)
 judgeCheckedBefore Passed rows r =
     cond (noRow rows r) (NotJudged (record { cause = NoSuchRow; place = 0 }))
-    (Verdict (judge (framesBefore rows) (row (framesBefore rows) r) (claimOf rows r)))
+    (Verdict (judge Never (framesBefore rows) (row (framesBefore rows) r) (claimOf rows r)))
 
 unfoldable pub judgeRowBefore : List ℕ → ℕ → Judged
 judgeRowBefore rows r = judgeCheckedBefore (rowsCheckBefore rows) rows r
@@ -55,7 +56,7 @@ unfoldable pub boundRowBefore : List ℕ → ℕ → Bounded
 boundRowBefore rows r = boundCheckedBefore (rowsCheckBefore rows) rows r
 
 unfoldable pub lineBefore : List ℕ → ℕ → List ℕ
-lineBefore rows i = listingLine (field rows i identifierColumn) (judge (framesBefore rows) (row (framesBefore rows) i) (claimOf rows i))
+lineBefore rows i = listingLine (field rows i identifierColumn) (judge Never (framesBefore rows) (row (framesBefore rows) i) (claimOf rows i))
 
 unfoldable pub linesBefore : List ℕ → ℕ → ℕ → List ℕ
 linesBefore rows zero i = []
@@ -122,16 +123,16 @@ bound-before rows r = rw (loaded-before rows) (go (rowsCheckBefore rows))
     go Passed = rw (frames-before rows)
 
 -- and every line.
-line-before : (rows : List ℕ) (i : ℕ) → lineOf standardLengths rows i ≡ lineBefore rows i
+line-before : (rows : List ℕ) (i : ℕ) → lineOf Never standardLengths rows i ≡ lineBefore rows i
 unfolding lineOf lineBefore
 line-before rows i = rw (frames-before rows)
 
-lines-before : (rows : List ℕ) (n i : ℕ) → linesFrom standardLengths rows n i ≡ linesBefore rows n i
+lines-before : (rows : List ℕ) (n i : ℕ) → linesFrom Never standardLengths rows n i ≡ linesBefore rows n i
 unfolding linesBefore
 lines-before rows zero i = refl
 lines-before rows (suc n) i = ap₂ (λ (x y : List ℕ). x ++ y) (line-before rows i) (lines-before rows n (i + 1))
 
-pub listing-before : (rows : List ℕ) → listingOf standardLengths rows ≡ listingBefore rows
+pub listing-before : (rows : List ℕ) → listingOf Never standardLengths rows ≡ listingBefore rows
 unfolding listingOf listingBefore
 listing-before rows = lines-before rows (length rows / columns) 0
 

@@ -10,6 +10,7 @@ use lib.ListN.{length}
 use lib.IntN.{ℤ, pos, _+ℤ_, negℤ, +ℤ-assoc, pos-ne-negsuc}
 use Rattle.arith.specs.laws.Tests.{cond-cases}
 use Rattle.bus_model.specs.declared.Frame.{Frame}
+use Rattle.bus_model.specs.declared.Faults.the-variants.{Never}
 use Rattle.bus_model.specs.declared.Outcome.{Outcome}
 use Rattle.bus_model.specs.declared.Outcome.the-variants.{CertifiedApproximate, CertifiedPrecise, ClaimTooSmall, CertifiedLevel, NoWindow, Undecided}
 use Rattle.bus_model.specs.declared.Judgement.{Judgement}
@@ -249,7 +250,7 @@ module _ (ls : List (List ℕ)) (rows : List ℕ) (r : ℕ) where
           (λ has.
           let few = accepted-size rows (loaded-both ls rows e .1) .most in
           let some : ¬ (length rows / columns ≤ r) = λ le. has (le→leb _ _ le) in
-          cond-cases BoundedPlaced (lacksWindow (framesOf ls rows) (row (framesOf ls rows) r)) (λ w. omega arith)
+          cond-cases BoundedPlaced (lacksWindow Never (framesOf ls rows) (row (framesOf ls rows) r)) (λ w. omega arith)
           (λ w. cond-cases BoundedPlaced (tooManyScenarios (framesOf ls rows) (row (framesOf ls rows) r)) (λ m. omega arith) (λ m. tt)))
 
   -- The place of a refusal is small.

@@ -10,6 +10,7 @@ use Rattle.arith.specs.laws.Overwriting.{begun-none, begun-filled, begun-elemen
 use Rattle.arith.specs.laws.Lines.{Lines, length-lines}
 use Rattle.decimal.specs.Decimal.{writeColumn, writeSigned}
 use Rattle.decimal.specs.Laws.{length-write, length-signed}
+use Rattle.bus_model.specs.declared.Faults.{Faults}
 use Rattle.bus_model.specs.declared.Judgement.{Judgement}
 use Rattle.bus_model.specs.Judgement.{verdict}
 use Rattle.table_checks.specs.Columns.{columns}
@@ -21,13 +22,13 @@ unfolding listingLine
 length-line identifier j = simp (length-append, length-write, length-signed)
 
 -- The lines of a listing, of 31 characters each.
-pub listing-lines : (ls : List (List ℕ)) (rows : List ℕ) → Lines 31 (lineOf ls rows) (linesFrom ls rows)
+pub listing-lines : (faults : Faults) (ls : List (List ℕ)) (rows : List ℕ) → Lines 31 (lineOf faults ls rows) (linesFrom faults ls rows)
 unfolding lineOf
-listing-lines ls rows = record { wide = λ i. length-line _ _; none = λ i. refl; more = λ n i. refl }
+listing-lines faults ls rows = record { wide = λ i. length-line _ _; none = λ i. refl; more = λ n i. refl }
 
-pub length-listing : (ls : List (List ℕ)) (rows : List ℕ) → length (listingOf ls rows) ≡ 31 * (length rows / columns)
+pub length-listing : (faults : Faults) (ls : List (List ℕ)) (rows : List ℕ) → length (listingOf faults ls rows) ≡ 31 * (length rows / columns)
 unfolding listingOf
-length-listing ls rows = length-lines (listing-lines ls rows) (length rows / columns) 0
+length-listing faults ls rows = length-lines (listing-lines faults ls rows) (length rows / columns) 0
 
 -- The four columns and the line feed, one behind the other, are the line.
 pub line-written : (identifier v : ℕ) (m : ℤ) (j : Judgement) (line a b c d : List ℕ) → length line ≡ 31 → v ≡ verdict (j .outcome) → m ≡ j .margin

@@ -10,6 +10,7 @@ use Rattle.bus_model.specs.Frame.{row}
 use Rattle.bus_model.specs.Bus.{Transmission, Schedule}
 use Rattle.bus_model.specs.theory.Alike.{early}
 use Rattle.bus_model.specs.theory.Offsets.{judgeWith, offsetOf}
+use Rattle.bus_model.specs.declared.Faults.the-variants.{Never}
 use Rattle.table_checks.specs.declared.Checked.{Checked}
 use Rattle.table_checks.specs.declared.Checked.the-variants.{Passed, Failed}
 use Rattle.table_checks.specs.Columns.{field, columns, identifierColumn}
@@ -56,7 +57,7 @@ unfoldable pub boundFileFormer : List ℕ → List ℕ → ℕ → Bounded
 boundFileFormer lengths file r = boundReadFormer (inputCheckFormer lengths file) (lengthsOf lengths) file r
 
 unfoldable pub lineFormer : List (List ℕ) → List ℕ → ℕ → List ℕ
-lineFormer ls rows i = listingLine (field rows i identifierColumn) (judgeWith offsetOf (framesOf ls rows) (row (framesOf ls rows) i) (claimOf rows i))
+lineFormer ls rows i = listingLine (field rows i identifierColumn) (judgeWith offsetOf Never (framesOf ls rows) (row (framesOf ls rows) i) (claimOf rows i))
 
 unfoldable pub linesFormer : List (List ℕ) → List ℕ → ℕ → ℕ → List ℕ
 linesFormer ls rows zero i = []
@@ -83,16 +84,16 @@ file-early file e = table-early (fieldsOf file) (first-passed (fileSizeCheck (le
 
 -- the listing,
 module _ (ls : List (List ℕ)) (rows : List ℕ) (before : EarlyRows rows) where
-  line-kept : (i : ℕ) → i < length rows / columns → lineOf ls rows i ≡ lineFormer ls rows i
+  line-kept : (i : ℕ) → i < length rows / columns → lineOf Never ls rows i ≡ lineFormer ls rows i
   unfolding lineOf lineFormer
   line-kept i l = ap (λ j. listingLine (field rows i identifierColumn) (j (claimOf rows i))) (frame-judged-kept ls rows before i l)
 
-  lines-kept : (n i : ℕ) → i + n ≤ length rows / columns → linesFrom ls rows n i ≡ linesFormer ls rows n i
+  lines-kept : (n i : ℕ) → i + n ≤ length rows / columns → linesFrom Never ls rows n i ≡ linesFormer ls rows n i
   unfolding linesFormer
   lines-kept zero i l = refl
   lines-kept (suc n) i l = ap₂ (λ (x y : List ℕ). x ++ y) (line-kept i (omega arith)) (lines-kept n (i + 1) (omega arith))
 
-  pub listing-kept : listingOf ls rows ≡ listingFormer ls rows
+  pub listing-kept : listingOf Never ls rows ≡ listingFormer ls rows
   unfolding listingOf listingFormer
   listing-kept = lines-kept (length rows / columns) 0 (omega arith)
 
@@ -140,9 +141,9 @@ pub record Kept (ls : List (List ℕ)) (rows : List ℕ) : Type 0 where
   pub accepted : Accepted rows
   pub judged : (r : ℕ) → judgeRow ls rows r ≡ judgeRowFormer ls rows r
   pub bounded : (r : ℕ) → boundRow ls rows r ≡ boundRowFormer ls rows r
-  pub listed : listingOf ls rows ≡ listingFormer ls rows
+  pub listed : listingOf Never ls rows ≡ listingFormer ls rows
   pub scheduled : (starts : ℕ → ℕ) (T : ℕ) (xs : List Transmission)
-      → Schedule (framesOf ls rows) starts T xs ↔ Schedule (map early (framesOf ls rows)) starts T xs
+      → Schedule Never (framesOf ls rows) starts T xs ↔ Schedule Never (map early (framesOf ls rows)) starts T xs
 
 -- It is accepted, and judgements, bounds, listing and schedules are those with the offset in place of the phase.
 pub formerly-kept : (ls : List (List ℕ)) (rows : List ℕ) → FormerlyAccepted rows → Kept ls rows

@@ -10,9 +10,10 @@ use Rattle.bus_model.specs.declared.Outcome.the-variants.{CertifiedApproximate,
 use Rattle.bus_model.specs.Bounds.{windowLimit}
 use Rattle.bus_model.specs.Judgement.{boundUsed, marginOf, judge}
 use Rattle.bus_model.specs.theory.Judged.{judged-le-limit}
+use Rattle.bus_model.specs.declared.Faults.the-variants.{Never, Apart}
 use Rattle.table_checks.specs.laws.Accepted.{accepted-limits, accepted-valid}
-use Rattle.row_judgement.specs.Judge.{claimOf, judgeRow}
-use Rattle.row_judgement.specs.laws.Judged.{row-inside, by-judged}
+use Rattle.row_judgement.specs.Judge.{claimOf, judgeRow, judgeFaults}
+use Rattle.row_judgement.specs.laws.Judged.{row-inside, by-judged, by-faults}
 use Rattle.certifier.specs.Steps.{Encodable}
 
 -- a signed number and a million are a number up to two million
@@ -37,5 +38,13 @@ unfolding windowLimit judge
 judged-encodable ls rows r =
     by-judged Encodable ls rows r (λ f. tt)
     (λ loadable accepted l.
-    let b = judged-le-limit (accepted-valid rows accepted ls loadable) (row-inside ls rows l) (claimOf rows r) in
+    let b = judged-le-limit (accepted-valid rows accepted ls loadable) (row-inside ls rows l) Never (claimOf rows r) in
+    (b, margin-small (claimOf rows r) _ (accepted-limits rows accepted r l .claim-max) b))
+
+pub faults-encodable : (ls : List (List ℕ)) (rows : List ℕ) (r g : ℕ) → Encodable (judgeFaults ls rows r g)
+unfolding windowLimit judge
+faults-encodable ls rows r g =
+    by-faults Encodable ls rows r g (λ f. tt)
+    (λ loadable accepted l gap.
+    let b = judged-le-limit (accepted-valid rows accepted ls loadable) (row-inside ls rows l) (Apart g) (claimOf rows r) in
     (b, margin-small (claimOf rows r) _ (accepted-limits rows accepted r l .claim-max) b))

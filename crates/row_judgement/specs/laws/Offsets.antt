@@ -10,6 +10,7 @@ use lib.ListN.{length}
 use Rattle.arith.specs.laws.Tests.{by-test}
 use Rattle.arith.specs.laws.Members.{mem-getD}
 use Rattle.bus_model.specs.declared.Frame.{Frame}
+use Rattle.bus_model.specs.declared.Faults.the-variants.{Never}
 use Rattle.bus_model.specs.Frame.{noFrame, row}
 use Rattle.bus_model.specs.Bus.{Transmission, Schedule}
 use Rattle.bus_model.specs.Valid.{Early}
@@ -38,16 +39,16 @@ unfoldable pub judgeCheckedFormer : Checked → List (List ℕ) → List ℕ →
 judgeCheckedFormer (Failed f) ls rows r = NotJudged (ofTable f)
 judgeCheckedFormer Passed ls rows r =
     cond (noRow rows r) (NotJudged (record { cause = NoSuchRow; place = 0 }))
-    (Verdict (judgeWith offsetOf (framesOf ls rows) (row (framesOf ls rows) r) (claimOf rows r)))
+    (Verdict (judgeWith offsetOf Never (framesOf ls rows) (row (framesOf ls rows) r) (claimOf rows r)))
 
 unfoldable pub judgeRowFormer : List (List ℕ) → List ℕ → ℕ → Judged
 judgeRowFormer ls rows r = judgeCheckedFormer (loadedCheckWith formerLimit ls rows) ls rows r
 
 unfoldable pub boundFrameFormer : List Frame → ℕ → Bounded
 boundFrameFormer fs r =
-    cond (lacksWindowWith offsetOf fs (row fs r)) (NotBounded (record { cause = NoWindow; place = r }))
+    cond (lacksWindowWith offsetOf Never fs (row fs r)) (NotBounded (record { cause = NoWindow; place = r }))
     (cond (tooManyWith offsetOf fs (row fs r)) (NotBounded (record { cause = TooManyScenarios; place = r }))
-    (Bound (boundWith offsetOf fs (row fs r) everyGroup)))
+    (Bound (boundWith offsetOf Never fs (row fs r) everyGroup)))
 
 unfoldable pub boundCheckedFormer : Checked → List (List ℕ) → List ℕ → ℕ → Bounded
 boundCheckedFormer (Failed f) ls rows r = NotBounded (ofTable f)
@@ -66,14 +67,14 @@ module _ (ls : List (List ℕ)) (rows : List ℕ) (before : EarlyRows rows) wher
   listed r l = mem-getD (framesOf ls rows) r noFrame (rw (length-frames ls rows) l)
 
   -- the judgement of a row's frame,
-  pub frame-judged-kept : (r : ℕ) → r < length rows / columns → judge (framesOf ls rows) (row (framesOf ls rows) r) ≡ judgeWith offsetOf (framesOf ls rows) (row (framesOf ls rows) r)
-  frame-judged-kept r l = judge-kept (framesOf ls rows) frames-early (listed r l)
+  pub frame-judged-kept : (r : ℕ) → r < length rows / columns → judge Never (framesOf ls rows) (row (framesOf ls rows) r) ≡ judgeWith offsetOf Never (framesOf ls rows) (row (framesOf ls rows) r)
+  frame-judged-kept r l = judge-kept (framesOf ls rows) frames-early (listed r l) Never
 
   frame-bound-kept : (r : ℕ) → r < length rows / columns → boundFrame (framesOf ls rows) r ≡ boundFrameFormer (framesOf ls rows) r
   unfolding boundFrame boundFrameFormer tooManyScenarios tooManyWith
   frame-bound-kept r l =
       let m = listed r l in
-      rw (lacks-kept (framesOf ls rows) frames-early m, count-kept (framesOf ls rows) frames-early m, bound-kept (framesOf ls rows) frames-early m)
+      rw (lacks-kept (framesOf ls rows) frames-early m Never, count-kept (framesOf ls rows) frames-early m, bound-kept (framesOf ls rows) frames-early m Never)
 
   -- what judging a row answers,
   pub judge-row-kept : (r : ℕ) → judgeRow ls rows r ≡ judgeRowFormer ls rows r
@@ -95,5 +96,5 @@ module _ (ls : List (List ℕ)) (rows : List ℕ) (before : EarlyRows rows) wher
 
   -- and the schedules, whether the bus rule reads an offset or what is left of it over whole periods.
   pub table-schedules-kept : (starts : ℕ → ℕ) (T : ℕ) (xs : List Transmission)
-      → Schedule (framesOf ls rows) starts T xs ↔ Schedule (map early (framesOf ls rows)) starts T xs
-  table-schedules-kept = schedules-kept (framesOf ls rows) frames-early
+      → Schedule Never (framesOf ls rows) starts T xs ↔ Schedule Never (map early (framesOf ls rows)) starts T xs
+  table-schedules-kept = schedules-kept (framesOf ls rows) frames-early Never

@@ -9,6 +9,7 @@ use lib.Dec.{leb}
 use lib.ListN.{length}
 use Rattle.bus_model.specs.Frame.{row}
 use Rattle.bus_model.specs.Judgement.{judge}
+use Rattle.bus_model.specs.declared.Faults.the-variants.{Never}
 use Rattle.table_checks.specs.declared.Checked.{Checked}
 use Rattle.table_checks.specs.declared.Checked.the-variants.{Passed, Failed}
 use Rattle.table_checks.specs.Columns.{claimColumn}
@@ -35,7 +36,7 @@ unfoldable pub plainJudgeChecked : Checked → List (List ℕ) → List ℕ → 
 plainJudgeChecked (Failed f) ls t r = NotJudged (ofTable f)
 plainJudgeChecked Passed ls t r =
     cond (leb (length t / plainColumns) r) (NotJudged (record { cause = NoSuchRow; place = 0 }))
-    (Verdict (judge (plainFrames ls t) (row (plainFrames ls t) r) (plainClaim t r)))
+    (Verdict (judge Never (plainFrames ls t) (row (plainFrames ls t) r) (plainClaim t r)))
 
 unfoldable pub plainJudgeRow : List (List ℕ) → List ℕ → ℕ → Judged
 plainJudgeRow ls t r = plainJudgeChecked (plainLoadedCheck ls t) ls t r

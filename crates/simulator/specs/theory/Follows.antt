@@ -12,11 +12,12 @@ use lib.Seq.{getD-set-same, getD-set-other}
 use Rattle.arith.specs.laws.Members.{getD-table}
 use Rattle.bus_model.specs.Frame.{row}
 use Rattle.bus_model.specs.Release.{release}
-use Rattle.bus_model.specs.Bus.{Transmission, oneMore, Idle, Runs, Schedule}
+use Rattle.bus_model.specs.Bus.{Transmission, oneMore, Idle}
+use Rattle.bus_model.specs.theory.Uncut.{PlainRuns, never-plain}
 use Rattle.table_checks.specs.Frames.{framesOf}
 use Rattle.table_checks.specs.Checks.{Loadable, Accepted}
 use Rattle.bus_log.specs.declared.Entry.{Entry}
-use Rattle.bus_log.specs.Log.{ShowsAll, endFrom, IsBeginning, AcceptedLog}
+use Rattle.bus_log.specs.Log.{ShowsAll, endFrom, lastEnd, IsBeginning, AcceptedLog}
 use Rattle.bus_log.specs.Beginning.{sending, Sends, Follows}
 use Rattle.bus_log.specs.theory.Clear.{next-of}
 use Rattle.bus_log.specs.theory.Table.{few-rows}
@@ -144,18 +145,21 @@ module _ (ls : List (List ℕ)) (loadable : Loadable ls) (t : List ℕ) (accepte
     end-after sent free (x ∷ xs) (sends, h) = omega (arith, end-after _ (x .start + x .length) xs h, sends .0 .after)
 
     shown : (sent : ℕ → ℕ) (free : ℕ) (es : List Entry) → Follows (framesOf ls t) starts sent free es
-        → ShowsAll (framesOf ls t) t starts (map (lineOf t) es) (sendings sent es) × Runs (framesOf ls t) starts (endFrom free (map (lineOf t) es)) sent free (sendings sent es)
-    unfolding Follows endFrom lineOf sendings ShowsAll Runs Idle
+        → ShowsAll (framesOf ls t) t starts (map (lineOf t) es) (sendings sent es) × PlainRuns (framesOf ls t) starts (endFrom free (map (lineOf t) es)) sent free (sendings sent es)
+    unfolding Follows endFrom lineOf sendings ShowsAll PlainRuns Idle
     shown sent free [] h = (tt, λ u i from to waits. omega arith)
     shown sent free (x ∷ xs) (sends, h) =
         let (all, runs) = shown (oneMore sent (x .frame)) (x .start + x .length) xs h in (
           (record { identifier = refl; kind = refl; queueing = sends .1; start = refl; length = refl }, all),
-          (sends .0, omega (arith, end-after _ (x .start + x .length) xs h, sends .0 .positive), runs),
+          (sends .0, refl, omega (arith, end-after _ (x .start + x .length) xs h, sends .0 .positive), runs),
         )
 
     pub entries-beginning : (es : List Entry) → Follows (framesOf ls t) starts (λ i. 0) 0 es → IsBeginning (framesOf ls t) t starts (map (lineOf t) es)
-    unfolding IsBeginning Schedule
-    entries-beginning es h = let (all, runs) = shown (λ i. 0) 0 es h in (sendings (λ i. 0) es, all, runs)
+    unfolding IsBeginning
+    entries-beginning es h =
+        let (all, runs) = shown (λ i. 0) 0 es h in
+        let xs = sendings (λ i. 0) es in
+        (xs, all, never-plain (framesOf ls t) starts (lastEnd (map (lineOf t) es)) xs .1 runs)
 
   -- ---- from drawn starts
 

@@ -6,6 +6,7 @@ use mathlib.Core.Logic.{_≢_, _↔_}
 use native.Mathlib.Omega.{arith}
 use lib.ListN.{length}
 use Rattle.bus_model.specs.declared.Frame.{Frame}
+use Rattle.bus_model.specs.declared.Faults.the-variants.{Never}
 use Rattle.bus_model.specs.Frame.{row}
 use Rattle.bus_model.specs.Bus.{MeetsClaim}
 use Rattle.bus_model.specs.Bounds.{preciseBound}
@@ -37,9 +38,9 @@ module _ (rows : List ℕ) (accepted : Accepted rows) (ls : List (List ℕ)) whe
       let some : 1 ≤ length rows / columns = omega (arith, size .some, size .whole) in
       last-row fs (rw (length-frames ls rows) some)
 
-  module _ (loadable : Loadable ls) (early : EarlyRows rows) (claim : ℕ) (windowed : verdict (judge fs f claim .outcome) ≢ 11) where
-    pub accepted-reached : Responds fs (forGroup (worstStarts fs f)) k (worstInstance fs f) (preciseBound fs f)
+  module _ (loadable : Loadable ls) (early : EarlyRows rows) (claim : ℕ) (windowed : verdict (judge Never fs f claim .outcome) ≢ 11) where
+    pub accepted-reached : Responds fs (forGroup (worstStarts fs f)) k (worstInstance fs f) (preciseBound Never fs f)
     accepted-reached = last-reached (accepted-valid rows accepted ls loadable) (last-listed .0) (early-frames ls rows early) (last-listed .1) claim windowed
 
-    pub accepted-least : (c : ℕ) → MeetsClaim fs k c ↔ (preciseBound fs f ≤ c)
+    pub accepted-least : (c : ℕ) → MeetsClaim Never fs k c ↔ (preciseBound Never fs f ≤ c)
     accepted-least = last-least (accepted-valid rows accepted ls loadable) (last-listed .0) (early-frames ls rows early) (last-listed .1) claim windowed

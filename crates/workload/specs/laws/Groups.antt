@@ -21,48 +21,70 @@ use Rattle.arith.specs.laws.Sums.{greatest-le}
 use Rattle.arith.specs.laws.Walks.{Down, down-start, down-more, down-end}
 use Rattle.arith.specs.laws.Gathering.{Gathered, gathered-all}
 use Rattle.bus_model.specs.declared.Frame.{Frame}
+use Rattle.bus_model.specs.declared.Faults.{Faults}
+use Rattle.bus_model.specs.declared.Faults.the-variants.{Never, Apart}
 use Rattle.bus_model.specs.declared.Choice.{Choice}
 use Rattle.bus_model.specs.declared.Choice.the-variants.{Fixed, Any}
 use Rattle.bus_model.specs.Frame.{noFrame, row}
 use Rattle.bus_model.specs.Pattern.{ofGroup, hyperperiod}
-use Rattle.bus_model.specs.Bounds.{isAhead, isBelow, ahead, below, blocking, alignments, choiceOf, groupWork}
+use Rattle.bus_model.specs.Bounds.{isAhead, isBelow, ahead, below, blocking, alignments, choiceOf, groupWork, faultTime}
 use Rattle.bus_model.specs.theory.Visits.{isAlignment}
 use Rattle.bus_model.specs.theory.Turns.{turn, firstTurn, turn-pos, turn-le, group-work-turn}
 use Rattle.table_checks.specs.Frames.{framesOf}
-use Rattle.workload.specs.Prepared.{Fine, FineTable, framesIn, isInstant, instantsIn, firstIn, countIn, cycleIn, hyperIn, partOf, tableBy, tableOf, ByGroup, Prepared}
-use Rattle.workload.specs.laws.Fine.{member-fine}
+use Rattle.workload.specs.Prepared.{Fine, FineTable, framesIn, isInstant, instantsIn, firstIn, countIn, cycleIn, hyperIn, partOf, tableBy, tableOf, ByGroup, Prepared, InTable}
+use Rattle.workload.specs.laws.Fine.{member-fine, in-table-fine}
+use Rattle.workload.specs.declared.Target.{Target}
+use Rattle.workload.specs.Faults.{costOf, FineFaults, FineTarget}
 
--- ---- blocking
+-- ---- the longest of some frames
 
--- the greatest length of the frames below k among some
-abbrev pub longestBelow : Frame → List Frame → ℕ
-longestBelow k gs = greatest (λ g. g .length) (below gs k)
+-- the greatest length of those that pass a test
+abbrev pub longestOf : (Frame → Bool) → List Frame → ℕ
+longestOf p gs = greatest (λ g. g .length) (keep p gs)
 
 -- what a frame more makes of it
-abbrev longerOf : Frame → Frame → ℕ → ℕ
-longerOf k g n = cond (isBelow k g) (max (g .length) n) n
+abbrev longerOf : (Frame → Bool) → Frame → ℕ → ℕ
+longerOf p g n = cond (p g) (max (g .length) n) n
 
-longest-cons : (k g : Frame) (gs : List Frame) → longestBelow k (g ∷ gs) ≡ longerOf k g (longestBelow k gs)
-unfolding below
-longest-cons k g gs = fold-keep (greatest (λ (x : Frame). x .length)) (λ (x : Frame). max (x .length)) (λ x xs. unfold greatest in refl) (isBelow k) g gs
+longest-cons : (p : Frame → Bool) (g : Frame) (gs : List Frame) → longestOf p (g ∷ gs) ≡ longerOf p g (longestOf p gs)
+longest-cons p g gs = fold-keep (greatest (λ (x : Frame). x .length)) (λ (x : Frame). max (x .length)) (λ x xs. unfold greatest in refl) p g gs
 
-module _ (fs : List Frame) (k : Frame) where
+module _ (fs : List Frame) (p : Frame → Bool) where
   -- A loop down through the frames starts at 0.
-  pub longest-none : Down (longestBelow k) fs 0 (length fs)
-  unfolding greatest below keep
-  longest-none = down-start (longestBelow k) fs refl
+  pub longest-none : Down (longestOf p) fs 0 (length fs)
+  unfolding greatest keep
+  longest-none = down-start (longestOf p) fs refl
 
   -- It takes one frame more.
-  pub longest-more : {i : ℕ} {g : Frame} {n r : ℕ} → Down (longestBelow k) fs n i → 0 < i → g ≡ row fs (i - 1) → r ≡ longerOf k g n
-      → Down (longestBelow k) fs r (i - 1)
-  longest-more = down-more (longestBelow k) fs (longerOf k) (longest-cons k) noFrame
+  pub longest-more : {i : ℕ} {g : Frame} {n r : ℕ} → Down (longestOf p) fs n i → 0 < i → g ≡ row fs (i - 1) → r ≡ longerOf p g n
+      → Down (longestOf p) fs r (i - 1)
+  longest-more = down-more (longestOf p) fs (longerOf p) (longest-cons p) noFrame
+
+-- In an accepted table it is small.
+pub longest-small : (fs : List Frame) → FineTable fs → (p : Frame → Bool) → longestOf p fs ≤ 400
+longest-small fs accepted p = greatest-le {f = λ g. g .length} {n = 400} (keep p fs) (λ g m. member-fine fs accepted (of-keep _ fs m .0) .length-high)
+
+-- So is what a fault costs,
+cost-small : {fs : List Frame} → FineTable fs → (faults : Faults) (k : Frame) → costOf faults fs k ≤ 431
+unfolding costOf faultTime ahead
+cost-small accepted Never k = omega arith
+cost-small {fs} accepted (Apart g) k = omega (arith, longest-small fs accepted (isAhead k))
+
+-- and what is judged is within its limits.
+pub target-fine : {fs : List Frame} → FineTable fs → {t : Target} → InTable fs (t .frame) → FineFaults (t .faults) → t .cost ≡ costOf (t .faults) fs (t .frame) → FineTarget t
+target-fine {fs} accepted {t} listed premise cost =
+    let f = in-table-fine fs accepted listed in
+    record { long = f .length-low; short = f .length-high; premise = premise; cost = omega (arith, cost, cost-small accepted (t .faults) (t .frame)) }
+
+-- Where faults never begin, there is no limit.
+pub fine-never : FineFaults Never
+unfolding FineFaults
+fine-never = tt
 
 -- In an accepted table blocking is at most a frame's length.
 pub blocking-small : (fs : List Frame) → FineTable fs → (k : Frame) → blocking fs k ≤ 400
 unfolding blocking below
-blocking-small fs accepted k =
-    let most = greatest-le {f = λ g. g .length} {n = 400} (below fs k) (λ g m. member-fine fs accepted (of-keep _ fs m .0) .length-high) in
-    omega arith
+blocking-small fs accepted k = omega (arith, longest-small fs accepted (isBelow k))
 
 -- ---- the rows of a group
 

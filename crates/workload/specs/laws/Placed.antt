@@ -1,25 +1,27 @@
 -- Placed frames: their work is that of the scenario, or a bound of it where a group is open; and the loop that places them.
 use Prim.Native.Nat.{ℕ, suc, _+_, _-_, _*_, _/_, _≤_, _<_}
-use mathlib.Core.Path.{_≡_, refl, sym, ap, _∙_}
-use mathlib.Core.List.{List, [], _∷_, map, List·Memᴰ as Mem, List·Memᴰ·head as here, List·Memᴰ·tail as there}
+use mathlib.Core.Path.{_≡_, refl, sym, ap, ap₂, _∙_}
+use mathlib.Core.List.{List, [], _∷_, _++_, map, map-append, List·Memᴰ as Mem, List·Memᴰ·head as here, List·Memᴰ·tail as there, List·Memᴰ·not-nil, List·Memᴰ·eq-of-singleton, List·Memᴰ·append-cases}
 use mathlib.Core.Bool.{Bool, true, false, cond}
-use mathlib.Core.Logic.{_≢_}
+use mathlib.Core.Logic.{_≢_, ⊎-elim}
 use native.Mathlib.Omega.{arith}
 use native.Mathlib.Nat.{le-refl, le-of-eq, mul-le-mul-left, add-zero, zero-add}
 use native.Mathlib.Numerals.{add-one}
 use native.Mathlib.Decide.{decLe}
 use borrow.Author.Tests.{le-leb, lt-leb, lt-ltb, le-ltb}
 use lib.Dec.{eqb, leb, ltb, eqb-refl, eqb→eq}
-use lib.ListN.{length, length-map, length-set, length-take, getD, set, take, drop, drop-of-length-le}
+use lib.ListN.{length, length-map, length-set, length-take, getD, set, take, drop, drop-of-length-le, length-append}
 use lib.Seq.{drop-cons, getD-set-same, getD-set-other, getD-take}
 use borrow.Author.Count.{below-more}
 use Rattle.arith.specs.Lists.{sum, keep, range}
 use Rattle.arith.specs.Releases.{releasesBefore}
 use Rattle.arith.specs.laws.Tests.{cond-yes, cond-no}
-use Rattle.arith.specs.laws.Members.{keep-le, getD-within, getD-table, length-range, map-same, of-range, of-keep, of-map, list-places}
-use Rattle.arith.specs.laws.Sums.{sum-le, sum-same, sum-keep, sum-at, greatest-le}
-use Rattle.arith.specs.laws.Releases.{count-mono, count-later}
+use Rattle.arith.specs.laws.Members.{keep-le, getD-within, getD-table, length-range, map-same, of-range, range-append, of-keep, of-map, list-places}
+use Rattle.arith.specs.laws.Sums.{sum-le, sum-same, sum-append, sum-keep, sum-at, greatest-le}
+use Rattle.arith.specs.laws.Releases.{count-mono, count-ahead, count-later}
 use Rattle.bus_model.specs.declared.Frame.{Frame}
+use Rattle.bus_model.specs.declared.Faults.{Faults}
+use Rattle.bus_model.specs.declared.Faults.the-variants.{Never, Apart}
 use Rattle.bus_model.specs.declared.Choice.{Choice}
 use Rattle.bus_model.specs.declared.Choice.the-variants.{Fixed, Any}
 use Rattle.bus_model.specs.Frame.{noFrame, row}
@@ -28,8 +30,10 @@ use Rattle.bus_model.specs.Bounds.{groups, ahead, better, alignments, choiceOf,
 use Rattle.bus_model.specs.theory.Frames.{of-group}
 use Rattle.workload.specs.declared.Search.{Search}
 use Rattle.workload.specs.declared.Search.the-variants.{Window, Instance}
+use Rattle.workload.specs.declared.Target.{Target}
 use Rattle.workload.specs.Prepared.{Fine, FineTable}
-use Rattle.workload.specs.Placed.{Placed, isLoad, leadOf, firstRelease, placedBy, placedFrame, placedOut, placedDemand, placedWork, AllFixed, FineOne, FinePlaced, noPlaced, placedAt, placedIn, putAt}
+use Rattle.workload.specs.Placed.{Placed, isLoad, aheadBy, firstRelease, placedBy, placedFrame, placedOut, placedDemand, placedWork, AllFixed, FineOne, FinePlaced, noPlaced, placedAt, placedIn, putAt, placedFrames, faultFrames, placedFaults}
+use Rattle.workload.specs.Faults.{FineFaults, FineTarget, faultsIn, leadOf}
 use Rattle.workload.specs.laws.Fine.{member-fine}
 
 -- ---- a sum over frames, group by group
@@ -105,7 +109,7 @@ next-leb : (a b : ℕ) → leb (a + 1) b ≡ ltb a b
 next-leb a b = elim (decLe (a + 1) b) [ yes less ↦ le-leb (a + 1) b less ∙ sym (lt-ltb a b (omega arith)) | no over ↦ lt-leb (a + 1) b (omega arith) ∙ sym (le-ltb a b (omega arith)) ]
 
 -- They are those that go before k by so much.
-pub load-leads : (search : Search) (k g : Frame) → leb (g .priority + leadOf search) (k .priority) ≡ isLoad search k g
+pub load-leads : (search : Search) (k g : Frame) → leb (g .priority + aheadBy search) (k .priority) ≡ isLoad search k g
 unfolding isLoad
 load-leads Window k g = ap (λ (n : ℕ). leb n (k .priority)) (add-zero (g .priority))
 load-leads (Instance q) k g = next-leb (g .priority) (k .priority)
@@ -116,29 +120,69 @@ module _ {fs : List Frame} (table : FineTable fs) (k : Frame) (cs : List Choice)
 
   frame-fine : {g : Frame} → Fine g → FineOne (placedFrame cs g)
   unfolding placedFrame
-  frame-fine fine = record { length-high = fine .length-high; period-low = fine .period-low; period-high = fine .period-high }
+  frame-fine fine = record { length-high = omega (arith, fine .length-high); period-low = fine .period-low; period-high = fine .period-high }
 
-  -- They are within their limits.
-  pub placed-fine : (search : Search) → FinePlaced (placedOut fs k search cs)
-  placed-fine search = record {
-    few = rw (length-map (keep (isLoad search k) fs) (placedFrame cs)) (omega (arith, keep-le (isLoad search k) fs, table .few));
-    fine = λ g m. let (x, l, e) = of-map (placedFrame cs) (keep (isLoad search k) fs) m in rw e (frame-fine (load-fine search x l));
-  }
+  -- They are as many as the rows at most,
+  pub frames-few : (search : Search) → length (placedFrames fs k search cs) ≤ 64
+  frames-few search = rw (length-map (keep (isLoad search k) fs) (placedFrame cs)) (omega (arith, keep-le (isLoad search k) fs, table .few))
+
+  -- and within their limits.
+  frames-fine : (search : Search) (g : Placed) → Mem g (placedFrames fs k search cs) → FineOne g
+  frames-fine search g m = let (x, l, e) = of-map (placedFrame cs) (keep (isLoad search k) fs) m in rw e (frame-fine (load-fine search x l))
 
   -- Their work is not below that of the better frames, for a start,
-  pub better-above : (q n : ℕ) → work fs k (better fs k) cs n ≤ placedWork (placedOut fs k (Instance q) cs) n
+  pub better-above : (q n : ℕ) → work fs k (better fs k) cs n ≤ placedWork (placedFrames fs k (Instance q) cs) n
   unfolding better isLoad
   better-above q n = above fs k (keep (isLoad (Instance q) k) fs) (load-fine (Instance q)) cs n
 
   -- and it is the work where every group's alignment is fixed, for a start and for a window.
   module _ (fixed : AllFixed cs) (n : ℕ) where
-    pub better-exact : (q : ℕ) → work fs k (better fs k) cs n ≡ placedWork (placedOut fs k (Instance q) cs) n
+    pub better-exact : (q : ℕ) → work fs k (better fs k) cs n ≡ placedWork (placedFrames fs k (Instance q) cs) n
     unfolding better isLoad
     better-exact q = exact fs k (keep (isLoad (Instance q) k) fs) (load-fine (Instance q)) cs n fixed
 
-    pub ahead-exact : work fs k (ahead fs k) cs n ≡ placedWork (placedOut fs k Window cs) n
+    pub ahead-exact : work fs k (ahead fs k) cs n ≡ placedWork (placedFrames fs k Window cs) n
     unfolding ahead isLoad
     ahead-exact = exact fs k (keep (isLoad Window k) fs) (load-fine Window) cs n fixed
+
+-- ---- the faults behind them
+
+-- Where there are such, they are one frame,
+faults-few : (faults : Faults) (cost lead : ℕ) → length (faultFrames faults cost lead) ≤ 1
+unfolding faultFrames
+faults-few Never cost lead = omega arith
+faults-few (Apart gap) cost lead = omega arith
+
+-- within its limits.
+faults-fine : (faults : Faults) → FineFaults faults → (cost lead : ℕ) → cost ≤ 431 → (g : Placed) → Mem g (faultFrames faults cost lead) → FineOne g
+unfolding faultFrames FineFaults
+faults-fine Never premise cost lead small g m = absurd (List·Memᴰ·not-nil m)
+faults-fine (Apart gap) premise cost lead small g m =
+    rw (List·Memᴰ·eq-of-singleton m) (record { length-high = small; period-low = premise .0; period-high = premise .1 })
+
+-- They ask for what they cost in the time counted, but for those in the lead.
+pub faults-work : (faults : Faults) → FineFaults faults → (cost lead n : ℕ)
+    → faultsIn faults lead * cost + placedWork (faultFrames faults cost lead) n ≡ faultsIn faults (n + lead) * cost
+unfolding faultFrames placedWork sum faultsIn FineFaults
+faults-work Never premise cost lead n = omega arith
+faults-work (Apart gap) premise cost lead n = rw (count-ahead (premise .0) n lead) (omega arith)
+
+-- All that is placed is within its limits.
+pub placed-fine : {fs : List Frame} → FineTable fs → {t : Target} → FineTarget t → (search : Search) (cs : List Choice) → FinePlaced (placedOut fs t search cs)
+placed-fine {fs} table {t} target search cs =
+    let frames = placedFrames fs (t .frame) search cs in
+    let faults = placedFaults t search in
+    let lead = leadOf search (t .frame) in
+    record {
+      few = omega (arith, length-append frames faults, frames-few table (t .frame) cs search, faults-few (t .faults) (t .cost) lead);
+      fine = λ g m. ⊎-elim (frames-fine table (t .frame) cs search g) (faults-fine (t .faults) (target .premise) (t .cost) lead (target .cost) g) (List·Memᴰ·append-cases frames m);
+    }
+
+-- The work of all is that of the frames and that of the faults.
+pub placed-both : (fs : List Frame) (t : Target) (search : Search) (cs : List Choice) (n : ℕ)
+    → placedWork (placedOut fs t search cs) n ≡ placedWork (placedFrames fs (t .frame) search cs) n + placedWork (placedFaults t search) n
+unfolding placedWork
+placed-both fs t search cs n = sum-append (placedDemand n) (placedFrames fs (t .frame) search cs) (placedFaults t search)
 
 -- The work grows with time.
 pub placed-mono : {gs : List Placed} → FinePlaced gs → {n n′ : ℕ} → n ≤ n′ → placedWork gs n ≤ placedWork gs n′
@@ -205,7 +249,7 @@ module _ (t : List ℕ) (i : ℕ) (x : Placed) (v : ℕ) where
 
 -- the first i of a list stand in the area
 pub record PutTo (f : ℕ → Placed) (area : List ℕ) (i : ℕ) : Type 0 where
-  pub size : length area ≡ 256
+  pub size : length area ≡ 260
   pub each : (m : ℕ) → m < i → placedAt area m ≡ f m
 
 module _ {f : ℕ → Placed} {area : List ℕ} {i : ℕ} (s : PutTo f area i) where
@@ -217,7 +261,7 @@ module _ {f : ℕ → Placed} {area : List ℕ} {i : ℕ} (s : PutTo f area i) w
   }
 
   -- At the end all of them do.
-  put-all : i ≤ 64 → placedIn (take (4 * i) area) ≡ map f (range 0 i)
+  put-all : i ≤ 65 → placedIn (take (4 * i) area) ≡ map f (range 0 i)
   unfolding placedIn placedAt
   put-all few =
       let long : length (take (4 * i) area) ≡ 4 * i = simp length-take (omega (arith, s .size)) in
@@ -232,12 +276,27 @@ module _ {f : ℕ → Placed} {area : List ℕ} {i : ℕ} (s : PutTo f area i) w
             getD-take (4 * i) area (4 * m + 2) 0 (omega arith),
           )
 
+-- Behind the first i stands one more.
+pub placed-more : (area : List ℕ) (i : ℕ) → length area ≡ 260 → i ≤ 64 → (x : Placed) (v : ℕ)
+    → placedIn (take (4 * (i + 1)) (putAt area i (x .length) (x .period) (x .first) v)) ≡ placedIn (take (4 * i) area) ++ (x ∷ [])
+unfolding range
+placed-more area i size few x v =
+    let more = put area i x v in
+    let before = put-all {f = placedAt area} {area = area} {i = i} (record { size = size; each = λ m l. refl }) (omega arith) in
+    let after = put-all {f = placedAt more} {area = more} {i = i + 1} (record { size = put-length area i x v ∙ size; each = λ m l. refl }) (omega arith) in
+    after
+    ∙ ap (map (placedAt more)) (range-append 0 i 1)
+    ∙ map-append (placedAt more) (range 0 i) (range (0 + i) 1)
+    ∙ ap₂ (λ (xs ys : List Placed). xs ++ ys)
+    (map-same (range 0 i) (λ m l. put-there area i x v m (omega (arith, of-range 0 i l .1))) ∙ sym before)
+    (ap (λ (y : Placed). y ∷ []) (ap (placedAt more) (zero-add i) ∙ put-here area i x v (omega arith)))
+
 -- Of the frames to be placed the first m stand in the area; the others come from the rows from i on.
 pub record PlacedTo (fs : List Frame) (k : Frame) (search : Search) (cs : List Choice) (area : List ℕ) (m i : ℕ) : Type 0 where
   pub few : m ≤ i
-  pub within : m ≤ length (placedOut fs k search cs)
-  pub put : PutTo (λ e. getD (placedOut fs k search cs) e noPlaced) area m
-  pub left : drop m (placedOut fs k search cs) ≡ placedOut (drop i fs) k search cs
+  pub within : m ≤ length (placedFrames fs k search cs)
+  pub put : PutTo (λ e. getD (placedFrames fs k search cs) e noPlaced) area m
+  pub left : drop m (placedFrames fs k search cs) ≡ placedFrames (drop i fs) k search cs
 
 module _ {A : Type 0} (d : A) (xs : List A) (m : ℕ) {y : A} {ys : List A} (left : drop m xs ≡ y ∷ ys) where
   some-left : m < length xs
@@ -263,12 +322,12 @@ placed-choice {g} fine cs beyond long = ap (λ (choice : Choice). placedBy choic
 
 module _ {fs : List Frame} {k : Frame} {search : Search} {cs : List Choice} {area : List ℕ} where
   -- At first none is.
-  pub place-none : length area ≡ 256 → PlacedTo fs k search cs area 0 0
+  pub place-none : length area ≡ 260 → PlacedTo fs k search cs area 0 0
   place-none size = record { few = omega arith; within = omega arith; put = record { size = size; each = λ e l. absurd (omega arith) }; left = refl }
 
   module _ {m i : ℕ} (s : PlacedTo fs k search cs area m i) (inside : i < length fs) {g : Frame} (is : g ≡ row fs i) {b : Bool} (test : b ≡ isLoad search k g) where
     -- what the rows from i on give
-    rest : placedOut (drop i fs) k search cs ≡ map (placedFrame cs) (cond b (g ∷ keep (isLoad search k) (drop (suc i) fs)) (keep (isLoad search k) (drop (suc i) fs)))
+    rest : placedFrames (drop i fs) k search cs ≡ map (placedFrame cs) (cond b (g ∷ keep (isLoad search k) (drop (suc i) fs)) (keep (isLoad search k) (drop (suc i) fs)))
     unfolding keep
     rest = rw (drop-cons fs i noFrame inside, test, is)
 
@@ -278,9 +337,9 @@ module _ {fs : List Frame} {k : Frame} {search : Search} {cs : List Choice} {are
         let now = s .left ∙ rw t at rest in
         rw (put, more) (record {
           few = omega (arith, s .few);
-          within = omega (arith, some-left noPlaced (placedOut fs k search cs) m now);
-          put = put-more (s .put) room (at ∙ sym (next-left noPlaced (placedOut fs k search cs) m now)) v;
-          left = rw (add-one m, add-one i) (others-left noPlaced (placedOut fs k search cs) m now);
+          within = omega (arith, some-left noPlaced (placedFrames fs k search cs) m now);
+          put = put-more (s .put) room (at ∙ sym (next-left noPlaced (placedFrames fs k search cs) m now)) v;
+          left = rw (add-one m, add-one i) (others-left noPlaced (placedFrames fs k search cs) m now);
         })
 
     -- and any other is passed over.
@@ -288,16 +347,16 @@ module _ {fs : List Frame} {k : Frame} {search : Search} {cs : List Choice} {are
     place-skip f same still = rw (same, still) (record { few = omega (arith, s .few); within = s .within; put = s .put; left = rw (add-one i) (s .left ∙ rw f at rest) })
 
   -- At the end all are.
-  pub place-all : {m i : ℕ} → FineTable fs → PlacedTo fs k search cs area m i → length fs ≤ i → (placedIn (take (4 * m) area) ≡ placedOut fs k search cs) × (m ≤ 64)
+  pub place-all : {m i : ℕ} → FineTable fs → PlacedTo fs k search cs area m i → length fs ≤ i → (placedIn (take (4 * m) area) ≡ placedFrames fs k search cs) × (m ≤ 64)
   unfolding keep
   place-all {m} {i} table s over =
-      let gs = placedOut fs k search cs in
-      let none : drop m gs ≡ [] = s .left ∙ ap (λ (xs : List Frame). placedOut xs k search cs) (drop-of-length-le fs {i = i} over) in
+      let gs = placedFrames fs k search cs in
+      let none : drop m gs ≡ [] = s .left ∙ ap (λ (xs : List Frame). placedFrames xs k search cs) (drop-of-length-le fs {i = i} over) in
       let all : length gs ≤ m =
       elim (decLe (length gs) m) [
         | yes over ↦ over
         | no under ↦ absurd (let z : suc (length (drop (suc m) gs)) ≡ 0 = ap length (sym (drop-cons gs m noPlaced (omega arith)) ∙ none) in omega arith)
       ] in
       let count : m ≡ length gs = omega (arith, s .within) in
-      let few : m ≤ 64 = omega (arith, placed-fine table k cs search .few) in
-      (put-all (s .put) few ∙ ap (λ (n : ℕ). map (λ e. getD gs e noPlaced) (range 0 n)) count ∙ list-places noPlaced gs, few)
+      let few : m ≤ 64 = omega (arith, frames-few table k cs search) in
+      (put-all (s .put) (omega arith) ∙ ap (λ (n : ℕ). map (λ e. getD gs e noPlaced) (range 0 n)) count ∙ list-places noPlaced gs, few)

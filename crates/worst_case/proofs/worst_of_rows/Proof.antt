@@ -1,5 +1,6 @@
 -- The last row, judged, with its worst case.
 use borrow.Author.Needs.{needs}
+use Rattle.workload.specs.laws.Groups.{fine-never}
 use Rattle.worst_case.specs.Answer.{judgedLast}
 use Rattle.worst_case.proofs.worst_of_rows.Statement.{statement}
 use Rattle.worst_case.proofs.worst_of_rows.Tie as tie
@@ -8,7 +9,7 @@ last-row-requires : tie.Need-last-row-requires
 last-row-requires c κs = search needs
 
 judge-row-requires : tie.Need-judge-row-requires
-judge-row-requires c κs = (c .before .before .pre, c .last-row .ensures .1)
+judge-row-requires c κs = (c .before .before .pre, (c .last-row .ensures .1, fine-never))
 
 worst-row-requires : tie.Need-worst-row-requires
 worst-row-requires c κs = (c .before .before .before .pre, c .before .last-row .ensures .1)

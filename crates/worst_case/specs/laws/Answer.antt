@@ -14,6 +14,8 @@ use Rattle.arith.specs.laws.Least.{none-at}
 use Rattle.arith.specs.laws.Tests.{by-test}
 use Rattle.arith.specs.declared.Found.the-variants.{At, Nothing}
 use Rattle.bus_model.specs.declared.Frame.{Frame}
+use Rattle.bus_model.specs.declared.Faults.{Faults}
+use Rattle.bus_model.specs.declared.Faults.the-variants.{Never}
 use Rattle.bus_model.specs.declared.Case.{Case}
 use Rattle.bus_model.specs.Frame.{row}
 use Rattle.bus_model.specs.Pattern.{ofGroup, hyperperiod}
@@ -75,7 +77,7 @@ module _ (ls : List (List ℕ)) (rows : List ℕ) (loadable : Loadable ls) (acce
   valid = accepted-valid rows accepted ls loadable
 
   -- The case for a tick less than the bound has small numbers, where windows exist.
-  worst-within : ¬ T (lacksWindow (framesOf ls rows) f) → Within (worstCase (framesOf ls rows) f) f
+  worst-within : ¬ T (lacksWindow Never (framesOf ls rows) f) → Within (worstCase (framesOf ls rows) f) f
   unfolding frameAt windowLimit
   worst-within has =
       let h : i < length rows / columns = rw (length-frames ls rows) at inside in
@@ -102,39 +104,40 @@ worstDecided fs k (Level b) = noWorst
 worstDecided fs k (TooMany b) = noWorst
 worstDecided fs k NoWindow = noWorst
 
-decided : (fs : List Frame) (i : ℕ) {bound : Bound} → bound ≡ boundFor fs (row fs i) Nothing → worstBounded fs (row fs i) (boundFrame fs i) ≡ worstDecided fs (row fs i) bound
+decided : (fs : List Frame) (i : ℕ) {bound : Bound} → bound ≡ boundFor Never fs (row fs i) Nothing → worstBounded fs (row fs i) (boundFrame fs i) ≡ worstDecided fs (row fs i) bound
 unfolding worstDecided boundFor boundFrame worstBounded
-decided fs i {bound} is = go (lacksWindow fs (row fs i)) (tooManyScenarios fs (row fs i)) refl refl ∙ sym (ap (worstDecided fs (row fs i)) is)
+decided fs i {bound} is = go (lacksWindow Never fs (row fs i)) (tooManyScenarios fs (row fs i)) refl refl ∙ sym (ap (worstDecided fs (row fs i)) is)
   where
-    go : (lacks many : Bool) → lacksWindow fs (row fs i) ≡ lacks → tooManyScenarios fs (row fs i) ≡ many
-        → worstBounded fs (row fs i) (boundFrame fs i) ≡ worstDecided fs (row fs i) (boundFor fs (row fs i) Nothing)
+    go : (lacks many : Bool) → lacksWindow Never fs (row fs i) ≡ lacks → tooManyScenarios fs (row fs i) ≡ many
+        → worstBounded fs (row fs i) (boundFrame fs i) ≡ worstDecided fs (row fs i) (boundFor Never fs (row fs i) Nothing)
     go true many l n = rw l
     go false true l n = rw (l, n)
     go false false l n = rw (l, n)
 
 -- A precise bound is the frame's, and windows exist.
-precise-found : (fs : List Frame) (k : Frame) {b : ℕ} → boundFor fs k Nothing ≡ Precise b → (lacksWindow fs k ≡ false) × (preciseBound fs k ≡ b)
+precise-found : (faults : Faults) (fs : List Frame) (k : Frame) {b : ℕ} → boundFor faults fs k Nothing ≡ Precise b → (lacksWindow faults fs k ≡ false) × (preciseBound faults fs k ≡ b)
 unfolding boundFor
-precise-found fs k {b} is = go (lacksWindow fs k) (tooManyScenarios fs k) refl refl is
+precise-found faults fs k {b} is = go (lacksWindow faults fs k) (tooManyScenarios fs k) refl refl is
   where
-    go : (lacks many : Bool) → lacksWindow fs k ≡ lacks → tooManyScenarios fs k ≡ many → boundFor fs k Nothing ≡ Precise b → (lacksWindow fs k ≡ false) × (preciseBound fs k ≡ b)
+    go : (lacks many : Bool) → lacksWindow faults fs k ≡ lacks → tooManyScenarios fs k ≡ many → boundFor faults fs k Nothing ≡ Precise b → (lacksWindow faults fs k ≡ false) × (preciseBound faults fs k ≡ b)
     go true many l n e = absurd (let z : _≡_ {A = ℕ} 0 1 = cc (rw l at e) in omega arith)
     go false true l n e = absurd (let z : _≡_ {A = ℕ} 0 1 = cc (rw (l, n) at e) in omega arith)
     go false false l n e = (l, cc (rw (l, n) at e))
 
 -- The case for a tick less than the precise bound shows the worst case.
-shown-worst : (fs : List Frame) (k : Frame) → showing (firstCase fs k (preciseBound fs k - 1)) k (preciseBound fs k) ≡ worstBounded fs k (Is (preciseBound fs k))
+shown-worst : (fs : List Frame) (k : Frame) → showing (firstCase Never fs k (preciseBound Never fs k - 1)) k (preciseBound Never fs k) ≡ worstBounded fs k (Is (preciseBound Never fs k))
 unfolding caseShown worstBounded worstStarts worstInstance worstCase
 shown-worst fs k = refl
 
-module _ (ls : List (List ℕ)) (rows : List ℕ) (i : ℕ) {fs : List Frame} {k : Frame} (table : fs ≡ framesOf ls rows) (is : k ≡ row (framesOf ls rows) i) {bound : Bound} (found : bound ≡ boundFor fs k Nothing)
+module _ (ls : List (List ℕ)) (rows : List ℕ) (i : ℕ) {faults : Faults} {fs : List Frame} {k : Frame} (table : fs ≡ framesOf ls rows) (is : (k ≡ row (framesOf ls rows) i) × (faults ≡ Never)) {bound : Bound}
+    (found : bound ≡ boundFor faults fs k Nothing)
   where
     -- the worst case that the row shows
     abbrev due : WorstCase
     due = worstBounded (framesOf ls rows) (row (framesOf ls rows) i) (boundFrame (framesOf ls rows) i)
 
-    found-is : bound ≡ boundFor (framesOf ls rows) (row (framesOf ls rows) i) Nothing
-    found-is = found ∙ ap (λ (gs : List Frame). boundFor gs k Nothing) table ∙ ap (λ (g : Frame). boundFor (framesOf ls rows) g Nothing) is
+    found-is : bound ≡ boundFor Never (framesOf ls rows) (row (framesOf ls rows) i) Nothing
+    found-is = found ∙ ap (λ (p : Faults). boundFor p fs k Nothing) (is .1) ∙ ap (λ (gs : List Frame). boundFor Never gs k Nothing) table ∙ ap (λ (g : Frame). boundFor Never (framesOf ls rows) g Nothing) (is .0)
 
     -- It is by the bound.
     due-decided : worstDecided (framesOf ls rows) (row (framesOf ls rows) i) bound ≡ due
@@ -147,26 +150,26 @@ module _ (ls : List (List ℕ)) (rows : List ℕ) (i : ℕ) {fs : List Frame} {k
     -- A precise bound:
     module _ {b : ℕ} (precise : bound ≡ Precise b) where
       -- windows exist;
-      pub precise-windows : lacksWindow fs k ≡ false
-      precise-windows = precise-found fs k (sym found ∙ precise) .0
+      pub precise-windows : lacksWindow faults fs k ≡ false
+      precise-windows = precise-found faults fs k (sym found ∙ precise) .0
 
-      bound-is : preciseBound (framesOf ls rows) (row (framesOf ls rows) i) ≡ b
-      bound-is = precise-found (framesOf ls rows) (row (framesOf ls rows) i) (sym found-is ∙ precise) .1
+      bound-is : preciseBound Never (framesOf ls rows) (row (framesOf ls rows) i) ≡ b
+      bound-is = precise-found Never (framesOf ls rows) (row (framesOf ls rows) i) (sym found-is ∙ precise) .1
 
       -- the case is the first that breaks a claim of a tick less.
-      first-is : {c : Case} → c ≡ firstCase fs k (b - 1) → c ≡ worstCase (framesOf ls rows) (row (framesOf ls rows) i)
+      first-is : {c : Case} → c ≡ firstCase faults fs k (b - 1) → c ≡ worstCase (framesOf ls rows) (row (framesOf ls rows) i)
       unfolding worstCase
       first-is {c} first =
-          first ∙ ap (λ (gs : List Frame). firstCase gs k (b - 1)) table ∙ ap (λ (g : Frame). firstCase (framesOf ls rows) g (b - 1)) is
-          ∙ ap (λ (n : ℕ). firstCase (framesOf ls rows) (row (framesOf ls rows) i) (n - 1)) (sym bound-is)
+          first ∙ ap (λ (p : Faults). firstCase p fs k (b - 1)) (is .1) ∙ ap (λ (gs : List Frame). firstCase Never gs k (b - 1)) table ∙ ap (λ (g : Frame). firstCase Never (framesOf ls rows) g (b - 1)) (is .0)
+          ∙ ap (λ (n : ℕ). firstCase Never (framesOf ls rows) (row (framesOf ls rows) i) (n - 1)) (sym bound-is)
 
-      pub precise-due : {c : Case} {q : ℕ} {w : WorstCase} → c ≡ firstCase fs k (b - 1) → q ≡ orZero (c .instance) → w ≡ caseShown (c .alignments) q k b → w ≡ due
+      pub precise-due : {c : Case} {q : ℕ} {w : WorstCase} → c ≡ firstCase faults fs k (b - 1) → q ≡ orZero (c .instance) → w ≡ caseShown (c .alignments) q k b → w ≡ due
       unfolding worstDecided worstCase
       precise-due {c} first number shows =
           shows
           ∙ ap (λ (n : ℕ). caseShown (c .alignments) n k b) number
           ∙ ap (λ (x : Case). showing x k b) (first-is first)
-          ∙ ap (λ (g : Frame). showing (worstCase (framesOf ls rows) (row (framesOf ls rows) i)) g b) is
+          ∙ ap (λ (g : Frame). showing (worstCase (framesOf ls rows) (row (framesOf ls rows) i)) g b) (is .0)
           ∙ ap (showing (worstCase (framesOf ls rows) (row (framesOf ls rows) i)) (row (framesOf ls rows) i)) (sym bound-is)
           ∙ shown-worst (framesOf ls rows) (row (framesOf ls rows) i)
           ∙ ap (λ (n : ℕ). worstBounded (framesOf ls rows) (row (framesOf ls rows) i) (Is n)) bound-is
@@ -174,26 +177,26 @@ module _ (ls : List (List ℕ)) (rows : List ℕ) (i : ℕ) {fs : List Frame} {k
           ∙ due-decided
 
       module _ (loadable : Loadable ls) (accepted : Accepted rows) (inside : i < length (framesOf ls rows)) where
-        has : ¬ T (lacksWindow (framesOf ls rows) (row (framesOf ls rows) i))
-        has t = subst T (precise-found (framesOf ls rows) (row (framesOf ls rows) i) (sym found-is ∙ precise) .0) t
+        has : ¬ T (lacksWindow Never (framesOf ls rows) (row (framesOf ls rows) i))
+        has t = subst T (precise-found Never (framesOf ls rows) (row (framesOf ls rows) i) (sym found-is ∙ precise) .0) t
 
         -- It is not 0, and the case has small numbers.
         pub precise-some : 1 ≤ b
         precise-some = rw bound-is at (bound-some (accepted-valid rows accepted ls loadable) inside has)
 
-        pub precise-within : {c : Case} {q : ℕ} → c ≡ firstCase fs k (b - 1) → q ≡ orZero (c .instance) → CaseWithin (c .alignments) q k
+        pub precise-within : {c : Case} {q : ℕ} → c ≡ firstCase faults fs k (b - 1) → q ≡ orZero (c .instance) → CaseWithin (c .alignments) q k
         precise-within {c} first number =
             subst (λ (n : ℕ). CaseWithin (c .alignments) n k) (sym number)
             (subst (λ (x : Case). Within x k) (sym (first-is first))
-            (subst (Within (worstCase (framesOf ls rows) (row (framesOf ls rows) i))) (sym is) (worst-within ls rows loadable accepted i inside has)))
+            (subst (Within (worstCase (framesOf ls rows) (row (framesOf ls rows) i))) (sym (is .0)) (worst-within ls rows loadable accepted i inside has)))
 
 -- ---- what is told
 
 -- Where windows exist, the verdict is not 11.
-windowed-verdict : (fs : List Frame) (k : Frame) (claim : ℕ) → ¬ T (lacksWindow fs k) → verdict (judge fs k claim .outcome) ≢ 11
+windowed-verdict : (fs : List Frame) (k : Frame) (claim : ℕ) → ¬ T (lacksWindow Never fs k) → verdict (judge Never fs k claim .outcome) ≢ 11
 unfolding judge verdict
 windowed-verdict fs k claim has =
-    by-outcome (λ o. verdict o ≢ 11) fs k claim (λ lacks. absurd (has lacks)) (λ w le e. omega arith) (λ w exceeds many le e. omega arith)
+    by-outcome (λ o. verdict o ≢ 11) Never fs k claim (λ lacks. absurd (has lacks)) (λ w le e. omega arith) (λ w exceeds many le e. omega arith)
     (λ w exceeds many less e. omega arith) (λ w exceeds few le e. omega arith) (λ w exceeds few less e. omega arith)
 
 -- A response that is shown is reached.
@@ -212,23 +215,23 @@ module _ (ls : List (List ℕ)) (rows : List ℕ) where
   r = lastRow gs
 
   -- what the theory says of an accepted table with early offsets, where windows exist
-  reached : Loadable ls → Accepted rows → allEarly gs ≡ true → lacksWindow gs (row gs r) ≡ false
-      → Responds gs (forGroup (worstStarts gs (row gs r))) r (worstInstance gs (row gs r)) (preciseBound gs (row gs r))
+  reached : Loadable ls → Accepted rows → allEarly gs ≡ true → lacksWindow Never gs (row gs r) ≡ false
+      → Responds gs (forGroup (worstStarts gs (row gs r))) r (worstInstance gs (row gs r)) (preciseBound Never gs (row gs r))
   reached loadable accepted early windows =
       let (inside, last) = last-listed rows accepted ls in
       last-reached (accepted-valid rows accepted ls loadable) inside (early-of gs early) last 0 (windowed-verdict gs (row gs r) 0 (λ t. subst T windows t))
 
   bounded-reached : Loadable ls → Accepted rows → allEarly gs ≡ true → Reached ls rows (worstBounded gs (row gs r) (boundFrame gs r))
   unfolding boundFrame worstBounded
-  bounded-reached loadable accepted early = go (lacksWindow gs (row gs r)) (tooManyScenarios gs (row gs r)) refl refl
+  bounded-reached loadable accepted early = go (lacksWindow Never gs (row gs r)) (tooManyScenarios gs (row gs r)) refl refl
     where
-      go : (lacks many : Bool) → lacksWindow gs (row gs r) ≡ lacks → tooManyScenarios gs (row gs r) ≡ many → Reached ls rows (worstBounded gs (row gs r) (boundFrame gs r))
+      go : (lacks many : Bool) → lacksWindow Never gs (row gs r) ≡ lacks → tooManyScenarios gs (row gs r) ≡ many → Reached ls rows (worstBounded gs (row gs r) (boundFrame gs r))
       go true many l n = rw l (none-reached ls rows)
       go false true l n = rw (l, n) (none-reached ls rows)
       go false false l n =
           rw (l, n)
           (λ response e.
-          let same : preciseBound gs (row gs r) ≡ response = cc in
+          let same : preciseBound Never gs (row gs r) ≡ response = cc in
           subst (Responds gs (forGroup (worstStarts gs (row gs r))) r (worstInstance gs (row gs r))) same (reached loadable accepted early l))
 
   worst-reached : Reached ls rows (worstChecked (loadedCheck ls rows) gs)

@@ -4,7 +4,9 @@ use native.Mathlib.Omega.{arith}
 use borrow.Author.Needs.{needs}
 use lib.ListN.{length-take, length-drop}
 use Rattle.table_checks.specs.declared.Checked.the-variants.{Passed}
+use Rattle.workload.specs.laws.Groups.{fine-never}
 use Rattle.frame_table.specs.laws.Areas.{area-short, area-written}
+use Rattle.bus_model.specs.declared.Faults.the-variants.{Never}
 use Rattle.certifier.specs.Listing.{lineOf}
 use Rattle.worst_command.specs.laws.Text.{length-alone, alone-written}
 use Rattle.worst_command.proofs.write_line.Statement.{statement}
@@ -16,7 +18,7 @@ no-room-requires c κs = search needs
 returns : tie.Need-returns
 returns c =
     let a = c .before .before .before .before .args in
-    area-short Passed (lineOf (a .lengths) (a .rows .now) (a .i)) (a .out .now) _ _ (length-alone (a .lengths) (a .rows .now) (a .i)) refl (c .before .if1 .taken) (c .no-room .ensures)
+    area-short Passed (lineOf Never (a .lengths) (a .rows .now) (a .i)) (a .out .now) _ _ (length-alone (a .lengths) (a .rows .now) (a .i)) refl (c .before .if1 .taken) (c .no-room .ensures)
 
 sub-write-row : tie.Need-sub-write-row
 sub-write-row c = search needs
@@ -28,7 +30,7 @@ part-write-row-end : tie.Need-part-write-row-end
 part-write-row-end c = search needs
 
 write-row-requires : tie.Need-write-row-requires
-write-row-requires c κs = let p = c .before .before .before .before .pre in (p .0, (p .1, simp (length-take, length-drop) (omega (arith, c .before .if1 .left))))
+write-row-requires c κs = let p = c .before .before .before .before .pre in (p .0, (fine-never, (p .1, simp (length-take, length-drop) (omega (arith, c .before .if1 .left)))))
 
 same-length : tie.Need-same-length
 same-length c = search needs
@@ -36,7 +38,7 @@ same-length c = search needs
 returns-2 : tie.Need-returns-2
 returns-2 c =
     let a = c .before .before .before .before .before .before .before .args in
-    area-written Passed (lineOf (a .lengths) (a .rows .now) (a .i)) (a .out .now) _ _ (length-alone (a .lengths) (a .rows .now) (a .i)) refl (c .before .before .before .before .if1 .left) (alone-written (a .lengths) (a .rows .now) (a .i) (a .out .now) _ (c .before .before .write-row .ensures))
+    area-written Passed (lineOf Never (a .lengths) (a .rows .now) (a .i)) (a .out .now) _ _ (length-alone (a .lengths) (a .rows .now) (a .i)) refl (c .before .before .before .before .if1 .left) (alone-written (a .lengths) (a .rows .now) (a .i) (a .out .now) _ (c .before .before .write-row .ensures))
 
 pub write-line-spec : {M : Type 1} → statement M
 write-line-spec =

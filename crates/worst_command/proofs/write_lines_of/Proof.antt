@@ -4,6 +4,7 @@ use native.Mathlib.Omega.{arith}
 use borrow.Author.Needs.{needs}
 use lib.ListN.{length-take, length-drop}
 use Rattle.table_checks.specs.declared.Checked.the-variants.{Passed}
+use Rattle.workload.specs.laws.Groups.{fine-never}
 use Rattle.frame_table.specs.laws.Areas.{area-short, area-written}
 use Rattle.worst_command.specs.laws.Text.{whole, length-whole, whole-written}
 use Rattle.worst_command.proofs.write_lines_of.Statement.{statement}
@@ -27,7 +28,7 @@ part-write-row-end : tie.Need-part-write-row-end
 part-write-row-end c = search needs
 
 write-row-requires : tie.Need-write-row-requires
-write-row-requires c κs = let p = c .before .before .before .before .pre in (p .0, (p .1, simp (length-take, length-drop) (omega (arith, c .before .if1 .left))))
+write-row-requires c κs = let p = c .before .before .before .before .pre in (p .0, (fine-never, (p .1, simp (length-take, length-drop) (omega (arith, c .before .if1 .left)))))
 
 sub-write-lines : tie.Need-sub-write-lines
 sub-write-lines c = search needs

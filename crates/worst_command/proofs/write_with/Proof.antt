@@ -1,5 +1,6 @@
 -- By the response.
 use borrow.Author.Needs.{needs}
+use Rattle.bus_model.specs.declared.Faults.the-variants.{Never}
 use Rattle.certifier.specs.Listing.{lineOf}
 use Rattle.worst_command.specs.laws.Text.{text-none, text-shown}
 use Rattle.worst_command.proofs.write_with.Statement.{statement}
@@ -23,7 +24,7 @@ same-length c = search needs
 returns : tie.Need-returns
 returns c =
     let a = c .before .before .before .before .before .before .before .before .args in
-    rw (text-none (a .worst) (lineOf (a .lengths) (a .rows .now) (a .i)) (c .before .before .before .before .enum-told .given .1)) (c .before .before .write-line .ensures)
+    rw (text-none (a .worst) (lineOf Never (a .lengths) (a .rows .now) (a .i)) (c .before .before .before .before .enum-told .given .1)) (c .before .before .write-line .ensures)
 
 same-length-2 : tie.Need-same-length-2
 same-length-2 c = search needs
@@ -31,7 +32,7 @@ same-length-2 c = search needs
 returns-2 : tie.Need-returns-2
 returns-2 c =
     let a = c .before .before .before .before .before .before .before .before .before .before .args in
-    rw (text-shown (a .worst) (lineOf (a .lengths) (a .rows .now) (a .i)) _ (c .before .before .before .before .before .before .response .given .1)) (c .before .before .write-lines-of .ensures)
+    rw (text-shown (a .worst) (lineOf Never (a .lengths) (a .rows .now) (a .i)) _ (c .before .before .before .before .before .before .response .given .1)) (c .before .before .write-lines-of .ensures)
 
 pub write-with-spec : {M : Type 1} → statement M
 write-with-spec =

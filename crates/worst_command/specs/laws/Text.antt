@@ -8,6 +8,7 @@ use borrow.Rule.Slice.PartMut.{midOf, putMid}
 use Rattle.arith.specs.declared.Found.the-variants.{At, Nothing}
 use Rattle.arith.specs.laws.Overwriting.{begun-none, begun-part, begun-filled, begun-element, begun-all}
 use Rattle.arith.specs.laws.Lines.{Lines, length-lines}
+use Rattle.bus_model.specs.declared.Faults.the-variants.{Never}
 use Rattle.decimal.specs.Decimal.{writeColumn}
 use Rattle.decimal.specs.Laws.{length-write}
 use Rattle.certifier.specs.Listing.{lineOf as rowLine}
@@ -18,8 +19,8 @@ use Rattle.worst_command.specs.Command.{responseLine, worstText}
 
 -- ---- the lines
 
-length-row : (ls : List (List ℕ)) (rows : List ℕ) (i : ℕ) → length (rowLine ls rows i) ≡ 31
-length-row ls rows i = listing-lines ls rows .wide i
+length-row : (ls : List (List ℕ)) (rows : List ℕ) (i : ℕ) → length (rowLine Never ls rows i) ≡ 31
+length-row ls rows i = listing-lines Never ls rows .wide i
 
 group-lines : (starts : List ℕ) → Lines 12 (lineOf starts) (linesFrom starts)
 unfolding lineOf alignmentLine
@@ -47,28 +48,28 @@ response-written instance response line a b size p q =
 
 module _ (ls : List (List ℕ)) (rows : List ℕ) (i : ℕ) (starts : List ℕ) (instance response : ℕ) where
   abbrev pub whole : List ℕ
-  whole = rowLine ls rows i ++ (linesFrom starts 16 0 ++ responseLine instance response)
+  whole = rowLine Never ls rows i ++ (linesFrom starts 16 0 ++ responseLine instance response)
 
   pub length-whole : length whole ≡ 240
   length-whole =
-      length-append (rowLine ls rows i) (linesFrom starts 16 0 ++ responseLine instance response)
+      length-append (rowLine Never ls rows i) (linesFrom starts 16 0 ++ responseLine instance response)
       ∙ omega (arith, length-row ls rows i, length-append (linesFrom starts 16 0) (responseLine instance response), length-groups starts, length-response instance response)
 
-  pub whole-written : (out a b c : List ℕ) → a ≡ rowLine ls rows i → b ≡ linesFrom starts 16 0 → c ≡ responseLine instance response
+  pub whole-written : (out a b c : List ℕ) → a ≡ rowLine Never ls rows i → b ≡ linesFrom starts 16 0 → c ≡ responseLine instance response
       → putMid 223 17 (putMid 31 192 (putMid 0 31 out a) b) c ≡ whole ++ drop 240 out
   whole-written out a b c p q r =
-      let one = begun-part _ out _ 0 (begun-none out) (rowLine ls rows i) 31 (length-row ls rows i) in
+      let one = begun-part _ out _ 0 (begun-none out) (rowLine Never ls rows i) 31 (length-row ls rows i) in
       let two = begun-part _ out _ 31 one (linesFrom starts 16 0) 192 (length-groups starts) in
       let three = begun-part _ out _ 223 two (responseLine instance response) 17 (length-response instance response) in
       rw (p, q, r) (three .is ∙ simp append-assoc)
 
 -- ---- the line alone
 
-pub length-alone : (ls : List (List ℕ)) (rows : List ℕ) (i : ℕ) → length (rowLine ls rows i) ≡ 31
+pub length-alone : (ls : List (List ℕ)) (rows : List ℕ) (i : ℕ) → length (rowLine Never ls rows i) ≡ 31
 length-alone = length-row
 
-pub alone-written : (ls : List (List ℕ)) (rows : List ℕ) (i : ℕ) (out a : List ℕ) → a ≡ rowLine ls rows i → putMid 0 31 out a ≡ rowLine ls rows i ++ drop 31 out
-alone-written ls rows i out a p = rw p (begun-part _ out _ 0 (begun-none out) (rowLine ls rows i) 31 (length-row ls rows i) .is)
+pub alone-written : (ls : List (List ℕ)) (rows : List ℕ) (i : ℕ) (out a : List ℕ) → a ≡ rowLine Never ls rows i → putMid 0 31 out a ≡ rowLine Never ls rows i ++ drop 31 out
+alone-written ls rows i out a p = rw p (begun-part _ out _ 0 (begun-none out) (rowLine Never ls rows i) 31 (length-row ls rows i) .is)
 
 -- ---- by what is shown
 

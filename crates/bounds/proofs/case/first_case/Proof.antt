@@ -13,13 +13,13 @@ use Rattle.bounds.proofs.case.first_case.Statement.{statement}
 use Rattle.bounds.proofs.case.first_case.Tie as tie
 
 abbrev Inv-loop : tie.InvT-loop
-Inv-loop rows prepared target claim memory₀ choices₀ alignments₀ i₀ memory choices alignments i = LeadsTo (tableOf rows prepared) (target .frame) claim (i + 1) choices × (alignments ≡ map shown choices) × (i ≤ 16) × Ready rows prepared target memory
+Inv-loop rows prepared target claim memory₀ choices₀ alignments₀ i₀ memory choices alignments i = LeadsTo (target .faults) (tableOf rows prepared) (target .frame) claim (i + 1) choices × (alignments ≡ map shown choices) × (i ≤ 16) × Ready rows prepared target memory
 
 abbrev μ-loop : tie.MeasureT-loop
 μ-loop rows prepared target claim memory₀ choices₀ alignments₀ i₀ memory choices alignments i = 16 - i
 
 loop-holds : tie.Need-loop-holds Inv-loop μ-loop
-loop-holds c = (leads-start _ _ _, shown-free, omega arith, c .before .before .before .pre .0)
+loop-holds c = (leads-start _ _ _ _, shown-free, omega arith, c .before .before .before .pre .0)
 
 add-first-exceeding : tie.Need-add-first-exceeding Inv-loop μ-loop
 add-first-exceeding c = search needs
@@ -56,7 +56,7 @@ or-zero-requires : tie.Need-or-zero-requires Inv-loop μ-loop
 or-zero-requires c κs = search needs
 
 -- all groups are fixed
-leads : (c : tie.After-loop Inv-loop μ-loop) → LeadsTo (tableOf (c .before .before .before .before .before .args .rows .now) (c .before .before .before .before .before .args .prepared .now)) (c .before .before .before .before .before .args .target .frame) (c .before .before .before .before .before .args .claim) 17 (c .before .loop .choices)
+leads : (c : tie.After-loop Inv-loop μ-loop) → LeadsTo (c .before .before .before .before .before .args .target .faults) (tableOf (c .before .before .before .before .before .args .rows .now) (c .before .before .before .before .before .args .prepared .now)) (c .before .before .before .before .before .args .target .frame) (c .before .before .before .before .before .args .claim) 17 (c .before .loop .choices)
 leads c =
     let all : c .before .loop .i + 1 ≡ 17 = omega (arith, c .before .loop .inv .2, c .loop-test .left) in
     rw all at (c .before .loop .inv .0)

@@ -14,7 +14,7 @@ use Rattle.bounds.proofs.case.first_exceeding.Statement.{statement}
 use Rattle.bounds.proofs.case.first_exceeding.Tie as tie
 
 abbrev Inv-loop : tie.InvT-loop
-Inv-loop rows prepared target choices group claim memory₀ a₀ memory a = Tries (tableOf rows prepared) (target .frame) claim choices group a × Ready rows prepared target memory
+Inv-loop rows prepared target choices group claim memory₀ a₀ memory a = Tries (target .faults) (tableOf rows prepared) (target .frame) claim choices group a × Ready rows prepared target memory
 
 abbrev μ-loop : tie.MeasureT-loop
 μ-loop rows prepared target choices group claim memory₀ a₀ memory a = turn (tableOf rows prepared) (target .frame) group - a
@@ -67,7 +67,7 @@ same-length-2 : tie.Need-same-length-2 Inv-loop μ-loop
 same-length-2 c = c .before .before .before .refine-all .ensures .1 .remembered .size ∙ sym (c .before .before .before .before .before .before .before .before .before .before .before .before .before .before .before .before .pre .0 .remembered .size)
 
 -- what is found is the greatest response with the alignment
-most : (c : tie.After-refine-all Inv-loop μ-loop) → c .refine-all .result ≡ max (c .before .before .before .before .before .before .before .before .before .before .before .before .before .args .claim) (fixingMore (tableOf (c .before .before .before .before .before .before .before .before .before .before .before .before .before .args .rows .now) (c .before .before .before .before .before .before .before .before .before .before .before .before .before .args .prepared .now)) (c .before .before .before .before .before .before .before .before .before .before .before .before .before .args .target .frame) 16 (set (c .before .before .before .before .before .before .before .before .before .before .before .before .before .args .choices) (c .before .before .before .before .before .before .before .before .before .before .before .before .before .args .group - 1) (Fixed (c .before .before .before .before .before .before .before .loop .a))))
+most : (c : tie.After-refine-all Inv-loop μ-loop) → c .refine-all .result ≡ max (c .before .before .before .before .before .before .before .before .before .before .before .before .before .args .claim) (fixingMore (c .before .before .before .before .before .before .before .before .before .before .before .before .before .args .target .faults) (tableOf (c .before .before .before .before .before .before .before .before .before .before .before .before .before .args .rows .now) (c .before .before .before .before .before .before .before .before .before .before .before .before .before .args .prepared .now)) (c .before .before .before .before .before .before .before .before .before .before .before .before .before .args .target .frame) 16 (set (c .before .before .before .before .before .before .before .before .before .before .before .before .before .args .choices) (c .before .before .before .before .before .before .before .before .before .before .before .before .before .args .group - 1) (Fixed (c .before .before .before .before .before .before .before .loop .a))))
 most c = rw (c .before .before .with-choice .ensures) at (c .refine-all .ensures .0)
 
 returns-2 : tie.Need-returns-2 Inv-loop μ-loop

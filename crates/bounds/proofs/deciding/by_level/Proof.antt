@@ -30,7 +30,7 @@ returns-2 : tie.Need-returns-2
 returns-2 c =
     let s = c .before .before .before .before .before .before .before .before .before .before .before in
     let p = s .pre .0 in
-    (rw (c .before .before .before .before .before .before .claim .given .1, ← level-fixed (p .prepared .filled .table) (p .listed) (s .args .level) (c .before .before .before .refine-own .ensures .0), le-leb _ _ (c .if1 .taken)), c .before .before .before .refine-own .ensures .1)
+    (rw (c .before .before .before .before .before .before .claim .given .1, ← level-fixed (p .prepared .filled .table) (p .listed) (s .args .target .faults) (s .args .level) (c .before .before .before .refine-own .ensures .0), le-leb _ _ (c .if1 .taken)), c .before .before .before .refine-own .ensures .1)
 
 same-length-2 : tie.Need-same-length-2
 same-length-2 c = search needs
@@ -39,7 +39,7 @@ returns-3 : tie.Need-returns-3
 returns-3 c =
     let s = c .before .before .before .before .before .before .before .before .before .before .before in
     let p = s .pre .0 in
-    (rw (c .before .before .before .before .before .before .claim .given .1, ← level-fixed (p .prepared .filled .table) (p .listed) (s .args .level) (c .before .before .before .refine-own .ensures .0), lt-leb _ _ (c .if1 .left)), c .before .before .before .refine-own .ensures .1)
+    (rw (c .before .before .before .before .before .before .claim .given .1, ← level-fixed (p .prepared .filled .table) (p .listed) (s .args .target .faults) (s .args .level) (c .before .before .before .refine-own .ensures .0), lt-leb _ _ (c .if1 .left)), c .before .before .before .refine-own .ensures .1)
 
 pub by-level-spec : {M : Type 1} → statement M
 by-level-spec =

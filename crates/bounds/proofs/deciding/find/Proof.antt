@@ -26,14 +26,14 @@ unfolding boundFor
 returns c = (rw (sym (c .before .before .before .lacks-window .ensures .0) ∙ c .if1 .taken), c .before .before .before .lacks-window .ensures .1)
 
 -- no window lacks
-has : (c : tie.Else1) → let a = c .before .before .before .before .before .before .before .before .before .before .before .before .args in lacksWindow (tableOf (a .rows .now) (a .prepared .now)) (a .target .frame) ≡ false
+has : (c : tie.Else1) → let a = c .before .before .before .before .before .before .before .before .before .before .before .before .args in lacksWindow (a .target .faults) (tableOf (a .rows .now) (a .prepared .now)) (a .target .frame) ≡ false
 has c = sym (c .before .before .before .lacks-window .ensures .0) ∙ c .if1 .left
 
 refine-own-requires : tie.Need-refine-own-requires
 refine-own-requires c κs =
     let p = c .before .before .before .before .before .before .before .before .before .before .before .before .before .pre in
     let t = p .prepared .filled .table in
-    (c .before .before .before .before .lacks-window .ensures .1, (free-start t (p .listed), (found-limits _ _ _ _ (c .before .before .before .before .before .before .before .before .busy-window .ensures .0), (has (c .before), omega arith))))
+    (c .before .before .before .before .lacks-window .ensures .1, (free-start t (p .listed), (found-limits _ _ _ _ _ (c .before .before .before .before .before .before .before .before .busy-window .ensures .0), (has (c .before), omega arith))))
 
 is-met-requires : tie.Need-is-met-requires
 is-met-requires c κs = search needs
@@ -45,7 +45,7 @@ returns-2 : tie.Need-returns-2
 unfolding boundFor
 returns-2 c =
     let p = c .before .before .before .before .before .before .before .before .before .before .before .before .before .before .before .before .before .before .pre in
-    (rw (has (c .before .before .before .before .before .before), ← one-fixed (p .prepared .filled .table) (p .listed) (c .before .before .before .before .refine-own .ensures .0), sym (c .before .is-met .ensures) ∙ c .if2 .taken), c .before .before .before .before .refine-own .ensures .1)
+    (rw (has (c .before .before .before .before .before .before), ← one-fixed (p .prepared .filled .table) (p .listed) _ (c .before .before .before .before .refine-own .ensures .0), sym (c .before .is-met .ensures) ∙ c .if2 .taken), c .before .before .before .before .refine-own .ensures .1)
 
 deepest-level-requires : tie.Need-deepest-level-requires
 deepest-level-requires c κs =
@@ -65,7 +65,7 @@ unfolding boundFor
 returns-3 c =
     let p = c .before .before .before .before .before .before .before .before .before .before .before .before .before .before .before .before .before .before .before .before .before .before .before .before .pre in
     let t = p .prepared .filled .table in
-    (rw (has (c .before .before .before .before .before .before .before .before .before .before .before .before), ← one-fixed t (p .listed) (c .before .before .before .before .before .before .before .before .before .before .refine-own .ensures .0), sym (c .before .before .before .before .before .before .before .is-met .ensures) ∙ c .before .before .before .before .before .before .if2 .left, few-scenarios t (p .listed) (sym (c .before .before .before .before .before .deepest-level .ensures) ∙ c .before .before .before .before .if3 .taken), ← all-fixed t (p .listed) (c .before .before .refine-own2 .ensures .0)), c .before .before .refine-own2 .ensures .1)
+    (rw (has (c .before .before .before .before .before .before .before .before .before .before .before .before), ← one-fixed t (p .listed) _ (c .before .before .before .before .before .before .before .before .before .before .refine-own .ensures .0), sym (c .before .before .before .before .before .before .before .is-met .ensures) ∙ c .before .before .before .before .before .before .if2 .left, few-scenarios t (p .listed) (sym (c .before .before .before .before .before .deepest-level .ensures) ∙ c .before .before .before .before .if3 .taken), ← all-fixed t (p .listed) _ (c .before .before .refine-own2 .ensures .0)), c .before .before .refine-own2 .ensures .1)
 
 by-level-requires : tie.Need-by-level-requires
 by-level-requires c κs =
@@ -80,7 +80,7 @@ unfolding boundFor
 returns-4 c =
     let p = c .before .before .before .before .before .before .before .before .before .before .before .before .before .before .before .before .before .before .before .before .before .before .before .before .pre in
     let t = p .prepared .filled .table in
-    (rw (has (c .before .before .before .before .before .before .before .before .before .before .before .before), ← one-fixed t (p .listed) (c .before .before .before .before .before .before .before .before .before .before .refine-own .ensures .0), sym (c .before .before .before .before .before .before .before .is-met .ensures) ∙ c .before .before .before .before .before .before .if2 .left, many-scenarios t (p .listed) (λ e. c .before .before .before .before .if3 .left (c .before .before .before .before .before .deepest-level .ensures ∙ e)), ← c .before .before .before .before .before .deepest-level .ensures) (c .before .before .by-level .ensures .0), c .before .before .by-level .ensures .1)
+    (rw (has (c .before .before .before .before .before .before .before .before .before .before .before .before), ← one-fixed t (p .listed) _ (c .before .before .before .before .before .before .before .before .before .before .refine-own .ensures .0), sym (c .before .before .before .before .before .before .before .is-met .ensures) ∙ c .before .before .before .before .before .before .if2 .left, many-scenarios t (p .listed) (λ e. c .before .before .before .before .if3 .left (c .before .before .before .before .before .deepest-level .ensures ∙ e)), ← c .before .before .before .before .before .deepest-level .ensures) (c .before .before .by-level .ensures .0), c .before .before .by-level .ensures .1)
 
 pub find-spec : {M : Type 1} → statement M
 find-spec =

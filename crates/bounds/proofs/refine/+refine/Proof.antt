@@ -65,8 +65,8 @@ claims t = (
 
 abbrev refine-Inv-loop : refine-lts.InvT-loop
 refine-Inv-loop rows prepared target left best reach memory₀ choices j group fewer most₀ a₀ asked₀ rest₀ memory most a asked rest =
-    Best (tableOf rows prepared) (target .frame) group (λ b. fixingMore (tableOf rows prepared) (target .frame) (left - 1) (set choices (group - 1) (Fixed b))) best most a × (best ≤ most)
-    × Reaches (tableOf rows prepared) (target .frame) choices most rest × Ready rows prepared target memory
+    Best (tableOf rows prepared) (target .frame) group (λ b. fixingMore (target .faults) (tableOf rows prepared) (target .frame) (left - 1) (set choices (group - 1) (Fixed b))) best most a × (best ≤ most)
+    × Reaches (target .faults) (tableOf rows prepared) (target .frame) choices most rest × Ready rows prepared target memory
 
 abbrev refine-μ-loop : refine-lts.MeasureT-loop
 refine-μ-loop rows prepared target left best reach memory₀ choices j group fewer most₀ a₀ asked₀ rest₀ memory most a asked rest = turn (tableOf rows prepared) (target .frame) group - a
@@ -83,16 +83,16 @@ own : (t : ℕ) (c : refine-lts.After-with-choice (claims t) (refine-at t) refin
 own t c = subst (OwnFixed (c .before .before .before .before .args .target .frame)) (sym (c .with-choice .ensures)) (c .before .before .before .before .pre .1 .1 .1 .0)
 
 known : (t : ℕ) (c : refine-lts.After-with-choice (claims t) (refine-at t) refine.Post refine-Inv-loop refine-μ-loop) → let x = c .before .before .before .before .args in let fs = tableOf (x .rows .now) (x .prepared .now) in let k = x .target .frame in
-    Reaches fs k (c .with-choice .result) (x .best) (x .reach)
+    Reaches (x .target .faults) fs k (c .with-choice .result) (x .best) (x .reach)
 known t c =
     let x = c .before .before .before .before .args in
-    subst (λ (cs : List Choice). Reaches (tableOf (x .rows .now) (x .prepared .now)) (x .target .frame) cs (x .best) (x .reach)) (sym (c .with-choice .ensures)) (c .before .before .before .before .pre .1 .1 .1 .1)
+    subst (λ (cs : List Choice). Reaches (x .target .faults) (tableOf (x .rows .now) (x .prepared .now)) (x .target .frame) cs (x .best) (x .reach)) (sym (c .with-choice .ensures)) (c .before .before .before .before .pre .1 .1 .1 .1)
 
 told : (t : ℕ) (c : refine-lts.After-with-choice (claims t) (refine-at t) refine.Post refine-Inv-loop refine-μ-loop) {r : ℕ} → let x = c .before .before .before .before .args in let fs = tableOf (x .rows .now) (x .prepared .now) in let k = x .target .frame in
-    r ≡ max (x .best) (fixingMore fs k (x .left) (c .with-choice .result)) → r ≡ max (x .best) (fixingMore fs k (x .left) (set (x .coarser) (x .fixing .group - 1) (Fixed (x .fixing .alignment))))
+    r ≡ max (x .best) (fixingMore (x .target .faults) fs k (x .left) (c .with-choice .result)) → r ≡ max (x .best) (fixingMore (x .target .faults) fs k (x .left) (set (x .coarser) (x .fixing .group - 1) (Fixed (x .fixing .alignment))))
 told t c is =
     let x = c .before .before .before .before .args in
-    is ∙ ap (λ (cs : List Choice). max (x .best) (fixingMore (tableOf (x .rows .now) (x .prepared .now)) (x .target .frame) (x .left) cs)) (c .with-choice .ensures)
+    is ∙ ap (λ (cs : List Choice). max (x .best) (fixingMore (x .target .faults) (tableOf (x .rows .now) (x .prepared .now)) (x .target .frame) (x .left) cs)) (c .with-choice .ensures)
 
 refine-max-with-scenario-requires : (t : ℕ) → refine-lts.Need-max-with-scenario-requires (claims t) (refine-at t) refine.Post refine-Inv-loop refine-μ-loop
 refine-max-with-scenario-requires t c κs = (c .before .before .before .before .before .before .pre .1 .0, (own t (c .before .before), known t (c .before .before)))
@@ -103,7 +103,7 @@ refine-same-length t c = c .before .before .max-with-scenario .ensures .1 .remem
 refine-returns : (t : ℕ) → refine-lts.Need-returns (claims t) (refine-at t) refine.Post refine-Inv-loop refine-μ-loop
 refine-returns t c =
     let p = c .before .before .before .before .before .before .before .before .before .pre .1 in
-    (told t (c .before .before .before .before .before) (c .before .before .max-with-scenario .ensures .0 ∙ ap (max (c .before .before .before .before .before .before .before .before .before .args .best)) (sym (rw (c .before .before .before .before .if1 .taken) (open-end (p .0 .prepared .filled .table) (p .0 .listed) (c .before .before .before .before .before .with-choice .result) (long t (c .before .before .before .before .before)))))), c .before .before .max-with-scenario .ensures .1)
+    (told t (c .before .before .before .before .before) (c .before .before .max-with-scenario .ensures .0 ∙ ap (max (c .before .before .before .before .before .before .before .before .before .args .best)) (sym (rw (c .before .before .before .before .if1 .taken) (open-end (p .0 .prepared .filled .table) (p .0 .listed) (c .before .before .before .before .before .with-choice .result) (long t (c .before .before .before .before .before)) _)))), c .before .before .max-with-scenario .ensures .1)
 
 refine-next-open-requires : (t : ℕ) → refine-lts.Need-next-open-requires (claims t) (refine-at t) refine.Post refine-Inv-loop refine-μ-loop
 refine-next-open-requires t c κs = let p = c .before .before .before .before .before .pre .1 in in-table-fine _ (p .0 .prepared .filled .table) (p .0 .listed)
@@ -123,7 +123,7 @@ refine-same-length-2 t c = c .before .before .max-with-scenario2 .ensures .1 .re
 refine-returns-2 : (t : ℕ) → refine-lts.Need-returns-2 (claims t) (refine-at t) refine.Post refine-Inv-loop refine-μ-loop
 refine-returns-2 t c =
     let p = c .before .before .before .before .before .before .before .before .before .before .before .before .pre .1 in
-    (told t (c .before .before .before .before .before .before .before .before) (c .before .before .max-with-scenario2 .ensures .0 ∙ ap (max (c .before .before .before .before .before .before .before .before .before .before .before .before .args .best)) (sym (open-none (p .0 .prepared .filled .table) (p .0 .listed) (c .before .before .before .before .before .before .before .before .with-choice .result) (long t (c .before .before .before .before .before .before .before .before)) (c .before .before .before .before .before .before .before .before .before .before .before .before .args .left) (sym (c .before .before .before .before .before .before .next-open .ensures) ∙ c .before .before .before .before .enum-told .given .1)))), c .before .before .max-with-scenario2 .ensures .1)
+    (told t (c .before .before .before .before .before .before .before .before) (c .before .before .max-with-scenario2 .ensures .0 ∙ ap (max (c .before .before .before .before .before .before .before .before .before .before .before .before .args .best)) (sym (open-none (p .0 .prepared .filled .table) (p .0 .listed) (c .before .before .before .before .before .before .before .before .with-choice .result) (long t (c .before .before .before .before .before .before .before .before)) _ (c .before .before .before .before .before .before .before .before .before .before .before .before .args .left) (sym (c .before .before .before .before .before .before .next-open .ensures) ∙ c .before .before .before .before .enum-told .given .1)))), c .before .before .max-with-scenario2 .ensures .1)
 
 refine-cast-group : (t : ℕ) → refine-lts.Need-cast-group (claims t) (refine-at t) refine.Post refine-Inv-loop refine-μ-loop
 refine-cast-group t c = search needs
@@ -141,14 +141,14 @@ fewer t c = omega (arith, c .before .before .before .if1 .left)
 
 -- the greatest over its alignments is that with one group more
 whole : (t : ℕ) (c : refine-lts.After-next (claims t) (refine-at t) refine.Post refine-Inv-loop refine-μ-loop) → let x = c .before .before .before .before .before .before .before .before .args in let fs = tableOf (x .rows .now) (x .prepared .now) in let k = x .target .frame in let j = c .next .given .0 .0 in
-    greatest (λ b. fixingMore fs k (x .left - 1) (set (c .before .before .before .before .with-choice .result) (j - 1) (Fixed b))) (orEmpty (firstTurn fs k j)) ≡ fixingMore fs k (x .left) (c .before .before .before .before .with-choice .result)
+    greatest (λ b. fixingMore (x .target .faults) fs k (x .left - 1) (set (c .before .before .before .before .with-choice .result) (j - 1) (Fixed b))) (orEmpty (firstTurn fs k j)) ≡ fixingMore (x .target .faults) fs k (x .left) (c .before .before .before .before .with-choice .result)
 whole t c =
     let p = c .before .before .before .before .before .before .before .before .pre .1 in
-    rw (fewer t c) at (open-more (p .0 .prepared .filled .table) (p .0 .listed) (c .before .before .before .before .with-choice .result) (long t (c .before .before .before .before)) (c .before .before .before .before .before .before .before .before .args .left - 1) (sym (c .before .before .next-open .ensures) ∙ c .next .given .1))
+    rw (fewer t c) at (open-more (p .0 .prepared .filled .table) (p .0 .listed) (c .before .before .before .before .with-choice .result) (long t (c .before .before .before .before)) (c .before .before .before .before .before .before .before .before .args .target .faults) (c .before .before .before .before .before .before .before .before .args .left - 1) (sym (c .before .before .next-open .ensures) ∙ c .next .given .1))
 
 -- what the search knows it knows with one of the group's alignments
 deeper : (t : ℕ) (c : refine-lts.After-next (claims t) (refine-at t) refine.Post refine-Inv-loop refine-μ-loop) {a most reach : ℕ} → let x = c .before .before .before .before .before .before .before .before .args in let fs = tableOf (x .rows .now) (x .prepared .now) in let k = x .target .frame in let j = c .next .given .0 .0 in let cs = set (c .before .before .before .before .with-choice .result) (j - 1) (Fixed a) in
-    Mem a (orEmpty (alignments fs k j)) → Reaches fs k (c .before .before .before .before .with-choice .result) most reach → OwnFixed k cs × Reaches fs k cs most reach
+    Mem a (orEmpty (alignments fs k j)) → Reaches (x .target .faults) fs k (c .before .before .before .before .with-choice .result) most reach → OwnFixed k cs × Reaches (x .target .faults) fs k cs most reach
 deeper t c listed left =
     let p = c .before .before .before .before .before .before .before .before .pre .1 in
     let table = p .0 .prepared .filled .table in
@@ -165,7 +165,7 @@ refine-or-zero-requires t c κs = search needs
 
 -- the walk stands at its first alignment
 first : (t : ℕ) (c : refine-lts.After-or-zero (claims t) (refine-at t) refine.Post refine-Inv-loop refine-μ-loop) → let x = c .before .before .before .before .before .before .before .before .before .before .before .args in let fs = tableOf (x .rows .now) (x .prepared .now) in let k = x .target .frame in let j = c .before .before .before .next .given .0 .0 in
-    Best fs k j (λ b. fixingMore fs k (x .left - 1) (set (c .before .before .before .before .before .before .before .with-choice .result) (j - 1) (Fixed b))) (x .best) (x .best) (c .or-zero .result)
+    Best fs k j (λ b. fixingMore (x .target .faults) fs k (x .left - 1) (set (c .before .before .before .before .before .before .before .with-choice .result) (j - 1) (Fixed b))) (x .best) (x .best) (c .or-zero .result)
 first t c = best-first _ _ _ _ (c .before .before .before .before .before .before .before .before .before .before .before .pre .1 .0 .prepared .filled .table .valid) (c .before .next-of .result) (c .before .next-of .ensures) (c .or-zero .ensures)
 
 refine-is-last-requires : (t : ℕ) → refine-lts.Need-is-last-requires (claims t) (refine-at t) refine.Post refine-Inv-loop refine-μ-loop
@@ -184,7 +184,7 @@ refine-returns-3 : (t : ℕ) → refine-lts.Need-returns-3 (claims t) (refine-at
 refine-returns-3 t c =
     let l = c .before .before .before .before .before .loop in
     let p = c .before .before .before .before .before .before .before .before .before .before .before .before .before .before .before .before .before .before .pre .1 in
-    let none = reach-none _ _ _ (rw (c .if2 .taken) at (c .before .before .before .reach-now .ensures .0)) in
+    let none = reach-none _ _ _ _ (rw (c .if2 .taken) at (c .before .before .before .reach-now .ensures .0)) in
     let pruned = open-pruned (p .0 .prepared .filled .table) (p .0 .listed) (c .before .before .before .before .before .before .before .before .before .before .before .before .before .before .with-choice .result) (long t (c .before .before .before .before .before .before .before .before .before .before .before .before .before .before)) (own t (c .before .before .before .before .before .before .before .before .before .before .before .before .before .before)) (known t (c .before .before .before .before .before .before .before .before .before .before .before .before .before .before)) (c .before .before .before .before .before .before .before .before .before .before .before .before .before .before .before .before .before .before .args .left) in
     (told t (c .before .before .before .before .before .before .before .before .before .before .before .before .before .before) (best-over _ _ _ _ (l .inv .0) (l .inv .1) (whole t (c .before .before .before .before .before .before .before .before .before .before)) (omega (arith, none, pruned))), c .before .before .before .reach-now .ensures .1)
 

@@ -30,7 +30,7 @@ unfolding orZero
 returns-2 c =
     let (l, is) = c .before .before .before .before .before .before .before .before .before .before .pre .1 .1 in
     let long : c .or-zero .result ≡ l = c .or-zero .ensures ∙ ap orZero (c .before .before .before .busy-window .ensures .0 ∙ is) in
-    (record { window = l; is = is; within = omega (arith, long); small = omega (arith, long, window-small _ _ _ is) }, c .before .before .before .busy-window .ensures .1)
+    (record { window = l; is = is; within = omega (arith, long); small = omega (arith, long, window-small _ _ _ _ is) }, c .before .before .before .busy-window .ensures .1)
 
 pub limit-of-spec : {M : Type 1} → statement M
 limit-of-spec =

@@ -57,7 +57,7 @@ limit-of-requires : tie.Need-limit-of-requires
 limit-of-requires c κs =
     let s = c .before .before .before .before .before .before .before .before in
     let p = s .pre in
-    (p .0, (tt, refined-window (p .0 .prepared .filled .table) (p .0 .listed) (s .args .choices) (long s) (p .1 .0) (p .1 .1) (fixed (c .before .before))))
+    (p .0, (tt, refined-window (p .0 .prepared .filled .table) (p .0 .listed) _ (s .args .choices) (long s) (p .1 .0) (p .1 .1) (fixed (c .before .before))))
 
 reach-before-requires : tie.Need-reach-before-requires
 reach-before-requires c κs = (c .before .before .before .limit-of .ensures .1, c .before .before .before .limit-of .ensures .0)
@@ -69,7 +69,7 @@ refine-requires : tie.Need-refine-requires
 refine-requires c κs =
     let o = c .before .before .before .before .before .before .before .before .before .before in
     let s = c .before .before .before .before .before .before .before .before .before .before .before .before .before .before .before .before in
-    (c .before .before .before .before .before .before .before .limit-of .ensures .1, (group s, (subst (OwnFixed (s .args .target .frame)) (sym (again o)) (fixed o), subst (λ (cs : List Choice). Reaches (tableOf (s .args .rows .now) (s .args .prepared .now)) (s .args .target .frame) cs (s .args .best) (c .before .before .before .reach-before .result)) (sym (again o)) (c .before .before .before .reach-before .ensures (s .args .best)))))
+    (c .before .before .before .before .before .before .before .limit-of .ensures .1, (group s, (subst (OwnFixed (s .args .target .frame)) (sym (again o)) (fixed o), subst (λ (cs : List Choice). Reaches (s .args .target .faults) (tableOf (s .args .rows .now) (s .args .prepared .now)) (s .args .target .frame) cs (s .args .best) (c .before .before .before .reach-before .result)) (sym (again o)) (c .before .before .before .reach-before .ensures (s .args .best)))))
 
 same-length-2 : tie.Need-same-length-2
 same-length-2 c = c .before .before .refine .ensures .1 .remembered .size ∙ sym (c .before .before .before .before .before .before .before .before .before .before .before .before .before .before .before .before .before .before .before .pre .0 .remembered .size)
@@ -77,7 +77,7 @@ same-length-2 c = c .before .before .refine .ensures .1 .remembered .size ∙ sy
 returns-2 : tie.Need-returns-2
 returns-2 c =
     let s = c .before .before .before .before .before .before .before .before .before .before .before .before .before .before .before .before .before .before .before in
-    (c .before .before .refine .ensures .0 ∙ ap (λ (cs : List Choice). max (s .args .best) (fixingMore (tableOf (s .args .rows .now) (s .args .prepared .now)) (s .args .target .frame) 16 cs)) (again (c .before .before .before .before .before .before .before .before .before .before .before .before .before)), c .before .before .refine .ensures .1)
+    (c .before .before .refine .ensures .0 ∙ ap (λ (cs : List Choice). max (s .args .best) (fixingMore (s .args .target .faults) (tableOf (s .args .rows .now) (s .args .prepared .now)) (s .args .target .frame) 16 cs)) (again (c .before .before .before .before .before .before .before .before .before .before .before .before .before)), c .before .before .refine .ensures .1)
 
 pub refine-all-spec : {M : Type 1} → statement M
 refine-all-spec =

@@ -16,7 +16,7 @@ use Rattle.bounds.proofs.refine.refine_own.Tie as tie
 
 abbrev Inv-loop : tie.InvT-loop
 Inv-loop rows prepared target choices left best limit memory₀ own fewer most₀ a₀ memory most a =
-    Best (tableOf rows prepared) (target .frame) (target .frame .group) (λ b. fixingMore (tableOf rows prepared) (target .frame) (left - 1) (set choices (target .frame .group - 1) (Fixed b))) best most a × Ready rows prepared target memory
+    Best (tableOf rows prepared) (target .frame) (target .frame .group) (λ b. fixingMore (target .faults) (tableOf rows prepared) (target .frame) (left - 1) (set choices (target .frame .group - 1) (Fixed b))) best most a × Ready rows prepared target memory
 
 abbrev μ-loop : tie.MeasureT-loop
 μ-loop rows prepared target choices left best limit memory₀ own fewer most₀ a₀ memory most a = turn (tableOf rows prepared) (target .frame) (target .frame .group) - a
@@ -52,7 +52,7 @@ limit-of-requires c κs =
     let s = c .before .before .before .before .before .before .before .before .before .before in
     let p = s .pre in
     let t = p .0 .prepared .filled .table in
-    (c .before .before .loop .inv .1, (own-limits t (p .0 .listed) (s .args .choices) (long s) (p .1 .0) (c .before .before .loop .inv .0 .listed) (c .before .with-choice .ensures) (s .args .limit) (p .1 .1 .0), own-window t (p .0 .listed) (s .args .choices) (long s) (p .1 .0) (c .before .before .loop .inv .0 .listed) (c .before .with-choice .ensures) (p .1 .1 .1 .0)))
+    (c .before .before .loop .inv .1, (own-limits t (p .0 .listed) (s .args .choices) (long s) (p .1 .0) (c .before .before .loop .inv .0 .listed) (c .before .with-choice .ensures) (s .args .target .faults) (s .args .limit) (p .1 .1 .0), own-window t (p .0 .listed) (s .args .choices) (long s) (p .1 .0) (c .before .before .loop .inv .0 .listed) (c .before .with-choice .ensures) (s .args .target .faults) (p .1 .1 .1 .0)))
 
 reach-before-requires : tie.Need-reach-before-requires Inv-loop μ-loop
 reach-before-requires c κs = (c .before .before .before .limit-of .ensures .1, c .before .before .before .limit-of .ensures .0)
@@ -87,7 +87,7 @@ returns c =
     let s = c .before .before .before .before .before .before .before .before .before .before .before .before .before .before .before .before .before .before .before .before .before .before in
     let p = s .pre in
     let fewer : suc (s .args .left - 1) ≡ s .args .left = omega (arith, p .1 .1 .1 .1) in
-    let whole = rw fewer at (open-more (p .0 .prepared .filled .table) (p .0 .listed) (s .args .choices) (long s) (s .args .left - 1) (own-next (p .0 .prepared .filled .table) (p .0 .listed) (s .args .choices) (long s) (p .1 .0))) in (
+    let whole = rw fewer at (open-more (p .0 .prepared .filled .table) (p .0 .listed) (s .args .choices) (long s) (s .args .target .faults) (s .args .left - 1) (own-next (p .0 .prepared .filled .table) (p .0 .listed) (s .args .choices) (long s) (p .1 .0))) in (
       best-end _ _ _ _ (c .before .before .before .before .before .before .before .before .before .before .before .before .before .before .loop .inv .0) (c .before .before .before .before .before .refine .ensures .0) (sym (c .before .before .next-of2 .ensures) ∙ c .enum-told .given .1) ∙ ap (max (s .args .best)) whole,
       c .before .before .before .before .before .refine .ensures .1,
     )

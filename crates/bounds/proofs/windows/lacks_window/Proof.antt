@@ -12,7 +12,7 @@ use Rattle.bounds.proofs.windows.lacks_window.Statement.{statement}
 use Rattle.bounds.proofs.windows.lacks_window.Tie as tie
 
 abbrev Inv-loop : tie.InvT-loop
-Inv-loop rows prepared target memory₀ own a₀ memory a = Missing (tableOf rows prepared) (target .frame) a × Ready rows prepared target memory
+Inv-loop rows prepared target memory₀ own a₀ memory a = Missing (target .faults) (tableOf rows prepared) (target .frame) a × Ready rows prepared target memory
 
 abbrev μ-loop : tie.MeasureT-loop
 μ-loop rows prepared target memory₀ own a₀ memory a = turn (tableOf rows prepared) (target .frame) (target .frame .group) - a
@@ -21,7 +21,7 @@ enum-told : tie.Need-enum-told Inv-loop μ-loop
 enum-told c = search needs
 
 returns : tie.Need-returns Inv-loop μ-loop
-returns c = let p = c .before .before .before .before .before .pre .0 in (sym (lacks-none (p .prepared .filled .table) (p .listed) (sym (c .before .before .before .before .before .pre .1) ∙ c .enum-told .given .1)), p)
+returns c = let p = c .before .before .before .before .before .pre .0 in (sym (lacks-none (p .prepared .filled .table) (p .listed) _ (sym (c .before .before .before .before .before .pre .1) ∙ c .enum-told .given .1)), p)
 
 enum-told-2 : tie.Need-enum-told-2 Inv-loop μ-loop
 enum-told-2 c = search needs

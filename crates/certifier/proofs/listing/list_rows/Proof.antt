@@ -18,13 +18,13 @@ no-room-requires c κs = search needs
 returns : tie.Need-returns
 returns c =
     let start = c .before .before .before .before in
-    area-short Passed (listingOf (start .args .lengths) (start .args .rows .now)) (start .args .out .now) _ _ (length-listing (start .args .lengths) (start .args .rows .now)) refl (c .before .if1 .taken) (c .no-room .ensures)
+    area-short Passed (listingOf (start .args .faults) (start .args .lengths) (start .args .rows .now)) (start .args .out .now) _ _ (length-listing (start .args .faults) (start .args .lengths) (start .args .rows .now)) refl (c .before .if1 .taken) (c .no-room .ensures)
 
 write-lines-requires : tie.Need-write-lines-requires
 write-lines-requires c κs = search needs
 
-mul-t5 : tie.Need-mul-t5
-mul-t5 c = search needs
+mul-t6 : tie.Need-mul-t6
+mul-t6 c = search needs
 
 same-length : tie.Need-same-length
 same-length c = search needs
@@ -34,8 +34,8 @@ unfolding listingOf
 returns-2 c =
     let at-if1 = c .before .before .before .before in
     let start = at-if1 .before .before .before in
-    area-written Passed (listingOf (start .args .lengths) (start .args .rows .now)) (start .args .out .now) _ _ (length-listing (start .args .lengths) (start .args .rows .now)) refl (omega (arith, at-if1 .if1 .left)) (c .before .before .write-lines .ensures)
+    area-written Passed (listingOf (start .args .faults) (start .args .lengths) (start .args .rows .now)) (start .args .out .now) _ _ (length-listing (start .args .faults) (start .args .lengths) (start .args .rows .now)) refl (omega (arith, at-if1 .if1 .left)) (c .before .before .write-lines .ensures)
 
 pub list-rows-spec : {M : Type 1} → statement M
 list-rows-spec =
-    tie.close (tie.spec mul-if1 no-room-requires returns write-lines-requires mul-t5 same-length returns-2)
+    tie.close (tie.spec mul-if1 no-room-requires returns write-lines-requires mul-t6 same-length returns-2)

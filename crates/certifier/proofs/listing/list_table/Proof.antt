@@ -3,6 +3,7 @@ use mathlib.Core.Path.{refl}
 use borrow.Author.Needs.{needs}
 use Rattle.frame_table.specs.laws.Areas.{area-refused}
 use Rattle.frame_table.specs.laws.Reading.{ReadRows, read-rows, read-refused}
+use Rattle.workload.specs.laws.Groups.{fine-never}
 use Rattle.certifier.proofs.listing.list_table.Statement.{statement}
 use Rattle.certifier.proofs.listing.list_table.Tie as tie
 
@@ -31,7 +32,7 @@ slice-aggregate-list-rows : tie.Need-slice-aggregate-list-rows
 slice-aggregate-list-rows c = read (c .before) .size
 
 list-rows-requires : tie.Need-list-rows-requires
-list-rows-requires c κs = (c .before .before .before .before .before .before .before .before .before .before .pre, read (c .before .before) .accepted)
+list-rows-requires c κs = ((c .before .before .before .before .before .before .before .before .before .before .pre, read (c .before .before) .accepted), fine-never)
 
 returns : tie.Need-returns
 returns c =

@@ -10,7 +10,7 @@ use Rattle.certifier.proofs.listing.write_row.Tie as tie
 judge-row-requires : tie.Need-judge-row-requires
 judge-row-requires c κs =
     let start = c .before .before in
-    (start .pre .0, omega (arith, length-frames (start .args .lengths) (start .args .rows .now), start .pre .1 .0))
+    (start .pre .0, (omega (arith, length-frames (start .args .lengths) (start .args .rows .now), start .pre .1 .1 .0), start .pre .1 .0))
 
 mul-write-line : tie.Need-mul-write-line
 mul-write-line c = search needs

@@ -83,7 +83,7 @@ returns-2 c =
     let is = read-group p (s .args .j) (s .pre .1 .0) Any (s .args .n) (g .1 .0) in
     let listed = first-aligned (p .filled .table .valid) _ _ (rw (read-alignments p (s .args .j) (s .pre .1 .0)) at (g .0)) in
     let kept = c .before .before .before .insert .ensures _ _ (p .filled .table .valid) (sym is) (s .pre .0 .remembered) in
-    (is, record { prepared = p; listed = s .pre .0 .listed; blocked = s .pre .0 .blocked; remembered = put-guess kept (s .args .j) _ (s .pre .1 .0) (search needs) listed })
+    (is, record { prepared = p; listed = s .pre .0 .listed; blocked = s .pre .0 .blocked; target = s .pre .0 .target; cost = s .pre .0 .cost; remembered = put-guess kept (s .args .j) _ (s .pre .1 .0) (search needs) listed })
 
 pub stair-work-spec : {M : Type 1} → statement M
 stair-work-spec =

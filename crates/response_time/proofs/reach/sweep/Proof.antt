@@ -14,7 +14,7 @@ use Rattle.response_time.proofs.reach.sweep.Statement.{statement}
 use Rattle.response_time.proofs.reach.sweep.Tie as tie
 
 abbrev Inv-loop : tie.InvT-loop
-Inv-loop rows prepared target choices reach best patience memory₀ area to last₀ missed₀ from₀ q₀ memory last missed from q = Swept (tableOf rows prepared) (target .frame) choices best reach last q × Ready rows prepared target memory × (missed ≤ q)
+Inv-loop rows prepared target choices reach best patience memory₀ area to last₀ missed₀ from₀ q₀ memory last missed from q = Swept (target .faults) (tableOf rows prepared) (target .frame) choices best reach last q × Ready rows prepared target memory × (missed ≤ q)
 
 abbrev μ-loop : tie.MeasureT-loop
 μ-loop rows prepared target choices reach best patience memory₀ area to last₀ missed₀ from₀ q₀ memory last missed from q = reach - q
@@ -23,7 +23,7 @@ slice-aggregate-place : tie.Need-slice-aggregate-place Inv-loop μ-loop
 slice-aggregate-place c = search needs
 
 place-requires : tie.Need-place-requires Inv-loop μ-loop
-place-requires c κs = (c .before .before .before .before .pre .0 .prepared .filled, search needs)
+place-requires c κs = let p = c .before .before .before .before .pre .0 in (p .prepared .filled, (p .target, search needs))
 
 mul-to : tie.Need-mul-to Inv-loop μ-loop
 mul-to c = search needs
@@ -51,7 +51,7 @@ fits c =
 shown-within-requires : tie.Need-shown-within-requires Inv-loop μ-loop
 shown-within-requires c κs =
     let f = fits (c .before .before .before) in
-    (c .before .before .before .before .loop .inv .1, ((c .before .before .before .before .before .before .before .before .before .before .before .pre .1 .0, omega (arith, f .1)), (f .0, rw sub-zero (c .before .before .before .before .before .before .place .ensures .0) ∙ placed-any _ _ _ (c .before .before .before .before .loop .q))))
+    (c .before .before .before .before .loop .inv .1, ((c .before .before .before .before .before .before .before .before .before .before .before .pre .1 .0, omega (arith, f .1)), (f .0, rw sub-zero (c .before .before .before .before .before .before .place .ensures .0) ∙ placed-any _ (c .before .before .before .before .before .before .before .before .before .before .before .args .target) _ (c .before .before .before .before .loop .q))))
 
 add-lesser : tie.Need-add-lesser Inv-loop μ-loop
 add-lesser c = record { fits = omega (arith, fits (c .before .before .before .before .before .before .before .before .before) .1, c .before .before .before .before .before .shown-within .ensures .1 .0) }

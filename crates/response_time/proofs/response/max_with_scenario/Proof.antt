@@ -9,7 +9,7 @@ use Rattle.response_time.proofs.response.max_with_scenario.Statement.{s
 use Rattle.response_time.proofs.response.max_with_scenario.Tie as tie
 
 returns : tie.Need-returns
-returns c = (omega (arith, reach-none _ _ _ (rw (c .if1 .taken) at (c .before .before .before .before .pre .1 .1))), c .before .before .before .before .pre .0)
+returns c = (omega (arith, reach-none _ _ _ _ (rw (c .if1 .taken) at (c .before .before .before .before .pre .1 .1))), c .before .before .before .before .pre .0)
 
 sweep-requires : tie.Need-sweep-requires
 sweep-requires c κs = search needs
@@ -18,7 +18,7 @@ same-length : tie.Need-same-length
 same-length c = c .before .before .before .sweep .ensures .1 .remembered .size ∙ sym (c .before .before .before .before .before .before .before .before .before .pre .0 .remembered .size)
 
 returns-2 : tie.Need-returns-2
-returns-2 c = (omega (arith, reach-none _ _ _ (rw (c .if2 .taken) at (c .before .before .before .sweep .ensures .0))), c .before .before .before .sweep .ensures .1)
+returns-2 c = (omega (arith, reach-none _ _ _ _ (rw (c .if2 .taken) at (c .before .before .before .sweep .ensures .0))), c .before .before .before .sweep .ensures .1)
 
 busy-window-requires : tie.Need-busy-window-requires
 busy-window-requires c κs = c .before .before .before .before .sweep .ensures .1
@@ -34,7 +34,7 @@ same-length-2 c = c .before .before .before .before .busy-window .ensures .1 .re
 
 returns-3 : tie.Need-returns-3
 returns-3 c =
-    let none = response-none _ _ _ (sym (c .before .before .before .before .busy-window .ensures .0) ∙ c .enum-told .given .1) in
+    let none = response-none _ _ _ _ (sym (c .before .before .before .before .busy-window .ensures .0) ∙ c .enum-told .given .1) in
     (omega (arith, none), c .before .before .before .before .busy-window .ensures .1)
 
 max-with-window-requires : tie.Need-max-with-window-requires
@@ -45,7 +45,7 @@ same-length-3 c = c .before .before .max-with-window .ensures .1 .remembered .si
 
 returns-4 : tie.Need-returns-4
 returns-4 c =
-    let is = response-at _ _ _ _ (sym (c .before .before .before .before .before .before .before .before .before .busy-window .ensures .0) ∙ c .before .before .before .before .before .found .given .1) in
+    let is = response-at _ _ _ _ _ (sym (c .before .before .before .before .before .before .before .before .before .busy-window .ensures .0) ∙ c .before .before .before .before .before .found .given .1) in
     (c .before .before .max-with-window .ensures .0 ∙ ap (max (c .before .before .before .before .before .before .before .before .before .before .before .before .before .before .before .before .before .before .before .before .args .best)) (sym is), c .before .before .max-with-window .ensures .1)
 
 pub max-with-scenario-spec : {M : Type 1} → statement M

@@ -16,7 +16,7 @@ use Rattle.response_time.proofs.response.max_with_window.Statement.{sta
 use Rattle.response_time.proofs.response.max_with_window.Tie as tie
 
 abbrev Inv-loop : tie.InvT-loop
-Inv-loop rows prepared target choices window best memory₀ k d instances area to most₀ near₀ from₀ q₀ memory most near from q = Ready rows prepared target memory × InstanceLoop (tableOf rows prepared) (target .frame) choices window instances best most from q
+Inv-loop rows prepared target choices window best memory₀ k d instances area to most₀ near₀ from₀ q₀ memory most near from q = Ready rows prepared target memory × InstanceLoop (target .faults) (tableOf rows prepared) (target .frame) choices window instances best most from q
 
 abbrev μ-loop : tie.MeasureT-loop
 μ-loop rows prepared target choices window best memory₀ k d instances area to most₀ near₀ from₀ q₀ memory most near from q = instances - q
@@ -28,20 +28,20 @@ releases-before-requires : tie.Need-releases-before-requires Inv-loop μ-loop
 releases-before-requires c κs =
     let p = c .before .before .before .before .before .pre in
     let f = in-table-fine _ (p .0 .prepared .filled .table) (p .0 .listed) in
-    (f .period-low, f .period-high, omega (arith, window-small _ _ _ (p .1 .1)))
+    (f .period-low, f .period-high, omega (arith, window-small _ _ _ _ (p .1 .1)))
 
 slice-aggregate-place : tie.Need-slice-aggregate-place Inv-loop μ-loop
 slice-aggregate-place c = search needs
 
 place-requires : tie.Need-place-requires Inv-loop μ-loop
-place-requires c κs = (c .before .before .before .before .before .before .before .pre .0 .prepared .filled, search needs)
+place-requires c κs = let p = c .before .before .before .before .before .before .before .pre .0 in (p .prepared .filled, (p .target, search needs))
 
 mul-to : tie.Need-mul-to Inv-loop μ-loop
 mul-to c = search needs
 
 -- what the calls before the loop tell of the window
 windowed : (c : tie.After-releases-before Inv-loop μ-loop) →
-    let a = c .before .before .before .before .before .before .args in Windowed (tableOf (a .rows .now) (a .prepared .now)) (a .target .frame) (a .choices) (a .window) (c .releases-before .result)
+    let a = c .before .before .before .before .before .before .args in Windowed (a .target .faults) (tableOf (a .rows .now) (a .prepared .now)) (a .target .frame) (a .choices) (a .window) (c .releases-before .result)
 windowed c =
     let s = c .before .before .before .before .before .before in
     record {
@@ -57,7 +57,7 @@ fits : (c : tie.In-loop Inv-loop μ-loop) →
     let a = c .before .before .before .before .before .before .before .before .before .before .before .args in (ownDistance (a .target .frame) (a .choices) + c .before .loop .q * a .target .frame .period < 1000000) × (c .before .loop .q < 1000000)
 fits c =
     let v = windowed (c .before .before .before .before .before) in
-    instance-fits (v .accepted) (v .listed) (ownDistance (c .before .before .before .before .before .before .before .before .before .before .before .args .target .frame) (c .before .before .before .before .before .before .before .before .before .before .before .args .choices)) (v .number) (window-small _ _ _ (v .window)) (c .loop-test .taken)
+    instance-fits (v .accepted) (v .listed) (ownDistance (c .before .before .before .before .before .before .before .before .before .before .before .args .target .frame) (c .before .before .before .before .before .before .before .before .before .before .before .args .choices)) (v .number) (window-small _ _ _ _ (v .window)) (c .loop-test .taken)
 
 loop-holds : tie.Need-loop-holds Inv-loop μ-loop
 loop-holds c = (c .before .before .before .before .before .before .before .before .before .pre .0, loop-start (windowed (c .before .before .before)))
@@ -74,7 +74,7 @@ part-placed-end c = search needs
 shown-within-requires : tie.Need-shown-within-requires Inv-loop μ-loop
 shown-within-requires c κs =
     let f = fits (c .before .before .before) in
-    (c .before .before .before .before .loop .inv .0, ((c .before .before .before .before .before .before .before .before .before .before .before .before .before .before .pre .1 .0, omega (arith, f .1)), (f .0, rw sub-zero (c .before .before .before .before .before .before .place .ensures .0) ∙ placed-any _ _ _ (c .before .before .before .before .loop .q))))
+    (c .before .before .before .before .loop .inv .0, ((c .before .before .before .before .before .before .before .before .before .before .before .before .before .before .pre .1 .0, omega (arith, f .1)), (f .0, rw sub-zero (c .before .before .before .before .before .before .place .ensures .0) ∙ placed-any _ (c .before .before .before .before .before .before .before .before .before .before .before .before .before .before .args .target) _ (c .before .before .before .before .loop .q))))
 
 add-lesser : tie.Need-add-lesser Inv-loop μ-loop
 add-lesser c = record { fits = omega (arith, fits (c .before .before .before .before .before .before .before .before .before) .1, c .before .before .before .before .before .shown-within .ensures .1 .0) }
@@ -89,7 +89,7 @@ loop-again : tie.Need-loop-again Inv-loop μ-loop
 loop-again c =
     let l = c .before .before .before .before .before .before .before .before .before .before .before .loop in
     let r = c .before .before .before .before .before .before .shown-within .ensures in
-    (r .1 .1, rw (c .lesser .ensures) (loop-skip (c .before .before .before .before .before .before .shown-within .result .count) (l .inv .1) (λ i less. shown-response _ _ _ (l .q + i) (l .most) (r .0 i less))))
+    (r .1 .1, rw (c .lesser .ensures) (loop-skip (c .before .before .before .before .before .before .shown-within .result .count) (l .inv .1) (λ i less. shown-response _ _ _ _ (l .q + i) (l .most) (r .0 i less))))
 
 fixed-point-requires : tie.Need-fixed-point-requires Inv-loop μ-loop
 fixed-point-requires c κs = (c .before .before .before .before .before .shown-within .ensures .1 .1, ((c .before .before .before .before .before .before .before .before .before .before .before .before .before .before .before .before .before .before .before .before .pre .1 .0, omega (arith, fits (c .before .before .before .before .before .before .before .before .before) .1)), omega arith))

@@ -16,7 +16,7 @@ same-length : tie.Need-same-length
 same-length c = search needs
 
 returns : tie.Need-returns
-returns c = (c .before .before .fixed-point .ensures .0 ∙ window-search _ _ _, c .before .before .fixed-point .ensures .1)
+returns c = (c .before .before .fixed-point .ensures .0 ∙ window-search _ _ _ _, c .before .before .fixed-point .ensures .1)
 
 pub busy-window-spec : {M : Type 1} → statement M
 busy-window-spec =

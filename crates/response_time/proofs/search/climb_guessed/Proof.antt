@@ -2,7 +2,6 @@
 use Prim.Native.Nat.{ℕ, _-_, _*_}
 use mathlib.Core.Path.{_≡_, ap, _∙_}
 use mathlib.Core.Bool.{Bool}
-use native.Mathlib.Omega.{arith}
 use native.Mathlib.Nat.{sub-zero}
 use borrow.Author.Needs.{needs}
 use lib.ListN.{take}
@@ -21,7 +20,7 @@ slice-aggregate-place : tie.Need-slice-aggregate-place
 slice-aggregate-place c = search needs
 
 place-requires : tie.Need-place-requires
-place-requires c κs = (c .before .before .before .before .before .pre .0 .prepared .filled, search needs)
+place-requires c κs = let p = c .before .before .before .before .before .pre .0 in (p .prepared .filled, (p .target, search needs))
 
 mul-to : tie.Need-mul-to
 mul-to c = search needs
@@ -38,23 +37,23 @@ part-climb-end c = search needs
 shift-of-requires : tie.Need-shift-of-requires
 shift-of-requires c κs = search needs
 
-base-of-requires : tie.Need-base-of-requires
-base-of-requires c κs = search needs
+waits-of-requires : tie.Need-waits-of-requires
+waits-of-requires c κs = let s = c .before .before .before .before .before .before .before .before .before .before in (s .pre .0 .target, base-small (s .pre .0 .prepared .filled .table) (s .pre .0 .listed) (s .args .choices) (s .args .search) (s .pre .1 .0) (s .pre .0 .blocked))
 
 -- the frames are those of the scenario with guesses
 placed : (c : tie.After-place) → let s = c .before .before .before .before .before .before in
-    placedIn (take (4 * c .place .result - 0) (c .place .last .1 .1 .1 .1 .1 .0)) ≡ placedOut (tableOf (s .args .rows .now) (s .args .prepared .now)) (s .args .target .frame) (s .args .search) (c .before .before .guessed .result)
+    placedIn (take (4 * c .place .result - 0) (c .place .last .1 .1 .1 .1 .1 .0)) ≡ placedOut (tableOf (s .args .rows .now) (s .args .prepared .now)) (s .args .target) (s .args .search) (c .before .before .guessed .result)
 placed c = rw sub-zero (c .place .ensures .0)
 
 climb-requires : tie.Need-climb-requires
 climb-requires c κs =
     let s = c .before .before .before .before .before .before .before .before .before .before .before in
-    (rw (placed (c .before .before .before .before .before)) (placed-fine (s .pre .0 .prepared .filled .table) (s .args .target .frame) (c .before .before .before .before .before .before .before .guessed .result) (s .args .search)), (c .before .shift-of .ensures .1, omega (arith, c .base-of .ensures, base-small (s .pre .0 .prepared .filled .table) (s .pre .0 .listed) (s .args .choices) (s .args .search) (s .pre .1 .0) (s .pre .0 .blocked)), s .pre .1 .1))
+    (rw (placed (c .before .before .before .before .before)) (placed-fine (s .pre .0 .prepared .filled .table) (s .pre .0 .target) (s .args .search) (c .before .before .before .before .before .before .before .guessed .result)), (c .before .shift-of .ensures .1, c .waits-of .ensures .1, s .pre .1 .1))
 
 returns : tie.Need-returns
 returns c =
     let s = c .before .before .before .before .before .before .before .before .before .before .before .before in
-    let same = placed-search (s .pre .0 .prepared .filled .table) (s .args .target .frame) (c .before .before .before .before .before .before .before .before .guessed .result) (c .before .before .before .before .before .before .before .before .guessed .ensures .1) (s .args .search) (placed (c .before .before .before .before .before .before)) (c .before .before .shift-of .ensures .0) (s .pre .0 .blocked) (c .before .base-of .ensures) in
+    let same = placed-search (s .pre .0 .prepared .filled .table) (s .pre .0 .target) (s .pre .0 .blocked) (s .pre .0 .cost) (c .before .before .before .before .before .before .before .before .guessed .result) (c .before .before .before .before .before .before .before .before .guessed .ensures .1) (s .args .search) (placed (c .before .before .before .before .before .before)) (c .before .before .shift-of .ensures .0) (c .before .waits-of .ensures .0) in
     (c .before .before .before .before .before .before .before .before .guessed .result, c .before .before .before .before .before .before .before .before .guessed .ensures .0, c .climb .ensures ∙ ap (λ (p : ℕ → Bool). least p (s .args .end - s .args .from) (s .args .from)) same)
 
 pub climb-guessed-spec : {M : Type 1} → statement M
@@ -69,6 +68,6 @@ climb-guessed-spec =
     part-climb-start
     part-climb-end
     shift-of-requires
-    base-of-requires
+    waits-of-requires
     climb-requires
     returns)

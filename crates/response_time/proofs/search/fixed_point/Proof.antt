@@ -15,7 +15,7 @@ use Rattle.response_time.proofs.search.fixed_point.Tie as tie
 
 abbrev Inv-loop : tie.InvT-loop
 Inv-loop rows prepared target choices search from end memory₀ x₀ memory x =
-    (least (holds (tableOf rows prepared) (target .frame) choices search) (end - x) x ≡ least (holds (tableOf rows prepared) (target .frame) choices search) (end - from) from)
+    (least (holds (target .faults) (tableOf rows prepared) (target .frame) choices search) (end - x) x ≡ least (holds (target .faults) (tableOf rows prepared) (target .frame) choices search) (end - from) from)
     × Ready rows prepared target memory
     × (length memory ≡ length memory₀)
 
@@ -41,7 +41,7 @@ returns : tie.Need-returns Inv-loop μ-loop
 returns c =
     let s = c .before .before .before .before .before .before .before .before .before in
     let (finer, refines, is) = c .before .before .climb-guessed .ensures in
-    (finer-beyond (s .pre .0 .prepared .filled .table .valid) (s .args .target .frame) _ _ refines _ (s .args .end) (c .before .before .before .before .before .loop .x) is (c .enum-told .given .1) ∙ c .before .before .before .before .before .loop .inv .0, c .before .before .before .before .before .loop .inv .1)
+    (finer-beyond (s .args .target .faults) (s .pre .0 .prepared .filled .table .valid) (s .args .target .frame) _ _ refines _ (s .args .end) (c .before .before .before .before .before .loop .x) is (c .enum-told .given .1) ∙ c .before .before .before .before .before .loop .inv .0, c .before .before .before .before .before .loop .inv .1)
 
 -- where the number lies that is found with guesses
 within : (c : tie.After-found Inv-loop μ-loop) → (c .before .before .before .before .before .loop .x ≤ c .found .given .0 .0) × (c .found .given .0 .0 < c .before .before .before .before .before .before .before .before .before .args .end)
@@ -50,13 +50,13 @@ within c = let (low, high, t) = least-within _ _ (sym (c .before .before .climb-
 -- what is found from there on is what is found
 goes-on : (c : tie.After-found Inv-loop μ-loop) →
     let a = c .before .before .before .before .before .before .before .before .before .args in
-    let p = holds (tableOf (a .rows .now) (a .prepared .now)) (a .target .frame) (a .choices) (a .search) in
+    let p = holds (a .target .faults) (tableOf (a .rows .now) (a .prepared .now)) (a .target .frame) (a .choices) (a .search) in
     let y = c .found .given .0 .0 in
     least p (a .end - y) y ≡ least p (a .end - a .from) (a .from)
 goes-on c =
     let s = c .before .before .before .before .before .before .before .before .before in
     let (finer, refines, is) = c .before .before .climb-guessed .ensures in
-    sym (finer-skip (s .pre .0 .prepared .filled .table .valid) (s .args .target .frame) _ _ refines _ (s .args .end) (c .before .before .before .before .before .loop .x) is (c .found .given .1)) ∙ c .before .before .before .before .before .loop .inv .0
+    sym (finer-skip (s .args .target .faults) (s .pre .0 .prepared .filled .table .valid) (s .args .target .frame) _ _ refines _ (s .args .end) (c .before .before .before .before .before .loop .x) is (c .found .given .1)) ∙ c .before .before .before .before .before .loop .inv .0
 
 load-requires : tie.Need-load-requires Inv-loop μ-loop
 load-requires c κs = let p = c .before .before .before .before .before .before .before .before .before .before .before .pre .1 in (c .before .before .before .before .before .before .before .loop .inv .1, (p .0, omega (arith, p .1, within (c .before .before))))
@@ -71,7 +71,7 @@ returns-2 : tie.Need-returns-2 Inv-loop μ-loop
 returns-2 c =
     let s = c .before .before .before .before .before .before .before .before .before .before .before .before .before .before .before in
     let f = c .before .before .before .before .before .before in
-    (climb-here (s .pre .0 .prepared .filled .table .valid) _ _ _ (s .args .end) (c .before .before .before .before .before .before .found .given .0 .0) (c .before .before .before .load .ensures .0) (within f .1) (c .if1 .taken) ∙ goes-on f, c .before .before .before .load .ensures .1)
+    (climb-here (s .args .target .faults) (s .pre .0 .prepared .filled .table .valid) _ _ _ (s .args .end) (c .before .before .before .before .before .before .found .given .0 .0) (c .before .before .before .load .ensures .0) (within f .1) (c .if1 .taken) ∙ goes-on f, c .before .before .before .load .ensures .1)
 
 same-length-3 : tie.Need-same-length-3 Inv-loop μ-loop
 same-length-3 c = search needs
@@ -79,7 +79,7 @@ same-length-3 c = search needs
 returns-3 : tie.Need-returns-3 Inv-loop μ-loop
 returns-3 c =
     let s = c .before .before .before .before .before .before .before .before .before .before .before .before .before .before .before .before in
-    (climb-beyond (s .pre .0 .prepared .filled .table .valid) _ _ _ (s .args .end) (c .before .before .before .before .before .before .before .found .given .0 .0) (c .before .before .before .before .load .ensures .0) (c .if2 .taken) ∙ goes-on (c .before .before .before .before .before .before .before), c .before .before .before .before .load .ensures .1)
+    (climb-beyond (s .args .target .faults) (s .pre .0 .prepared .filled .table .valid) _ _ _ (s .args .end) (c .before .before .before .before .before .before .before .found .given .0 .0) (c .before .before .before .before .load .ensures .0) (c .if2 .taken) ∙ goes-on (c .before .before .before .before .before .before .before), c .before .before .before .before .load .ensures .1)
 
 cast-x : tie.Need-cast-x Inv-loop μ-loop
 cast-x c = omega (arith, c .before .before .before .before .before .before .before .before .before .before .before .before .before .before .before .before .pre .1 .1, c .if2 .left)
@@ -90,7 +90,7 @@ loop-less c = omega (arith, within (c .before .before .before .before .before .b
 loop-again : tie.Need-loop-again Inv-loop μ-loop
 loop-again c =
     let s = c .before .before .before .before .before .before .before .before .before .before .before .before .before .before .before .before in
-    (sym (climb-skip (s .pre .0 .prepared .filled .table .valid) _ _ _ (s .args .end) (c .before .before .before .before .before .before .before .found .given .0 .0) (c .before .before .before .before .load .ensures .0) (c .before .if1 .left) (omega (arith, c .if2 .left))) ∙ goes-on (c .before .before .before .before .before .before .before), c .before .before .before .before .load .ensures .1, search needs)
+    (sym (climb-skip (s .args .target .faults) (s .pre .0 .prepared .filled .table .valid) _ _ _ (s .args .end) (c .before .before .before .before .before .before .before .found .given .0 .0) (c .before .before .before .before .load .ensures .0) (c .before .if1 .left) (omega (arith, c .if2 .left))) ∙ goes-on (c .before .before .before .before .before .before .before), c .before .before .before .before .load .ensures .1, search needs)
 
 same-length-4 : tie.Need-same-length-4 Inv-loop μ-loop
 same-length-4 c = search needs

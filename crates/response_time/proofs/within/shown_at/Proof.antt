@@ -23,7 +23,7 @@ same-length c = search needs
 returns-2 : tie.Need-returns-2
 returns-2 c =
     let shown = c .count-shown .ensures in
-    (shows _ _ _ _ _ (le-of-eq (sym (c .before .before .before .before .load .ensures .0))) (shown .0) (c .before .before .before .before .before .before .if1 .left), (shown .1, c .before .before .before .before .load .ensures .1))
+    (shows _ _ _ _ _ _ (le-of-eq (sym (c .before .before .before .before .load .ensures .0))) (shown .0) (c .before .before .before .before .before .before .if1 .left), (shown .1, c .before .before .before .before .load .ensures .1))
 
 pub shown-at-spec : {M : Type 1} → statement M
 shown-at-spec =

@@ -48,7 +48,7 @@ returns-2 c =
     let r = c .before .before .before .shown-by .ensures in
     let k = s .args .target .frame in
     let at = ap (λ d. latestStart (s .args .best) (k .length) (d + s .args .q * k .period)) (sym (c .before .before .before .before .before .before .before .before .before .before .own-distance .ensures)) ∙ sym (c .before .before .before .before .before .before .before .before .latest-start .ensures) ∙ c .before .before .before .before .before .before .found .given .1 in
-    (shows-within _ _ _ (s .args .q) (s .args .best) at (r .0), r .1)
+    (shows-within _ _ _ _ (s .args .q) (s .args .best) at (r .0), r .1)
 
 pub shown-within-spec : {M : Type 1} → statement M
 shown-within-spec =

@@ -1,5 +1,5 @@
 -- The area is prepared for the frame of the row.
-use mathlib.Core.Path.{_≡_, sym, _∙_}
+use mathlib.Core.Path.{refl}
 use borrow.Author.Needs.{needs}
 use Rattle.row_judgement.proofs.decide.prepare_row.Statement.{statement}
 use Rattle.row_judgement.proofs.decide.prepare_row.Tie as tie
@@ -13,11 +13,16 @@ prepare-requires c κs = search needs
 frame-blocking-requires : tie.Need-frame-blocking-requires
 frame-blocking-requires c κs = c .before .before .before .prepare .ensures .1 .filled
 
+fault-time-requires : tie.Need-fault-time-requires
+fault-time-requires c κs = c .before .before .before .before .before .prepare .ensures .1 .filled
+
 same-length : tie.Need-same-length
 same-length c = search needs
 
 returns : tie.Need-returns
-returns c = (c .before .before .before .before .prepare .ensures .0, (c .before .before .before .before .before .before .frame .ensures, (c .before .before .before .before .prepare .ensures .1, c .frame-blocking .ensures)))
+returns c =
+    let prepare = c .before .before .before .before .before .before .prepare .ensures in
+    (prepare .0, ((c .before .before .before .before .before .before .before .before .frame .ensures, refl), (prepare .1, c .before .before .frame-blocking .ensures, c .fault-time .ensures)))
 
 pub prepare-row-spec : {M : Type 1} → statement M
 prepare-row-spec =
@@ -26,5 +31,6 @@ prepare-row-spec =
     frame-requires
     prepare-requires
     frame-blocking-requires
+    fault-time-requires
     same-length
     returns)

@@ -1,21 +1,26 @@
 -- The claim of the row, by the bound that decides about it; where its verdict is 3, the case is found with what is prepared and remembered.
-use Prim.Native.Nat.{_+_, _*_, _≤_, _<_}
-use mathlib.Core.Path.{_≡_, ap, _∙_}
+use Prim.Native.Nat.{ℕ, _+_, _*_, _≤_, _<_}
+use mathlib.Core.Path.{_≡_, sym, ap, subst, _∙_}
+use mathlib.Core.List.{List}
 use native.Mathlib.Omega.{arith}
 use borrow.Author.Needs.{needs}
 use lib.ListN.{length}
 use Rattle.bus_model.specs.Frame.{row}
 use Rattle.bus_model.specs.Judgement.{judge, verdict}
+use Rattle.bus_model.specs.declared.Faults.{Faults}
 use Rattle.table_checks.specs.Columns.{columns, mostNumbers, claimColumn}
 use Rattle.table_checks.specs.Frames.{framesOf}
+use Rattle.workload.specs.Faults.{FineFaults}
+use Rattle.row_judgement.specs.declared.Judged.the-variants.{Verdict}
 use Rattle.row_judgement.specs.Judge.{claimOf}
+use Rattle.row_judgement.specs.Explain.{beside}
 use Rattle.row_judgement.specs.laws.Judged.{claim-inside}
 use Rattle.row_judgement.specs.laws.Explain.{ready-new, judged-row, small-has, small-beside, other-beside}
 use Rattle.row_judgement.proofs.explanation.explain_row.Statement.{statement}
 use Rattle.row_judgement.proofs.explanation.explain_row.Tie as tie
 
 place : (c : tie.Start) → (columns * c .args .i + claimColumn < length (c .args .rows .now)) × (length (c .args .rows .now) ≤ mostNumbers)
-place c = claim-inside (c .args .lengths) (c .args .rows .now) (c .pre .0 .1) (c .pre .1)
+place c = claim-inside (c .args .lengths) (c .args .rows .now) (c .pre .0 .1) (c .pre .1 .0)
 
 mul-claim : tie.Need-mul-claim
 mul-claim c = record { fits = omega (arith, place (c .before)) }
@@ -33,7 +38,7 @@ slice-aggregate-prepare-row : tie.Need-slice-aggregate-prepare-row
 slice-aggregate-prepare-row c = search needs
 
 prepare-row-requires : tie.Need-prepare-row-requires
-prepare-row-requires c κs = (c .before .before .before .pre .0, (c .before .before .before .pre .1, search needs))
+prepare-row-requires c κs = (c .before .before .before .pre .0, (c .before .before .before .pre .1 .0, search needs))
 
 slice-aggregate-find : tie.Need-slice-aggregate-find
 slice-aggregate-find c = search needs
@@ -42,7 +47,10 @@ slice-aggregate-find-2 : tie.Need-slice-aggregate-find-2
 slice-aggregate-find-2 c = search needs
 
 find-requires : tie.Need-find-requires
-find-requires c κs = ready-new (c .before .before .before .before .before .before .before .args .lengths) (c .before .before .before .prepare-row .ensures .0) (c .before .before .before .prepare-row .ensures .1 .0) (c .before .before .before .prepare-row .ensures .1 .1) (c .before .before .before .before .before .before .before .pre .1)
+find-requires c κs =
+    let s = c .before .before .before .before .before .before .before in
+    let row = c .before .before .before .prepare-row .ensures in
+    ready-new (s .args .lengths) (row .0) (row .1 .0 .0) (subst FineFaults (sym (row .1 .0 .1)) (s .pre .1 .1)) (row .1 .1) (s .pre .1 .0)
 
 judged-by-requires : tie.Need-judged-by-requires
 judged-by-requires c κs = search needs
@@ -57,8 +65,11 @@ slice-aggregate-first-case-2 : tie.Need-slice-aggregate-first-case-2
 slice-aggregate-first-case-2 c = search needs
 
 -- the judgement is that of the row
-judged : (c : tie.After-judged-by) → c .judged-by .result ≡ judge (framesOf (c .before .before .before .before .before .before .before .before .before .before .args .lengths) (c .before .before .before .before .before .before .before .before .before .before .args .rows .now)) (row (framesOf (c .before .before .before .before .before .before .before .before .before .before .args .lengths) (c .before .before .before .before .before .before .before .before .before .before .args .rows .now)) (c .before .before .before .before .before .before .before .before .before .before .args .i)) (claimOf (c .before .before .before .before .before .before .before .before .before .before .args .rows .now) (c .before .before .before .before .before .before .before .before .before .before .args .i))
-judged c = judged-row (c .before .before .before .before .before .before .before .before .before .before .args .lengths) (c .before .before .before .before .before .before .before .before .before .before .args .rows .now) (c .before .before .before .before .before .before .before .before .before .before .args .i) (c .before .before .before .before .before .before .prepare-row .ensures .0) (c .before .before .before .before .before .before .prepare-row .ensures .1 .0) (c .before .before .find .ensures .0) (c .judged-by .ensures)
+judged : (c : tie.After-judged-by) → let a = c .before .before .before .before .before .before .before .before .before .before .args in let fs = framesOf (a .lengths) (a .rows .now) in c .judged-by .result ≡ judge (c .before .before .before .before .before .before .prepare-row .result .faults) fs (row fs (a .i)) (claimOf (a .rows .now) (a .i))
+judged c =
+    let a = c .before .before .before .before .before .before .before .before .before .before .args in
+    let prepared = c .before .before .before .before .before .before .prepare-row in
+    judged-row (prepared .result .faults) (a .lengths) (a .rows .now) (a .i) (prepared .ensures .0) (prepared .ensures .1 .0 .0) (c .before .before .find .ensures .0) (c .judged-by .ensures)
 
 -- its verdict is 3
 small : (c : tie.Then1) → verdict (c .before .before .judged-by .result .outcome) ≡ 3
@@ -67,12 +78,20 @@ small c = omega (arith, c .before .verdict .ensures, c .if1 .taken)
 first-case-requires : tie.Need-first-case-requires
 first-case-requires c κs =
     let a = c .before .before .before .before .before .before .before .before .before .before .before .before .before .before .args in
-    (c .before .before .before .before .before .before .find .ensures .1, small-has (a .lengths) (a .rows .now) (a .i) (c .before .before .before .before .before .before .before .before .before .before .prepare-row .ensures .0) (c .before .before .before .before .before .before .before .before .before .before .prepare-row .ensures .1 .0) (judged (c .before .before .before .before)) (small (c .before .before)))
+    let prepared = c .before .before .before .before .before .before .before .before .before .before .prepare-row in
+    (c .before .before .before .before .before .before .find .ensures .1, small-has (prepared .result .faults) (a .lengths) (a .rows .now) (a .i) (prepared .ensures .0) (prepared .ensures .1 .0 .0) (judged (c .before .before .before .before)) (small (c .before .before)))
+
+-- under the premise that was given
+given : (c : tie.After-prepare-row) (ls : List (List ℕ)) (rows : List ℕ) (i : ℕ) → let fs = framesOf ls rows in let faults = c .prepare-row .result .faults in
+    beside faults ls rows i (Verdict (judge faults fs (row fs i) (claimOf rows i))) ≡ beside (c .before .before .before .before .args .faults) ls rows i (Verdict (judge (c .before .before .before .before .args .faults) fs (row fs i) (claimOf rows i)))
+given c ls rows i = ap (λ (faults : Faults). beside faults ls rows i (Verdict (judge faults (framesOf ls rows) (row (framesOf ls rows) i) (claimOf rows i)))) (c .prepare-row .ensures .1 .0 .1)
 
 returns : tie.Need-returns
 returns c =
     let a = c .before .before .before .before .before .before .before .before .before .before .before .before .before .before .before .before .args in
-    small-beside (a .lengths) (a .rows .now) (a .i) (c .before .before .before .before .before .before .before .before .before .before .before .before .prepare-row .ensures .0) (c .before .before .before .before .before .before .before .before .before .before .before .before .prepare-row .ensures .1 .0) (judged (c .before .before .before .before .before .before)) (small (c .before .before .before .before)) (c .before .first-case .ensures)
+    let p = c .before .before .before .before .before .before .before .before .before .before .before .before in
+    small-beside (p .prepare-row .result .faults) (a .lengths) (a .rows .now) (a .i) (p .prepare-row .ensures .0) (p .prepare-row .ensures .1 .0 .0) (judged (c .before .before .before .before .before .before)) (small (c .before .before .before .before)) (c .before .first-case .ensures)
+    ∙ given p (a .lengths) (a .rows .now) (a .i)
 
 no-case-requires : tie.Need-no-case-requires
 no-case-requires c κs = search needs
@@ -80,7 +99,9 @@ no-case-requires c κs = search needs
 returns-2 : tie.Need-returns-2
 returns-2 c =
     let a = c .before .before .before .before .before .before .before .before .before .before .before .before .before .args in
-    other-beside (a .lengths) (a .rows .now) (a .i) (c .before .before .before .before .before .before .before .before .before .prepare-row .ensures .0) (c .before .before .before .before .before .before .before .before .before .prepare-row .ensures .1 .0) (judged (c .before .before .before)) (λ is. omega (arith, c .before .before .verdict .ensures, c .before .if1 .left)) (c .no-case .ensures)
+    let p = c .before .before .before .before .before .before .before .before .before in
+    other-beside (p .prepare-row .result .faults) (a .lengths) (a .rows .now) (a .i) (p .prepare-row .ensures .0) (p .prepare-row .ensures .1 .0 .0) (judged (c .before .before .before)) (λ is. omega (arith, c .before .before .verdict .ensures, c .before .if1 .left)) (c .no-case .ensures)
+    ∙ given p (a .lengths) (a .rows .now) (a .i)
 
 pub explain-row-spec : {M : Type 1} → statement M
 explain-row-spec =

@@ -12,7 +12,7 @@ use Rattle.row_judgement.proofs.judgement.judge_row.Statement.{statemen
 use Rattle.row_judgement.proofs.judgement.judge_row.Tie as tie
 
 place : (c : tie.Start) → (columns * c .args .i + claimColumn < length (c .args .rows .now)) × (length (c .args .rows .now) ≤ mostNumbers)
-place c = claim-inside (c .args .lengths) (c .args .rows .now) (c .pre .0 .1) (c .pre .1)
+place c = claim-inside (c .args .lengths) (c .args .rows .now) (c .pre .0 .1) (c .pre .1 .0)
 
 mul-claim : tie.Need-mul-claim
 mul-claim c = record { fits = omega (arith, place (c .before)) }
@@ -33,7 +33,7 @@ judged-by-requires : tie.Need-judged-by-requires
 judged-by-requires c κs = search needs
 
 returns : tie.Need-returns
-returns c = let a = c .before .before .before .before .args in c .judged-by .ensures ∙ ap (judgedBy (claimOf (a .rows .now) (a .i))) (c .before .decide .ensures) ∙ decided-judge _ _ (claimOf (a .rows .now) (a .i))
+returns c = let a = c .before .before .before .before .args in c .judged-by .ensures ∙ ap (judgedBy (claimOf (a .rows .now) (a .i))) (c .before .decide .ensures) ∙ decided-judge _ _ _ (claimOf (a .rows .now) (a .i))
 
 pub judge-row-spec : {M : Type 1} → statement M
 judge-row-spec =

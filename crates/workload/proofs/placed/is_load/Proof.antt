@@ -7,16 +7,16 @@ use Rattle.workload.specs.laws.Placed.{load-leads}
 use Rattle.workload.proofs.placed.is_load.Statement.{statement}
 use Rattle.workload.proofs.placed.is_load.Tie as tie
 
-lead-of-requires : tie.Need-lead-of-requires
-lead-of-requires c κs = search needs
+ahead-by-requires : tie.Need-ahead-by-requires
+ahead-by-requires c κs = search needs
 
 add-result : tie.Need-add-result
-add-result c = omega (arith, c .before .before .pre .priority-high, c .before .lead-of .ensures .1)
+add-result c = omega (arith, c .before .before .pre .priority-high, c .before .ahead-by .ensures .1)
 
 returns : tie.Need-returns
 returns c =
     let a = c .before .before .before .args in
-    ap (λ (n : ℕ). leb (a .g .priority + n) (a .k .priority)) (c .before .before .lead-of .ensures .0) ∙ load-leads (a .search) (a .k) (a .g)
+    ap (λ (n : ℕ). leb (a .g .priority + n) (a .k .priority)) (c .before .before .ahead-by .ensures .0) ∙ load-leads (a .search) (a .k) (a .g)
 
 pub is-load-spec : {M : Type 1} → statement M
-is-load-spec = tie.close (tie.spec lead-of-requires add-result returns)
+is-load-spec = tie.close (tie.spec ahead-by-requires add-result returns)

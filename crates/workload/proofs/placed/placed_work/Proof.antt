@@ -14,7 +14,7 @@ use Rattle.workload.proofs.placed.placed_work.Statement.{statement}
 use Rattle.workload.proofs.placed.placed_work.Tie as tie
 
 abbrev Inv-loop : tie.InvT-loop
-Inv-loop placed n all sum₀ i₀ sum i = Through (λ gs. placedWork gs n) _+_ (placedIn placed) (placedWork (placedIn placed) n) sum i × (sum ≤ 400400400 * i) × (all ≡ length placed / 4)
+Inv-loop placed n all sum₀ i₀ sum i = Through (λ gs. placedWork gs n) _+_ (placedIn placed) (placedWork (placedIn placed) n) sum i × (sum ≤ 431431431 * i) × (all ≡ length placed / 4)
 
 abbrev μ-loop : tie.MeasureT-loop
 μ-loop placed n all sum₀ i₀ sum i = all - i
@@ -22,8 +22,8 @@ abbrev μ-loop : tie.MeasureT-loop
 loop-holds : tie.Need-loop-holds Inv-loop μ-loop
 loop-holds c = (through-start _ _ _ _ (zero-add _), omega arith, search needs)
 
--- the frame is one of 64
-few : (c : tie.In-loop Inv-loop μ-loop) → c .before .loop .i < 64
+-- the frame is one of 65
+few : (c : tie.In-loop Inv-loop μ-loop) → c .before .loop .i < 65
 few c = omega (arith, c .before .loop .inv .2, c .loop-test .taken, c .before .before .before .pre .0 .few, length-placed (c .before .before .before .args .placed .now))
 
 -- and within its limits
@@ -74,7 +74,8 @@ unfolding placedAt
 demand-from-requires c κs = let f = fine (c .before .before .before .before) in (f .length-high, f .period-low, f .period-high, c .before .before .before .before .before .before .before .pre .1)
 
 add-sum : tie.Need-add-sum Inv-loop μ-loop
-add-sum c = omega (arith, c .before .before .before .before .before .before .loop .inv .1, few (c .before .before .before .before .before), c .demand-from .ensures .1)
+unfolding placedAt
+add-sum c = omega (arith, fine (c .before .before .before .before .before) .length-high, c .before .before .before .before .before .before .loop .inv .1, few (c .before .before .before .before .before), c .demand-from .ensures .1)
 
 add-i : tie.Need-add-i Inv-loop μ-loop
 add-i c = search needs
@@ -90,7 +91,7 @@ loop-again c =
     let n = c .before .before .before .before .before .before .before .before .args .n in
     let inside : l .i < length t / 4 = omega (arith, l .inv .2, c .before .before .before .before .before .loop-test .taken) in (
       through-more _ _ _ _ noPlaced (l .inv .0) (omega (arith, length-placed t, inside)) (sum-more (placedDemand n) (l .sum) _ (ap (λ (x : ℕ). l .sum + x) (c .demand-from .ensures .0 ∙ ap (placedDemand n) (sym (placed-at t (l .i) inside))))),
-      omega (arith, l .inv .1, c .demand-from .ensures .1),
+      omega (arith, l .inv .1, c .demand-from .ensures .1, fine (c .before .before .before .before .before) .length-high),
       l .inv .2,
     )
 

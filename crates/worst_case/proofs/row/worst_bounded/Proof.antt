@@ -1,7 +1,9 @@
 -- The bound without a claim; where it is the precise one, the first case for a tick less, with what is prepared and remembered.
-use mathlib.Core.Path.{refl}
+use mathlib.Core.Path.{refl, sym, subst}
 use native.Mathlib.Omega.{arith}
 use borrow.Author.Needs.{needs}
+use Rattle.workload.specs.Faults.{FineFaults}
+use Rattle.workload.specs.laws.Groups.{fine-never}
 use Rattle.row_judgement.specs.laws.Explain.{ready-new}
 use Rattle.worst_case.specs.laws.Answer.{worstDecided, none-due, precise-windows, precise-some, precise-within, precise-due}
 use Rattle.worst_case.proofs.row.worst_bounded.Statement.{statement}
@@ -20,7 +22,7 @@ slice-aggregate-find-2 : tie.Need-slice-aggregate-find-2
 slice-aggregate-find-2 c = search needs
 
 find-requires : tie.Need-find-requires
-find-requires c κs = ready-new (c .before .before .before .before .before .before .args .lengths) (c .before .before .before .prepare-row .ensures .0) (c .before .before .before .prepare-row .ensures .1 .0) (c .before .before .before .prepare-row .ensures .1 .1) (c .before .before .before .before .before .before .pre .1)
+find-requires c κs = ready-new (c .before .before .before .before .before .before .args .lengths) (c .before .before .before .prepare-row .ensures .0) (c .before .before .before .prepare-row .ensures .1 .0 .0) (subst FineFaults (sym (c .before .before .before .prepare-row .ensures .1 .0 .1)) fine-never) (c .before .before .before .prepare-row .ensures .1 .1) (c .before .before .before .before .before .before .pre .1)
 
 enum-told : tie.Need-enum-told
 enum-told c = search needs

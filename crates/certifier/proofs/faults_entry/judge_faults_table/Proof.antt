@@ -1,0 +1,74 @@
+-- The file is read into rows of its own; a refusal of the file is encoded, and a table that was read is judged and its judgement encoded.
+use Prim.Native.Nat.{ℕ}
+use mathlib.Core.Path.{refl, ap, _∙_}
+use mathlib.Core.List.{List}
+use borrow.Author.Needs.{needs}
+use Rattle.arith.specs.laws.Signed.{kept}
+use Rattle.row_judgement.specs.Judge.{judgeFaults}
+use Rattle.certifier.specs.Encode.{encodeJudged, encodeRefusal}
+use Rattle.certifier.specs.FaultsEntry.{judgeFaultsRead}
+use Rattle.frame_table.specs.laws.Reading.{ReadRows, read-refused, read-rows}
+use Rattle.certifier.proofs.faults_entry.judge_faults_table.Statement.{statement}
+use Rattle.certifier.proofs.faults_entry.judge_faults_table.Tie as tie
+
+slice-aggregate-read : tie.Need-slice-aggregate-read
+slice-aggregate-read c = search needs
+
+read-requires : tie.Need-read-requires
+read-requires c κs = search needs
+
+enum-known-answer : tie.Need-enum-known-answer
+enum-known-answer c = search needs
+
+of-table-requires : tie.Need-of-table-requires
+of-table-requires c κs = search needs
+
+encode-refusal-requires : tie.Need-encode-refusal-requires
+encode-refusal-requires c κs = search needs
+
+enum-known-answer-2 : tie.Need-enum-known-answer-2
+enum-known-answer-2 c = search needs
+
+-- what was read is the table
+table : (c : tie.After-known-told2) → ReadRows (c .before .before .before .before .before .before .before .args .table .now) (c .before .before .before .before .read .last .1 .0) (c .before .answer2 .given .0 .0)
+table c = let r = c .before .before .before .before .read in read-rows _ _ _ refl (r .ensures .0) _ _ (r .ensures .1 .0) (c .before .answer2 .given .1)
+
+array-share-prefix-rows : tie.Need-array-share-prefix-rows
+array-share-prefix-rows c = table c .room
+
+slice-aggregate-encode-faults-of : tie.Need-slice-aggregate-encode-faults-of
+slice-aggregate-encode-faults-of c = table (c .before) .size
+
+encode-faults-of-requires : tie.Need-encode-faults-of-requires
+encode-faults-of-requires c κs = search needs
+
+returns : tie.Need-returns
+unfolding encodeJudged judgeFaultsRead
+returns c =
+    let r = c .before .before .before .before .before .before in
+    kept _ (c .encode-refusal .ok) ∙ c .encode-refusal .ensures
+    ∙ rw (read-refused (r .before .before .before .args .table .now) _ _ refl (r .read .ensures .0) _ (c .before .before .before .answer .given .1)) (ap encodeRefusal (c .before .of-table .ensures))
+
+returns-2 : tie.Need-returns-2
+unfolding judgeFaultsRead
+returns-2 c =
+    let t = table (c .before .before) in
+    let a = c .before .before .before .before .before .before .before .before .before .args in
+    kept _ (c .encode-faults-of .ok) ∙ c .encode-faults-of .ensures
+    ∙ ap encodeJudged (rw (t .passed) (ap (λ (rows : List ℕ). judgeFaults (a .lengths) rows (a .row) (a .gap)) (t .rows)))
+
+pub judge-faults-table-spec : {M : Type 1} → statement M
+judge-faults-table-spec =
+    tie.close
+    (tie.spec
+    slice-aggregate-read
+    read-requires
+    enum-known-answer
+    of-table-requires
+    encode-refusal-requires
+    enum-known-answer-2
+    array-share-prefix-rows
+    slice-aggregate-encode-faults-of
+    encode-faults-of-requires
+    returns
+    returns-2)

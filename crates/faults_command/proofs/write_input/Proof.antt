@@ -1,0 +1,41 @@
+-- The gap is read, and the listing is that under it.
+use mathlib.Core.Path.{refl, ap}
+use borrow.Author.Needs.{needs}
+use Rattle.explain_command.specs.declared.Reply.the-variants.{Answered}
+use Rattle.faults_command.proofs.write_input.Statement.{statement}
+use Rattle.faults_command.proofs.write_input.Tie as tie
+
+read-requires : tie.Need-read-requires
+read-requires c κs = search needs
+
+enum-known-read : tie.Need-enum-known-read
+enum-known-read c = search needs
+
+enum-told : tie.Need-enum-told
+enum-told c = search needs
+
+returns : tie.Need-returns
+returns c = rw (← c .before .before .read .ensures, c .enum-told .given .1) (refl, refl)
+
+write-parts-requires : tie.Need-write-parts-requires
+write-parts-requires c κs = search needs
+
+same-length : tie.Need-same-length
+same-length c = search needs
+
+returns-2 : tie.Need-returns-2
+returns-2 c =
+    let t = c .before .before .write-parts .ensures in
+    rw (← c .before .before .before .before .before .before .before .read .ensures, c .before .before .before .before .before .read2 .given .1) (ap Answered (t .0), t .1)
+
+pub write-input-spec : {M : Type 1} → statement M
+write-input-spec =
+    tie.close
+    (tie.spec
+    read-requires
+    enum-known-read
+    enum-told
+    returns
+    write-parts-requires
+    same-length
+    returns-2)

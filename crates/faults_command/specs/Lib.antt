@@ -1,0 +1,2 @@
+-- What the command prints.
+pub mod Command

@@ -1,0 +1,55 @@
+-- The invariant has the greatest length ahead of k of the rows read.
+use borrow.Author.Needs.{needs}
+use Prim.Native.Nat.{_-_}
+use mathlib.Core.Path.{subst}
+use Rattle.arith.specs.laws.Walks.{Down, down-end}
+use Rattle.bus_model.specs.Bounds.{isAhead, ahead}
+use Rattle.workload.specs.Prepared.{tableOf}
+use Rattle.workload.specs.laws.Prepared.{length-table}
+use Rattle.workload.specs.laws.Groups.{longestOf, longest-none, longest-more, longest-small}
+use Rattle.workload.proofs.faults.longest_ahead.Statement.{statement}
+use Rattle.workload.proofs.faults.longest_ahead.Tie as tie
+
+abbrev Inv-loop : tie.InvT-loop
+Inv-loop rows prepared k longest₀ i₀ longest i = Down (longestOf (isAhead k)) (tableOf rows prepared) longest i
+
+abbrev μ-loop : tie.MeasureT-loop
+μ-loop rows prepared k longest₀ i₀ longest i = i
+
+loop-holds : tie.Need-loop-holds Inv-loop μ-loop
+loop-holds c = let k = c .before .before .args .k in subst (Down (longestOf (isAhead k)) _ 0) (length-table _ _) (longest-none _ (isAhead k))
+
+sub-i : tie.Need-sub-i Inv-loop μ-loop
+sub-i c = search needs
+
+row-at-requires : tie.Need-row-at-requires Inv-loop μ-loop
+row-at-requires c κs = search needs
+
+longer-ahead-requires : tie.Need-longer-ahead-requires Inv-loop μ-loop
+longer-ahead-requires c κs = search needs
+
+loop-less : tie.Need-loop-less Inv-loop μ-loop
+loop-less c = search needs
+
+loop-again : tie.Need-loop-again Inv-loop μ-loop
+loop-again c = longest-more _ _ (c .before .before .before .loop .inv) (c .before .before .loop-test .taken) (c .before .row-at .ensures) (c .longer-ahead .ensures)
+
+returns : tie.Need-returns Inv-loop μ-loop
+unfolding ahead
+returns c =
+    let is = down-end _ _ (c .before .loop .inv) (c .loop-test .left) in
+    (is, rw is (longest-small _ (c .before .before .before .before .pre .table) (isAhead (c .before .before .before .before .args .k))))
+
+pub longest-ahead-spec : {M : Type 1} → statement M
+longest-ahead-spec =
+    tie.close
+    (tie.spec
+    Inv-loop
+    μ-loop
+    loop-holds
+    sub-i
+    row-at-requires
+    longer-ahead-requires
+    loop-less
+    loop-again
+    returns)
