@@ -13,8 +13,8 @@ use Rattle.log_check.specs.Check.{linesOf}
 use Rattle.log_load.specs.Sheet.{sheetOf}
 use Rattle.log_load.specs.Returns.{fileReturns}
 use Rattle.certifier.specs.Listing.{refusalLine}
-use Rattle.busiest_command.specs.declared.Reply.{Reply}
-use Rattle.busiest_command.specs.declared.Reply.the-variants.{Malformed, Answered}
+use Rattle.certifier.specs.declared.Reply.{Reply}
+use Rattle.certifier.specs.declared.Reply.the-variants.{Malformed, Answered}
 
 -- the sheet, or number and place of a refusal
 unfoldable pub textOf : Returned → List ℕ → List ℕ

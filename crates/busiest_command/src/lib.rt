@@ -1,4 +1,5 @@
 // The command busiest: the width as it is typed, and the sheet of a log, or its refusal, as they are printed.
+use certifier::Reply;
 use certifier::write_refusal_line;
 use decimal::Column;
 use frame_table::Answer;
@@ -13,14 +14,6 @@ ghost use Rattle.busiest_command.specs.Command.{textFor, replyFor, areaL
 
 // The characters of the longest text.
 pub const LONGEST: usize = log_load::LONGEST;
-
-// What the command comes to.
-pub enum Reply {
-    // The width breaks its notation.
-    Malformed,
-    // What writing the text answers.
-    Answered(Answer),
-}
 
 // Writes the sheet of a log, or the refusal, for the width that an argument names. Lengths and table stand in the input: its first 92
 // bytes are the file of the lengths, and the rest is that of the table.

@@ -27,6 +27,7 @@ pub use faults_entry::certifier_judge_faults;
 pub use faults_entry::certifier_list_faults;
 pub use faults_listing::list_faults;
 pub use frame_entry::certifier_frame_length;
+use frame_table::Answer;
 pub use listing::LINE;
 pub use listing::REFUSAL_LINE;
 pub use listing::list;
@@ -53,4 +54,10 @@ pub use worst_entry::certifier_worst;
 pub enum Listed {
     Written(usize),
     NotListed(Refusal),
+}
+
+// What a command of the program comes to: an argument breaks its notation, or what writing its text answers.
+pub enum Reply {
+    Malformed,
+    Answered(Answer),
 }

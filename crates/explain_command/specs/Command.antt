@@ -19,8 +19,8 @@ use Rattle.row_judgement.specs.declared.Explained.{Explained}
 use Rattle.row_judgement.specs.Refusal.{numberOf}
 use Rattle.certifier.specs.Listing.{listingLine, refusalLine}
 use Rattle.certifier.specs.ExplainEntry.{explainFile}
-use Rattle.explain_command.specs.declared.Reply.{Reply}
-use Rattle.explain_command.specs.declared.Reply.the-variants.{Malformed, Answered}
+use Rattle.certifier.specs.declared.Reply.{Reply}
+use Rattle.certifier.specs.declared.Reply.the-variants.{Malformed, Answered}
 
 -- group (3) and alignment (8), and a line feed
 unfoldable pub alignmentLine : ℕ → ℕ → List ℕ

@@ -4,6 +4,7 @@ use arith::Found;
 use bus_model::Case;
 use bus_model::Judgement;
 use certifier::LINE;
+use certifier::Reply;
 use certifier::write_line;
 use certifier::write_refusal;
 use decimal::Column;
@@ -40,14 +41,6 @@ const GROUPS: usize = 16;
 pub const LONGEST: usize = 232;
 
 const LINE_FEED: u8 = 10;
-
-// What the command comes to.
-pub enum Reply {
-    // The row breaks its notation.
-    Malformed,
-    // What writing the text answers.
-    Answered(Answer),
-}
 
 // Writes what explaining the row answers that an argument names. Lengths and table stand in the input: its first 92 bytes are the file of
 // the lengths, and the rest is that of the table.

@@ -14,8 +14,8 @@ use Rattle.certifier.specs.declared.Listed.{Listed}
 use Rattle.certifier.specs.declared.Listed.the-variants.{Written, NotListed}
 use Rattle.certifier.specs.Listing.{refusalLine}
 use Rattle.certifier.specs.FaultsListing.{listFaultsFile, listedFile}
-use Rattle.explain_command.specs.declared.Reply.{Reply}
-use Rattle.explain_command.specs.declared.Reply.the-variants.{Malformed, Answered}
+use Rattle.certifier.specs.declared.Reply.{Reply}
+use Rattle.certifier.specs.declared.Reply.the-variants.{Malformed, Answered}
 
 -- number and place
 abbrev pub lineFor : Refusal → List ℕ

@@ -1,9 +1,9 @@
 // The command faults: the gap as it is typed, and the listing under faults, or the refusal, as they are printed.
 use certifier::Listed;
+use certifier::Reply;
 use certifier::list_faults;
 use certifier::write_refusal;
 use decimal::Column;
-use explain_command::Reply;
 use frame_table::Answer;
 ghost use mathlib.Core.Path.{_≡_};
 ghost use Rattle.lengths_file.specs.Input.{lengthsPart, tablePart};

@@ -13,8 +13,8 @@ use Rattle.table_checks.specs.declared.Checked.the-variants.{Passed}
 use Rattle.frame_table.specs.Table.{answerFor, areaAfter}
 use Rattle.frame_length.specs.FrameLength.{FrameReturned, frameReturns}
 use Rattle.certifier.specs.Listing.{refusalLine}
-use Rattle.frame_length_command.specs.declared.Reply.{Reply}
-use Rattle.frame_length_command.specs.declared.Reply.the-variants.{Malformed, Answered}
+use Rattle.certifier.specs.declared.Reply.{Reply}
+use Rattle.certifier.specs.declared.Reply.the-variants.{Malformed, Answered}
 
 -- ---- KIND and IDENTIFIER: a number each, in the notation of a table's column
 

@@ -1,4 +1,5 @@
 // The command frame-length: kind, identifier and payload as they are typed, and the line that is printed.
+use certifier::Reply;
 use decimal::Column;
 use frame_length::Measured;
 use frame_table::Answer;
@@ -23,14 +24,6 @@ const LINE_FEED: u8 = 10;
 const DASH: u8 = 45;
 
 const MOST_BYTES: usize = 8;
-
-// What the command comes to.
-pub enum Reply {
-    // An argument breaks its notation.
-    Malformed,
-    // What writing the line answers.
-    Answered(Answer),
-}
 
 // Writes the line for the frame that the arguments name: its length, or number and place of its refusal.
 pub fn write_line(kind: &[u8], identifier: &[u8], hex: &[u8], out: &mut [u8]) -> Reply

@@ -1,6 +1,7 @@
 // Answers the commands check-log, busiest and simulate for the cases on standard input, and prints what each prints.
 // A case is a header of 18 bytes, the letter C, B or S, the size of lengths and table (8), the size of all (8) and a line feed, and then
 // so many bytes: two arguments (20 each), lengths and table, and the log. An argument that is malformed is said.
+use certifier::Reply;
 use frame_table::Answer;
 
 // The bytes of the arguments.
@@ -71,24 +72,23 @@ fn busiest(width: &[u8], input: &[u8], log: &[u8]) {
     let mut space = [0u8; busiest_command::LONGEST];
     let out: &mut [u8] = &mut space;
     let reply = busiest_command::write_input(input, log, width, out);
-    match reply {
-        busiest_command::Reply::Malformed => complain(),
-        busiest_command::Reply::Answered(answer) => print(answer, out),
-    }
+    print_reply(reply, out);
 }
 
 fn simulate(seed: &[u8], lines: &[u8], input: &[u8]) {
     let mut space = [0u8; simulator::LONGEST];
     let out: &mut [u8] = &mut space;
     let reply = simulate_command::write_log(seed, lines, input, out);
-    match reply {
-        simulate_command::Reply::Malformed => complain(),
-        simulate_command::Reply::Answered(answer) => print(answer, out),
-    }
+    print_reply(reply, out);
 }
 
-fn complain() {
-    io::write_all(1, b"malformed\n");
+fn print_reply(reply: Reply, text: &[u8]) {
+    match reply {
+        Reply::Malformed => {
+            io::write_all(1, b"malformed\n");
+        }
+        Reply::Answered(answer) => print(answer, text),
+    }
 }
 
 fn print(answer: Answer, text: &[u8]) {

@@ -11,8 +11,8 @@ use Rattle.lengths_file.specs.Input.{lengthsPart, tablePart}
 use Rattle.simulator.specs.Simulate.{simulatedReturns}
 use Rattle.certifier.specs.Listing.{refusalLine}
 use Rattle.certifier.specs.SimulateEntry.{logOfFiles, simulateAnswer}
-use Rattle.simulate_command.specs.declared.Reply.{Reply}
-use Rattle.simulate_command.specs.declared.Reply.the-variants.{Malformed, Answered}
+use Rattle.certifier.specs.declared.Reply.{Reply}
+use Rattle.certifier.specs.declared.Reply.the-variants.{Malformed, Answered}
 
 -- what is printed by way of the area `old`: the log, or number and place of its refusal
 unfoldable pub printed : ℕ → ℕ → List ℕ → List ℕ → List ℕ

@@ -1,4 +1,5 @@
 // The command simulate: seed and lines as they are typed, and what is printed.
+use certifier::Reply;
 use certifier::write_refusal_line;
 use decimal::Column;
 use frame_table::Answer;
@@ -12,14 +13,6 @@ ghost use Rattle.simulate_command.specs.Command.{printed, replyFor, text
 ghost use Rattle.simulate_command.specs.Steps.{answerAfter, areaPrinted};
 
 const GREATEST_SEED: u64 = 4_294_967_295;
-
-// What the command comes to.
-pub enum Reply {
-    // An argument is no number, or the seed has more than 32 bits.
-    Malformed,
-    // What writing the log, or the line of its refusal, answers.
-    Answered(Answer),
-}
 
 // Writes the log, or the line of its refusal. Lengths and table stand in the input: its first 92 bytes are the file of the lengths, and
 // the rest is that of the table.

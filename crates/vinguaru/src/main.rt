@@ -1,8 +1,8 @@
 // Does what the command says that is the program's first argument; lengths and a frame table stand on standard input. Another command is a
 // variant of Command, a line in `read_command`, an arm in `main` with a function of its own, and a line of the usage text.
+use certifier::Reply;
 use console::BUFFER;
 use console::Input;
-use frame_length_command::Reply;
 ghost use Rattle.io.specs.Counts.{Counts};
 
 // A line more than the longest log.
@@ -75,6 +75,14 @@ fn print_usage() {
     );
 }
 
+// Prints what a command has written, or how the program is used where an argument breaks its notation.
+fn print_reply(reply: Reply, text: &[u8]) {
+    match reply {
+        Reply::Malformed => print_usage(),
+        Reply::Answered(answer) => console::print_answer(b"vinguaru", answer, text),
+    }
+}
+
 // Whether the first argument is the word, and so many more follow it.
 fn is_called(word: &[u8], more: u8) -> bool {
     if os::arg_count() != 2 + more as usize {
@@ -128,10 +136,7 @@ fn frame_length() {
         &hex[..h],
         &mut line,
     );
-    match reply {
-        Reply::Malformed => print_usage(),
-        Reply::Answered(answer) => console::print_answer(b"vinguaru", answer, &line),
-    }
+    print_reply(reply, &line);
 }
 
 // Prints the starts of the groups that explain the log, or the log's refusal. A longer log is turned back by its length alone.
@@ -176,12 +181,7 @@ fn busiest() {
         &width[..w],
         &mut text,
     );
-    match reply {
-        busiest_command::Reply::Malformed => print_usage(),
-        busiest_command::Reply::Answered(answer) => {
-            console::print_answer(b"vinguaru", answer, &text)
-        }
-    }
+    print_reply(reply, &text);
 }
 
 // Reads the log in the file that the argument behind the command names.
@@ -207,12 +207,7 @@ fn simulate() {
     let size = input.size;
     let mut log = [0u8; simulator::LONGEST];
     let reply = simulate_command::write_log(&seed[..s], &lines[..n], &bytes[..size], &mut log);
-    match reply {
-        simulate_command::Reply::Malformed => print_usage(),
-        simulate_command::Reply::Answered(answer) => {
-            console::print_answer(b"vinguaru", answer, &log)
-        }
-    }
+    print_reply(reply, &log);
 }
 
 // Prints the judgement of a row with the case that breaks its claim, or its refusal.
@@ -227,12 +222,7 @@ fn explain() {
     let size = input.size;
     let mut text = [0u8; explain_command::LONGEST];
     let reply = explain_command::write_input(&bytes[..size], &row[..r], &mut text);
-    match reply {
-        explain_command::Reply::Malformed => print_usage(),
-        explain_command::Reply::Answered(answer) => {
-            console::print_answer(b"vinguaru", answer, &text)
-        }
-    }
+    print_reply(reply, &text);
 }
 
 // Prints the line of the frame that ranks last and its worst case, or the table's refusal.
@@ -260,10 +250,5 @@ fn faults() {
     let size = input.size;
     let mut listing = [0u8; LISTING];
     let reply = faults_command::write_input(&bytes[..size], &gap[..g], &mut listing);
-    match reply {
-        explain_command::Reply::Malformed => print_usage(),
-        explain_command::Reply::Answered(answer) => {
-            console::print_answer(b"vinguaru", answer, &listing)
-        }
-    }
+    print_reply(reply, &listing);
 }

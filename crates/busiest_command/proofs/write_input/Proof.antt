@@ -1,7 +1,7 @@
 -- `busiest_command::write_input` meets its contract: the width is read, and the text is that for it.
 use mathlib.Core.Path.{refl, ap}
 use borrow.Author.Needs.{needs}
-use Rattle.busiest_command.specs.declared.Reply.the-variants.{Answered}
+use Rattle.certifier.specs.declared.Reply.the-variants.{Answered}
 use Rattle.busiest_command.proofs.write_input.Statement.{statement}
 use Rattle.busiest_command.proofs.write_input.Tie as tie
 

@@ -1,7 +1,7 @@
 -- The gap is read, and the listing is that under it.
 use mathlib.Core.Path.{refl, ap}
 use borrow.Author.Needs.{needs}
-use Rattle.explain_command.specs.declared.Reply.the-variants.{Answered}
+use Rattle.certifier.specs.declared.Reply.the-variants.{Answered}
 use Rattle.faults_command.proofs.write_input.Statement.{statement}
 use Rattle.faults_command.proofs.write_input.Tie as tie
 
