@@ -11,8 +11,8 @@
  * Memory: a call reads `lengths_len` bytes from `lengths` and `table_len` bytes from `table` and keeps nothing; a pointer
  * may be null only if its length is 0. Where an output area is lent, a call writes its result at the start of it and
  * leaves all that stands behind; where it is turned back, it leaves the whole area. The area must not overlap what is read, and
- * may be null only if its length is 0. A call allocates nothing and needs at most CERTIFIER_STACK bytes of stack,
- * one that is neither certifier_explain nor certifier_worst at most CERTIFIER_JUDGING_STACK.
+ * may be null only if its length is 0. A call allocates nothing and needs at most CERTIFIER_STACK bytes of stack, and at most
+ * CERTIFIER_JUDGING_STACK unless it explains, shows the worst case or judges one row under faults.
  * Threads: there is no state between calls, so any number of threads may call at once.
  */
 #ifndef CERTIFIER_H
@@ -25,9 +25,10 @@
 extern "C" {
 #endif
 
-/* The most bytes of stack that a call needs, whatever it is given: any call, and any but certifier_explain and certifier_worst. */
+/* The most bytes of stack that a call needs, whatever it is given: any call; any but certifier_explain, certifier_worst,
+ * certifier_judge_faults and certifier_explain_faults. */
 #define CERTIFIER_STACK 30720
-#define CERTIFIER_JUDGING_STACK 24832
+#define CERTIFIER_JUDGING_STACK 24576
 
 /* The bytes of a file of lengths. */
 #define CERTIFIER_LENGTHS 92

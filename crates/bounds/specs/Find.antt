@@ -2,7 +2,7 @@
 use Prim.Native.Nat.{ℕ}
 use mathlib.Core.List.{List}
 use mathlib.Core.Bool.{Bool, false, cond}
-use lib.Dec.{leb}
+use lib.Dec.{leb, eqb}
 use Rattle.arith.specs.declared.Found.{Found}
 use Rattle.arith.specs.declared.Found.the-variants.{At, Nothing}
 use Rattle.bus_model.specs.declared.Frame.{Frame}
@@ -21,6 +21,15 @@ meets Nothing b = false
 -- the bound of level m, where the claim meets it, and otherwise that there are too many scenarios, with the approximate bound b
 abbrev pub levelFor : Faults → List Frame → Frame → ℕ → Found → ℕ → Bound
 levelFor faults fs k m claim b = cond (meets claim (levelBound faults fs k m)) (Level (levelBound faults fs k m)) (TooMany b)
+
+-- above what the bound of level m need not be searched further: the claim, if there is one; at the last level, whose bound is asked for whatever the
+-- claim, what no response exceeds
+abbrev pub enoughFor : ℕ → Found → Found
+enoughFor m claim = cond (eqb m 15) (At 4294967295) claim
+
+-- what level m decides: the last one has the precise bound
+abbrev pub decidedAt : Faults → List Frame → Frame → ℕ → Found → ℕ → Bound
+decidedAt faults fs k m claim b = cond (eqb m 15) (Precise (preciseBound faults fs k)) (levelFor faults fs k m claim b)
 
 -- no bound without windows; else the approximate one, where the claim meets it; else that of the deepest level, where there are too many
 -- scenarios, or the precise one

@@ -1,4 +1,5 @@
 -- Where a search for a bound stands.
+use Prim.Native.Nat.{ℕ, suc, min}
 use mathlib.Core.Path.{_≡_}
 use mathlib.Core.List.{List}
 use Rattle.arith.specs.declared.Found.{Found}
@@ -21,3 +22,7 @@ pub record OwnOpen (fs : List Frame) (k : Frame) (cs : List Choice) : Type 0 whe
 abbrev pub Limits : Faults → List Frame → Frame → List Choice → Found → Type 0
 Limits faults fs k cs (At l) = WindowWithin faults fs k cs l
 Limits faults fs k cs Nothing = Unit {0}
+
+-- what a search for the greatest value found that may end above `enough`: up to there r is the greatest, and above it both are
+abbrev pub Settles : ℕ → ℕ → ℕ → Type 0
+Settles enough whole r = min (suc enough) r ≡ min (suc enough) whole

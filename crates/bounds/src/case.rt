@@ -1,7 +1,7 @@
 // The case that breaks a claim, found group by group: the first alignment of each group, rising, with which some response exceeds it.
 use crate::alignments::next_of;
 use crate::alignments::with_choice;
-use crate::refine::refine_all;
+use crate::refine::is_exceeded;
 use arith::Found;
 use arith::or_zero;
 use bus_model::Case;
@@ -45,7 +45,7 @@ fn first_exceeding(
             return a;
         };
         let finer = with_choice(choices, group, a);
-        if claim < refine_all(rows, prepared, target, finer, claim, memory) {
+        if is_exceeded(rows, prepared, target, finer, claim, memory) {
             return a;
         }
         a = b;

@@ -7,7 +7,6 @@ use crate::windows::lacks_window;
 use arith::Found;
 use bus_model::Choice;
 use response_time::busy_window;
-use workload::GROUPS;
 use workload::Target;
 ghost use mathlib.Core.Path.{_≡_};
 ghost use mathlib.Core.Bool.{false};
@@ -15,7 +14,7 @@ ghost use Prim.Native.Nat.{_<_};
 ghost use Rattle.bus_model.specs.Judgement.{lacksWindow};
 ghost use Rattle.workload.specs.Prepared.{tableOf};
 ghost use Rattle.greatest_work.specs.Ready.{Ready};
-ghost use Rattle.bounds.specs.Find.{meets, levelFor, boundFor};
+ghost use Rattle.bounds.specs.Find.{meets, enoughFor, decidedAt, boundFor};
 
 // Whether the claim, if there is one, meets a bound.
 fn is_met(claim: Found, bound: u32) -> bool
@@ -27,8 +26,20 @@ fn is_met(claim: Found, bound: u32) -> bool
     }
 }
 
-// The bound of a level, where the claim meets it, and otherwise that the scenarios are too many, with the approximate bound. Without a claim
-// nothing is searched.
+// Above what the bound of a level need not be searched further: the claim, if there is one; at the last level, whose bound is asked for whatever the
+// claim, what no response exceeds.
+fn enough_for(level: usize, claim: Found) -> Found
+    ensures { λ r. ⌜ r ≡ enoughFor level claim ⌝ }
+{
+    if level == LAST_LEVEL {
+        Found::At(u32::MAX)
+    } else {
+        claim
+    }
+}
+
+// The bound of a level, where it is the last or the claim meets it, and otherwise that the scenarios are too many, with the approximate bound.
+// Before the last level nothing is searched without a claim.
 fn by_level(
     rows: &[u32],
     prepared: &[u32],
@@ -40,20 +51,33 @@ fn by_level(
 ) -> Bound
     requires { ⌜ Ready (now rows) (now prepared) target (now memory) ⌝ }
     requires { ⌜ (lacksWindow (target .faults) (tableOf (now rows) (now prepared)) (target .frame) ≡ false) × (level < 16) ⌝ }
-    ensures { λ r. ⌜ r ≡ levelFor (target .faults) (tableOf (now (rows .entry)) (now (prepared .entry))) (target .frame) level claim rough ⌝ }
+    ensures { λ r. ⌜ r ≡ decidedAt (target .faults) (tableOf (now (rows .entry)) (now (prepared .entry))) (target .frame) level claim rough ⌝ }
     ensures ready { λ _. ⌜ Ready (now (rows .entry)) (now (prepared .entry)) target (now (memory .exit)) ⌝ }
 {
-    let Found::At(c) = claim else {
+    let worth = enough_for(level, claim);
+    let Found::At(enough) = worth else {
         return Bound::TooMany(rough);
     };
     let free = [Choice::Any; 16];
     let none = Found::Nothing;
-    let bound = refine_own(rows, prepared, target, free, level + 1, 0, none, memory);
-    if bound <= c {
-        Bound::Level(bound)
-    } else {
-        Bound::TooMany(rough)
+    let bound = refine_own(
+        rows,
+        prepared,
+        target,
+        free,
+        level + 1,
+        0,
+        enough,
+        none,
+        memory,
+    );
+    if enough < bound {
+        return Bound::TooMany(rough);
     }
+    if level == LAST_LEVEL {
+        return Bound::Precise(bound);
+    }
+    Bound::Level(bound)
 }
 
 // The bound that decides about the claim, or, where there is none, the precise one.
@@ -73,15 +97,10 @@ pub fn find(
     if lacks_window(rows, prepared, target, limit, memory) {
         return Bound::NoWindow;
     }
-    let rough = refine_own(rows, prepared, target, free, 1, 0, limit, memory);
+    let rough = refine_own(rows, prepared, target, free, 1, 0, u32::MAX, limit, memory);
     if is_met(claim, rough) {
         return Bound::Approximate(rough);
     }
     let level = deepest_level(rows, prepared, target);
-    if level == LAST_LEVEL {
-        let none = Found::Nothing;
-        let precise = refine_own(rows, prepared, target, free, GROUPS, 0, none, memory);
-        return Bound::Precise(precise);
-    }
     by_level(rows, prepared, target, level, claim, rough, memory)
 }

@@ -18,6 +18,7 @@ use workload::Target;
 ghost use mathlib.Core.Path.{_≡_};
 ghost use mathlib.Core.Bool.{false};
 ghost use Prim.Native.Nat.{ℕ, _-_, _≤_, max};
+ghost use lib.Dec.{ltb};
 ghost use lib.ListN.{set};
 ghost use Rattle.arith.specs.declared.Found.the-variants.{At};
 ghost use Rattle.bus_model.specs.declared.Choice.the-variants.{Fixed};
@@ -29,7 +30,7 @@ ghost use Rattle.bus_model.specs.theory.Work.{RefinedBy};
 ghost use Rattle.workload.specs.Prepared.{tableOf};
 ghost use Rattle.greatest_work.specs.Ready.{Ready};
 ghost use Rattle.response_time.specs.Load.{OwnFixed, WindowWithin, Reaches};
-ghost use Rattle.bounds.specs.Search.{OwnOpen, Limits};
+ghost use Rattle.bounds.specs.Search.{OwnOpen, Limits, Settles};
 
 // Up to which instance it is not shown in the scenario as it is. Where it is not asked, it does not look.
 fn reach_now(
@@ -69,10 +70,16 @@ struct Fixing {
     alignment: u32,
 }
 
-// The greatest of `best` and the responses where a group takes an alignment, and `left` open groups more take each of theirs. Where it is shown of all
-// instances of that scenario that theirs is at most `best`, it is so with more groups fixed, and nothing is searched; where `best` has risen, that is
-// asked again. A group with one alignment hands on what it was given: the next one would be asked the same. The scenario is made here and not by the
-// caller, so that each level holds one and not two.
+// The greatest response so far, and up to which instance of a scenario it is not shown that its own is at most that.
+struct Known {
+    best: u32,
+    reach: u32,
+}
+
+// The greatest of `best` and the responses where a group takes an alignment, and `left` open groups more take each of theirs; or, where that exceeds
+// `enough`, the first found that does. Where it is shown of all instances of that scenario that theirs is at most `best`, it is so with more groups
+// fixed, and nothing is searched; where `best` has risen, that is asked again. A group with one alignment hands on what it was given: the next one
+// would be asked the same. The scenario is made here and not by the caller, so that each level holds one and not two.
 fn refine(
     rows: &[u32],
     prepared: &[u32],
@@ -80,18 +87,20 @@ fn refine(
     coarser: [Choice; 16],
     fixing: Fixing,
     left: usize,
-    best: u32,
-    reach: u32,
+    known: Known,
+    enough: u32,
     memory: &mut [u64],
 ) -> u32
     requires { ⌜ Ready (now rows) (now prepared) target (now memory) ⌝ }
     requires { ⌜ (1 ≤ fixing .group) × (fixing .group ≤ 16) ⌝ }
     requires { ⌜ OwnFixed (target .frame) (set coarser (fixing .group - 1) (Fixed (fixing .alignment))) ⌝ }
-    requires { ⌜ Reaches (target .faults) (tableOf (now rows) (now prepared)) (target .frame) (set coarser (fixing .group - 1) (Fixed (fixing .alignment))) best reach ⌝ }
-    ensures { λ r. ⌜ r ≡ max best (fixingMore (target .faults) (tableOf (now (rows .entry)) (now (prepared .entry))) (target .frame) left (set coarser (fixing .group - 1) (Fixed (fixing .alignment)))) ⌝ }
+    requires { ⌜ Reaches (target .faults) (tableOf (now rows) (now prepared)) (target .frame) (set coarser (fixing .group - 1) (Fixed (fixing .alignment))) (known .best) (known .reach) ⌝ }
+    ensures { λ r. ⌜ Settles enough (max (known .best) (fixingMore (target .faults) (tableOf (now (rows .entry)) (now (prepared .entry))) (target .frame) left (set coarser (fixing .group - 1) (Fixed (fixing .alignment))))) r ⌝ }
     ensures ready { λ _. ⌜ Ready (now (rows .entry)) (now (prepared .entry)) target (now (memory .exit)) ⌝ }
 {
     let choices = with_choice(coarser, fixing.group, fixing.alignment);
+    let best = known.best;
+    let reach = known.reach;
     if left == 0 {
         return max_with_scenario(rows, prepared, target, choices, reach, best, memory);
     }
@@ -114,6 +123,10 @@ fn refine(
             group,
             alignment: a,
         };
+        let so_far = Known {
+            best: most,
+            reach: rest,
+        };
         let more = refine(
             rows,
             prepared,
@@ -121,10 +134,13 @@ fn refine(
             choices,
             finer,
             fewer,
-            most,
-            rest,
+            so_far,
+            enough,
             memory,
         );
+        if enough < more {
+            return more;
+        }
         asked = most < more;
         most = more;
         let found = next_of(rows, prepared, target, group, a + 1);
@@ -165,6 +181,7 @@ pub fn refine_own(
     choices: [Choice; 16],
     left: usize,
     best: u32,
+    enough: u32,
     limit: Found,
     memory: &mut [u64],
 ) -> u32
@@ -172,7 +189,7 @@ pub fn refine_own(
     requires { ⌜ OwnOpen (tableOf (now rows) (now prepared)) (target .frame) choices ⌝ }
     requires { ⌜ Limits (target .faults) (tableOf (now rows) (now prepared)) (target .frame) choices limit ⌝ }
     requires { ⌜ (lacksWindow (target .faults) (tableOf (now rows) (now prepared)) (target .frame) ≡ false) × (1 ≤ left) ⌝ }
-    ensures { λ r. ⌜ r ≡ max best (fixingMore (target .faults) (tableOf (now (rows .entry)) (now (prepared .entry))) (target .frame) left choices) ⌝ }
+    ensures { λ r. ⌜ Settles enough (max best (fixingMore (target .faults) (tableOf (now (rows .entry)) (now (prepared .entry))) (target .frame) left choices)) r ⌝ }
     ensures ready { λ _. ⌜ Ready (now (rows .entry)) (now (prepared .entry)) target (now (memory .exit)) ⌝ }
 {
     let k = target.frame;
@@ -188,6 +205,7 @@ pub fn refine_own(
             group: own,
             alignment: a,
         };
+        let known = Known { best: most, reach };
         most = refine(
             rows,
             prepared,
@@ -195,10 +213,13 @@ pub fn refine_own(
             choices,
             fixing,
             fewer,
-            most,
-            reach,
+            known,
+            enough,
             memory,
         );
+        if enough < most {
+            return most;
+        }
         let found = next_of(rows, prepared, target, own, a + 1);
         let Found::At(b) = found else {
             return most;
@@ -207,25 +228,36 @@ pub fn refine_own(
     }
 }
 
-// The same from any choices, where all open groups take each of their alignments.
-pub fn refine_all(
+// Whether some response exceeds the claim where, from any choices, all open groups take each of their alignments.
+pub fn is_exceeded(
     rows: &[u32],
     prepared: &[u32],
     target: Target,
     choices: [Choice; 16],
-    best: u32,
+    claim: u32,
     memory: &mut [u64],
-) -> u32
+) -> bool
     requires { ⌜ Ready (now rows) (now prepared) target (now memory) ⌝ }
     requires { ⌜ RefinedBy (tableOf (now rows) (now prepared)) (target .frame) free choices ⌝ }
     requires { ⌜ lacksWindow (target .faults) (tableOf (now rows) (now prepared)) (target .frame) ≡ false ⌝ }
-    ensures { λ r. ⌜ r ≡ max best (fixingMore (target .faults) (tableOf (now (rows .entry)) (now (prepared .entry))) (target .frame) 16 choices) ⌝ }
+    ensures { λ r. ⌜ r ≡ ltb claim (fixingMore (target .faults) (tableOf (now (rows .entry)) (now (prepared .entry))) (target .frame) 16 choices) ⌝ }
     ensures ready { λ _. ⌜ Ready (now (rows .entry)) (now (prepared .entry)) target (now (memory .exit)) ⌝ }
 {
     let own = own_choice(target.frame, choices);
     let Choice::Fixed(a) = own else {
         let none = Found::Nothing;
-        return refine_own(rows, prepared, target, choices, GROUPS, best, none, memory);
+        return claim
+            < refine_own(
+                rows,
+                prepared,
+                target,
+                choices,
+                GROUPS,
+                claim,
+                claim,
+                none,
+                memory,
+            );
     };
     let limit = limit_of(rows, prepared, target, choices, Found::Nothing, memory);
     let reach = reach_before(rows, prepared, target, choices, limit, memory);
@@ -234,15 +266,17 @@ pub fn refine_all(
         group: k.group as usize,
         alignment: a,
     };
-    refine(
-        rows,
-        prepared,
-        target,
-        choices,
-        fixing,
-        GROUPS,
-        best,
-        reach,
-        memory,
-    )
+    let known = Known { best: claim, reach };
+    claim
+        < refine(
+            rows,
+            prepared,
+            target,
+            choices,
+            fixing,
+            GROUPS,
+            known,
+            claim,
+            memory,
+        )
 }

@@ -3,11 +3,12 @@
 use Prim.Native.Nat.{ℕ, suc, _+_, _-_, _%_, _≤_, _<_, max}
 use mathlib.Core.Path.{_≡_, refl, sym, ap, subst, _∙_}
 use mathlib.Core.List.{List, _∷_, List·Memᴰ as Mem}
-use mathlib.Core.Bool.{Bool, true, false, _||_}
+use mathlib.Core.Bool.{Bool, true, false, cond, _||_}
 use mathlib.Core.Logic.{_≢_}
 use native.Mathlib.Omega.{arith}
 use native.Mathlib.Numerals.{add-one}
-use lib.Dec.{T}
+use borrow.Author.Tests.{eqb-true, eqb-false, eq-eqb, ne-eqb, le-leb, lt-leb, lt-ltb, le-ltb, ltb-true, ltb-false}
+use lib.Dec.{T, eqb, ltb}
 use lib.ListN.{length, set, length-set}
 use Rattle.arith.specs.declared.Found.{Found}
 use Rattle.arith.specs.declared.Found.the-variants.{At, Nothing}
@@ -22,17 +23,17 @@ use Rattle.bus_model.specs.declared.Choice.{Choice}
 use Rattle.bus_model.specs.declared.Choice.the-variants.{Fixed, Any}
 use Rattle.bus_model.specs.Frame.{row}
 use Rattle.bus_model.specs.Valid.{ValidFrame, Valid}
-use Rattle.bus_model.specs.Bounds.{groups, alignments, orEmpty, choiceOf, ownGroup, scenarios, busyWindow, ownDistance, scenarioResponse, approximateBound, preciseBound}
+use Rattle.bus_model.specs.Bounds.{groups, alignments, orEmpty, choiceOf, ownGroup, scenarios, busyWindow, ownDistance, scenarioResponse, approximateBound}
 use Rattle.bus_model.specs.Levels.{levelBound}
 use Rattle.bus_model.specs.Judgement.{lacksWindow, tooManyScenarios, deepestLevel}
 use Rattle.bus_model.specs.theory.Frames.{group-listed}
 use Rattle.bus_model.specs.theory.Work.{RefinedBy}
 use Rattle.bus_model.specs.theory.Response.{window-refine, own-distance}
-use Rattle.bus_model.specs.theory.Levels.{lastLevel, deepest-last, deepest-before}
+use Rattle.bus_model.specs.theory.Levels.{lastLevel, level-last, deepest-last, deepest-before}
 use Rattle.bus_model.specs.theory.Judged.{has-windows}
 use Rattle.bus_model.specs.theory.Visits.{isAlignment}
 use Rattle.bus_model.specs.theory.Refine.{free, set-same, own-scenarios, own-kept, refines-group}
-use Rattle.bus_model.specs.theory.OpenGroups.{isAny, isOpen, nextOpen, fixingMore, next-open, free-open, free-refined, more-refined, more-end, more-none, more-turn, more-pruned, more-window, approximate-more, precise-more}
+use Rattle.bus_model.specs.theory.OpenGroups.{isAny, isOpen, nextOpen, fixingMore, next-open, free-open, free-refined, more-refined, more-end, more-none, more-turn, more-pruned, more-window, approximate-more}
 use Rattle.bus_model.specs.theory.LevelSearch.{level-found}
 use Rattle.bus_model.specs.theory.Turns.{turn, firstTurn, first-aligned, turned, window-alike, alike-turn, visit-first, found-listed, first-listed}
 use Rattle.workload.specs.Prepared.{FineTable, framesIn, hyperIn, partOf, tableOf, Prepared, InTable}
@@ -41,7 +42,9 @@ use Rattle.alignment_walk.specs.laws.Walk.{visits-factor}
 use Rattle.response_time.specs.Load.{OwnFixed, WindowWithin, Reaches}
 use Rattle.response_time.specs.laws.Searches.{window-small}
 use Rattle.response_time.specs.laws.Within.{reach-finer}
-use Rattle.bounds.specs.Search.{OwnOpen, Limits}
+use Rattle.bounds.specs.declared.Bound.the-variants.{Level, TooMany, Precise}
+use Rattle.bounds.specs.Find.{enoughFor, decidedAt}
+use Rattle.bounds.specs.Search.{OwnOpen, Limits, Settles}
 
 -- ---- the number of a group's alignments
 
@@ -49,6 +52,24 @@ use Rattle.bounds.specs.Search.{OwnOpen, Limits}
 pub counted : {rows p : List ℕ} {k : Frame} → Prepared rows p k → {i : ℕ} → i < 16
     → length (orEmpty (visits (framesIn (tableOf rows p) (partOf p i)) (hyperIn p i))) ≡ length (orEmpty (alignments (tableOf rows p) k (i + 1)))
 counted {rows} {p} {k} g {i} less = rw (g .by-group .part i less, g .by-group .hyper i less, add-one i) (visits-factor (tableOf rows p) k (suc i))
+
+-- ---- a greatest value of which it is enough to know that it is above `enough`
+
+settled-whole : (enough whole r : ℕ) → Settles enough whole r → enough < r → enough < whole
+settled-whole enough whole r found above = omega arith
+
+settled-above : (enough whole r : ℕ) → enough < whole → enough < r → Settles enough whole r
+settled-above enough whole r over above = omega arith
+
+reached : (most here later : ℕ) {n whole : ℕ} → n < max most here → max most (max here later) ≡ whole → n < whole
+reached most here later over is = omega arith
+
+-- Whether a greatest value that is not below `enough` exceeds it, what was found tells.
+pub settled-test : (enough whole r : ℕ) → Settles enough (max enough whole) r → ltb enough r ≡ ltb enough whole
+settled-test enough whole r found =
+    by-test (ltb enough r)
+    (λ t. t ∙ sym (lt-ltb enough whole (omega (arith, ltb-true enough r t))))
+    (λ f. f ∙ sym (le-ltb enough whole (omega (arith, ltb-false enough r f))))
 
 -- ---- the greatest value over a group's alignments, as a loop finds it
 
@@ -84,6 +105,13 @@ module _ (fs : List Frame) (k : Frame) (j : ℕ) (f : ℕ → ℕ) where
   -- It may end where none of the values exceeds what it has.
   pub best-over : {from most a all : ℕ} → Best fs k j f from most a → from ≤ most → greatest f (orEmpty (firstTurn fs k j)) ≡ all → all ≤ most → most ≡ max from all
   best-over best low whole le = omega (arith, best .walk .is)
+
+  -- It may end at a value above `enough`: the greatest is above it too.
+  pub best-above : {from most a all enough r : ℕ} → Best fs k j f from most a → greatest f (orEmpty (firstTurn fs k j)) ≡ all → Settles enough (max most (f a)) r → enough < r → Settles enough (max from all) r
+  unfolding greatest
+  best-above {from} {most} {a} {all} {enough} {r} best whole found above =
+      let here : enough < max most (f a) = settled-whole enough (max most (f a)) r found above in
+      settled-above enough (max from all) r (reached most (f a) _ here (best .walk .is ∙ ap (max from) whole)) above
 
 -- ---- windows of the approximate bound
 
@@ -192,6 +220,13 @@ module _ {fs : List Frame} (accepted : FineTable fs) {k : Frame} (table : InTabl
   pub many-scenarios : deepestLevel fs k ≢ lastLevel → tooManyScenarios fs k ≡ true
   many-scenarios other = by-test (tooManyScenarios fs k) (λ many. many) (λ few. absurd (other (deepest-last fs valid-self few)))
 
+  -- So it tells which of two answers is given.
+  pub by-deepest : {A : Type 0} {m : ℕ} → m ≡ deepestLevel fs k → (precise level : A) → cond (eqb m 15) precise level ≡ cond (tooManyScenarios fs k) level precise
+  by-deepest {m = m} deepest precise level =
+      by-test (eqb m 15)
+      (λ last. rw (last, few-scenarios (sym deepest ∙ eqb-true m 15 last)))
+      (λ other. rw (other, many-scenarios (λ last. eqb-false m 15 other (deepest ∙ last))))
+
   -- ---- one group more
 
   module _ (cs : List Choice) (long : length cs ≡ groups) where
@@ -281,12 +316,42 @@ module _ {fs : List Frame} (accepted : FineTable fs) {k : Frame} (table : InTabl
   pub free-start : OwnOpen fs k free
   free-start = record { refines = free-refined fs k; any = free-open (k .group) (group-listed valid-self) }
 
-  -- With one group fixed the approximate bound is found, with more that of a level, and with all the precise one.
+  -- With one group fixed the approximate bound is found, and with more that of a level.
   pub one-fixed : (faults : Faults) {r : ℕ} → r ≡ max 0 (fixingMore faults fs k 1 free) → r ≡ approximateBound faults fs k
   one-fixed faults e = omega (arith, approximate-more fs valid-self faults)
 
   pub level-fixed : (faults : Faults) (m : ℕ) {r : ℕ} → r ≡ max 0 (fixingMore faults fs k (m + 1) free) → r ≡ levelBound faults fs k m
   level-fixed faults m e = omega (arith, ap (λ (n : ℕ). fixingMore faults fs k n free) (add-one m), level-found fs valid-self faults m)
 
-  pub all-fixed : (faults : Faults) {r : ℕ} → r ≡ max 0 (fixingMore faults fs k 16 free) → r ≡ preciseBound faults fs k
-  all-fixed faults e = omega (arith, precise-more fs valid-self faults)
+  -- ---- what level m decides
+
+  module _ (faults : Faults) (m : ℕ) (claim : Found) (rough : ℕ) where
+    -- Without a claim nothing is searched.
+    pub decided-unasked : enoughFor m claim ≡ Nothing → TooMany rough ≡ decidedAt faults fs k m claim rough
+    decided-unasked none =
+        by-test (eqb m 15)
+        (λ last. absurd (let z : _≡_ {A = ℕ} 0 1 = cc (rw last at none) in omega arith))
+        (λ other. rw (other, rw other at none))
+
+    module _ {enough r : ℕ} (asked : enoughFor m claim ≡ At enough) (found : Settles enough (max 0 (fixingMore faults fs k (m + 1) free)) r) where
+      -- A bound above the claim leaves it open; at the last level none is above what is enough.
+      pub decided-above : r ≤ 4294967295 → enough < r → TooMany rough ≡ decidedAt faults fs k m claim rough
+      decided-above small above =
+          by-test (eqb m 15)
+          (λ last. absurd (let most : 4294967295 ≡ enough = cc (rw last at asked) in omega arith))
+          (λ other. rw (other, rw other at asked, lt-leb (levelBound faults fs k m) enough over))
+        where
+          over : enough < levelBound faults fs k m
+          over = subst (λ (n : ℕ). enough < n) (level-fixed faults m refl) (settled-whole enough (max 0 (fixingMore faults fs k (m + 1) free)) r found above)
+
+      module _ (within : r ≤ enough) where
+        bound-is : r ≡ levelBound faults fs k m
+        bound-is = level-fixed faults m (omega arith)
+
+        -- The bound of the last level is the precise one,
+        pub decided-last : m ≡ 15 → Precise r ≡ decidedAt faults fs k m claim rough
+        decided-last last = rw (eq-eqb m 15 last) (ap Precise (bound-is ∙ ap (levelBound faults fs k) last ∙ level-last fs valid-self faults))
+
+        -- and that of another meets the claim.
+        pub decided-level : m ≢ 15 → Level r ≡ decidedAt faults fs k m claim rough
+        decided-level other = rw (ne-eqb m 15 other, rw (ne-eqb m 15 other) at asked, ← bound-is, le-leb r enough within)

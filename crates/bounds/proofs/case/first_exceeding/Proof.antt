@@ -1,8 +1,10 @@
 -- The loop visits the group's alignments; with none before the one it stands at does a response exceed the claim.
-use Prim.Native.Nat.{_+_, _-_, _≤_, max}
+use Prim.Native.Nat.{_+_, _-_, _≤_}
 use mathlib.Core.Path.{_≡_, sym, _∙_}
 use native.Mathlib.Omega.{arith}
 use borrow.Author.Needs.{needs}
+use borrow.Author.Tests.{ltb-true, ltb-false}
+use lib.Dec.{ltb}
 use lib.ListN.{set}
 use Rattle.bus_model.specs.declared.Choice.the-variants.{Fixed}
 use Rattle.bus_model.specs.theory.OpenGroups.{fixingMore}
@@ -59,20 +61,20 @@ returns c =
 with-choice-requires : tie.Need-with-choice-requires Inv-loop μ-loop
 with-choice-requires c κs = let p = c .before .before .before .before .before .before .before .before .before .before .pre in (p .1 .1 .0, p .1 .1 .1)
 
-refine-all-requires : tie.Need-refine-all-requires Inv-loop μ-loop
-refine-all-requires c κs =
+is-exceeded-requires : tie.Need-is-exceeded-requires Inv-loop μ-loop
+is-exceeded-requires c κs =
     let p = c .before .before .before .before .before .before .before .before .before .before .before .before .pre in (c .before .before .before .before .before .before .loop .inv .1, (tries-refined (p .0 .prepared .filled .table) (p .0 .listed) (p .1 .0) (p .1 .1 .0, p .1 .1 .1) (c .before .before .before .before .before .before .loop .inv .0) (c .before .with-choice .ensures), p .1 .1 .2))
 
 same-length-2 : tie.Need-same-length-2 Inv-loop μ-loop
-same-length-2 c = c .before .before .before .refine-all .ensures .1 .remembered .size ∙ sym (c .before .before .before .before .before .before .before .before .before .before .before .before .before .before .before .before .pre .0 .remembered .size)
+same-length-2 c = c .before .before .before .is-exceeded .ensures .1 .remembered .size ∙ sym (c .before .before .before .before .before .before .before .before .before .before .before .before .before .before .before .before .pre .0 .remembered .size)
 
--- what is found is the greatest response with the alignment
-most : (c : tie.After-refine-all Inv-loop μ-loop) → c .refine-all .result ≡ max (c .before .before .before .before .before .before .before .before .before .before .before .before .before .args .claim) (fixingMore (c .before .before .before .before .before .before .before .before .before .before .before .before .before .args .target .faults) (tableOf (c .before .before .before .before .before .before .before .before .before .before .before .before .before .args .rows .now) (c .before .before .before .before .before .before .before .before .before .before .before .before .before .args .prepared .now)) (c .before .before .before .before .before .before .before .before .before .before .before .before .before .args .target .frame) 16 (set (c .before .before .before .before .before .before .before .before .before .before .before .before .before .args .choices) (c .before .before .before .before .before .before .before .before .before .before .before .before .before .args .group - 1) (Fixed (c .before .before .before .before .before .before .before .loop .a))))
-most c = rw (c .before .before .with-choice .ensures) at (c .refine-all .ensures .0)
+-- it is exceeded just where some response with the alignment is above it
+exceeds : (c : tie.After-is-exceeded Inv-loop μ-loop) → let x = c .before .before .before .before .before .before .before .before .before .before .before .before .before .args in c .is-exceeded .result ≡ ltb (x .claim) (fixingMore (x .target .faults) (tableOf (x .rows .now) (x .prepared .now)) (x .target .frame) 16 (set (x .choices) (x .group - 1) (Fixed (c .before .before .before .before .before .before .before .loop .a))))
+exceeds c = rw (c .before .before .with-choice .ensures) at (c .is-exceeded .ensures .0)
 
 returns-2 : tie.Need-returns-2 Inv-loop μ-loop
 returns-2 c =
-    let p = c .before .before .before .before .before .before .before .before .before .before .before .before .before .before .before .before .pre in (tries-take (p .0 .prepared .filled .table) (p .0 .listed) (p .1 .0) (p .1 .1 .0, p .1 .1 .1) (c .before .before .before .before .before .before .before .before .before .before .loop .inv .0) (omega (arith, most (c .before .before .before), c .if1 .taken)), c .before .before .before .refine-all .ensures .1)
+    let p = c .before .before .before .before .before .before .before .before .before .before .before .before .before .before .before .before .pre in (tries-take (p .0 .prepared .filled .table) (p .0 .listed) (p .1 .0) (p .1 .1 .0, p .1 .1 .1) (c .before .before .before .before .before .before .before .before .before .before .loop .inv .0) (ltb-true _ _ (sym (exceeds (c .before .before .before)) ∙ c .if1 .taken)), c .before .before .before .is-exceeded .ensures .1)
 
 loop-less : tie.Need-loop-less Inv-loop μ-loop
 loop-less c =
@@ -80,7 +82,7 @@ loop-less c =
 
 loop-again : tie.Need-loop-again Inv-loop μ-loop
 loop-again c =
-    let p = c .before .before .before .before .before .before .before .before .before .before .before .before .before .before .before .before .pre in (tries-next (p .0 .prepared .filled .table) (p .0 .listed) (p .1 .0) (p .1 .1 .0, p .1 .1 .1) (c .before .before .before .before .before .before .before .before .before .before .loop .inv .0) (sym (c .before .before .before .before .before .before .before .before .before .next-of2 .ensures) ∙ c .before .before .before .before .before .before .before .next .given .1) (omega (arith, most (c .before .before .before), c .if1 .left)), c .before .before .before .refine-all .ensures .1)
+    let p = c .before .before .before .before .before .before .before .before .before .before .before .before .before .before .before .before .pre in (tries-next (p .0 .prepared .filled .table) (p .0 .listed) (p .1 .0) (p .1 .1 .0, p .1 .1 .1) (c .before .before .before .before .before .before .before .before .before .before .loop .inv .0) (sym (c .before .before .before .before .before .before .before .before .before .next-of2 .ensures) ∙ c .before .before .before .before .before .before .before .next .given .1) (ltb-false _ _ (sym (exceeds (c .before .before .before)) ∙ c .if1 .left)), c .before .before .before .is-exceeded .ensures .1)
 
 pub first-exceeding-spec : {M : Type 1} → statement M
 first-exceeding-spec =
@@ -98,7 +100,7 @@ first-exceeding-spec =
     same-length
     returns
     with-choice-requires
-    refine-all-requires
+    is-exceeded-requires
     same-length-2
     returns-2
     loop-less

@@ -3,12 +3,13 @@ use mathlib.Core.Path.{_≡_, sym, _∙_}
 use mathlib.Core.Bool.{false}
 use native.Mathlib.Omega.{arith}
 use borrow.Author.Needs.{needs}
+use Rattle.bus_model.specs.Bounds.{approximateBound}
 use Rattle.bus_model.specs.Judgement.{lacksWindow}
 use Rattle.bus_model.specs.theory.Levels.{deepest-le}
 use Rattle.workload.specs.Prepared.{tableOf}
 use Rattle.workload.specs.laws.Fine.{in-table-fine}
 use Rattle.bounds.specs.Find.{boundFor}
-use Rattle.bounds.specs.laws.Search.{found-limits, few-scenarios, many-scenarios, free-start, one-fixed, all-fixed}
+use Rattle.bounds.specs.laws.Search.{found-limits, by-deepest, free-start, one-fixed}
 use Rattle.bounds.proofs.deciding.find.Statement.{statement}
 use Rattle.bounds.proofs.deciding.find.Tie as tie
 
@@ -35,6 +36,10 @@ refine-own-requires c κs =
     let t = p .prepared .filled .table in
     (c .before .before .before .before .lacks-window .ensures .1, (free-start t (p .listed), (found-limits _ _ _ _ _ (c .before .before .before .before .before .before .before .before .busy-window .ensures .0), (has (c .before), omega arith))))
 
+-- what is found is the approximate bound
+rough : (c : tie.After-refine-own) → let a = c .before .before .before .before .before .before .before .before .before .before .before .before .before .before .args in c .refine-own .result ≡ approximateBound (a .target .faults) (tableOf (a .rows .now) (a .prepared .now)) (a .target .frame)
+rough c = let p = c .before .before .before .before .before .before .before .before .before .before .before .before .before .before .pre in one-fixed (p .prepared .filled .table) (p .listed) _ (omega (arith, c .refine-own .ensures .0, c .refine-own .ok))
+
 is-met-requires : tie.Need-is-met-requires
 is-met-requires c κs = search needs
 
@@ -44,18 +49,17 @@ same-length-2 c = search needs
 returns-2 : tie.Need-returns-2
 unfolding boundFor
 returns-2 c =
-    let p = c .before .before .before .before .before .before .before .before .before .before .before .before .before .before .before .before .before .before .pre in
-    (rw (has (c .before .before .before .before .before .before), ← one-fixed (p .prepared .filled .table) (p .listed) _ (c .before .before .before .before .refine-own .ensures .0), sym (c .before .is-met .ensures) ∙ c .if2 .taken), c .before .before .before .before .refine-own .ensures .1)
+    (rw (has (c .before .before .before .before .before .before), ← rough (c .before .before .before .before), sym (c .before .is-met .ensures) ∙ c .if2 .taken), c .before .before .before .before .refine-own .ensures .1)
 
 deepest-level-requires : tie.Need-deepest-level-requires
 deepest-level-requires c κs =
     let p = c .before .before .before .before .before .before .before .before .before .before .before .before .before .before .before .before .before .before .pre in
     (p .prepared, in-table-fine _ (p .prepared .filled .table) (p .listed))
 
-refine-own-requires-2 : tie.Need-refine-own-requires-2
-refine-own-requires-2 c κs =
-    let p = c .before .before .before .before .before .before .before .before .before .before .before .before .before .before .before .before .before .before .before .before .before .pre in
-    (c .before .before .before .before .before .before .before .refine-own .ensures .1, (free-start (p .prepared .filled .table) (p .listed), (tt, (has (c .before .before .before .before .before .before .before .before .before), omega arith))))
+by-level-requires : tie.Need-by-level-requires
+by-level-requires c κs =
+    let a = c .before .before .before .before .before .before .before .before .before .before .before .before .before .before .before .before .before .before .before .before .args in
+    (c .before .before .before .before .before .before .refine-own .ensures .1, (has (c .before .before .before .before .before .before .before .before), omega (arith, c .before .deepest-level .ensures, deepest-le (tableOf (a .rows .now) (a .prepared .now)) (a .target .frame))))
 
 same-length-3 : tie.Need-same-length-3
 same-length-3 c = search needs
@@ -63,24 +67,9 @@ same-length-3 c = search needs
 returns-3 : tie.Need-returns-3
 unfolding boundFor
 returns-3 c =
-    let p = c .before .before .before .before .before .before .before .before .before .before .before .before .before .before .before .before .before .before .before .before .before .before .before .before .pre in
+    let p = c .before .before .before .before .before .before .before .before .before .before .before .before .before .before .before .before .before .before .before .before .before .before .before .pre in
     let t = p .prepared .filled .table in
-    (rw (has (c .before .before .before .before .before .before .before .before .before .before .before .before), ← one-fixed t (p .listed) _ (c .before .before .before .before .before .before .before .before .before .before .refine-own .ensures .0), sym (c .before .before .before .before .before .before .before .is-met .ensures) ∙ c .before .before .before .before .before .before .if2 .left, few-scenarios t (p .listed) (sym (c .before .before .before .before .before .deepest-level .ensures) ∙ c .before .before .before .before .if3 .taken), ← all-fixed t (p .listed) _ (c .before .before .refine-own2 .ensures .0)), c .before .before .refine-own2 .ensures .1)
-
-by-level-requires : tie.Need-by-level-requires
-by-level-requires c κs =
-    let a = c .before .before .before .before .before .before .before .before .before .before .before .before .before .before .before .before .before .before .before .before .before .args in
-    (c .before .before .before .before .before .before .before .refine-own .ensures .1, (has (c .before .before .before .before .before .before .before .before .before), omega (arith, c .before .before .deepest-level .ensures, deepest-le (tableOf (a .rows .now) (a .prepared .now)) (a .target .frame))))
-
-same-length-4 : tie.Need-same-length-4
-same-length-4 c = search needs
-
-returns-4 : tie.Need-returns-4
-unfolding boundFor
-returns-4 c =
-    let p = c .before .before .before .before .before .before .before .before .before .before .before .before .before .before .before .before .before .before .before .before .before .before .before .before .pre in
-    let t = p .prepared .filled .table in
-    (rw (has (c .before .before .before .before .before .before .before .before .before .before .before .before), ← one-fixed t (p .listed) _ (c .before .before .before .before .before .before .before .before .before .before .refine-own .ensures .0), sym (c .before .before .before .before .before .before .before .is-met .ensures) ∙ c .before .before .before .before .before .before .if2 .left, many-scenarios t (p .listed) (λ e. c .before .before .before .before .if3 .left (c .before .before .before .before .before .deepest-level .ensures ∙ e)), ← c .before .before .before .before .before .deepest-level .ensures) (c .before .before .by-level .ensures .0), c .before .before .by-level .ensures .1)
+    (rw (has (c .before .before .before .before .before .before .before .before .before .before .before), ← rough (c .before .before .before .before .before .before .before .before .before), sym (c .before .before .before .before .before .before .is-met .ensures) ∙ c .before .before .before .before .before .if2 .left, ← by-deepest t (p .listed) (c .before .before .before .before .deepest-level .ensures) _ _, ← c .before .before .before .before .deepest-level .ensures) (c .before .before .by-level .ensures .0), c .before .before .by-level .ensures .1)
 
 pub find-spec : {M : Type 1} → statement M
 find-spec =
@@ -95,9 +84,6 @@ find-spec =
     same-length-2
     returns-2
     deepest-level-requires
-    refine-own-requires-2
-    same-length-3
-    returns-3
     by-level-requires
-    same-length-4
-    returns-4)
+    same-length-3
+    returns-3)

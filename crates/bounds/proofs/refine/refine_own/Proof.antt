@@ -1,25 +1,27 @@
 -- The loop has the greatest response over the alignments of the own group that are visited.
-use Prim.Native.Nat.{ℕ, suc, _+_, _-_, _≤_, _<_, max}
+use Prim.Native.Nat.{suc, _-_, _≤_, min, max}
 use mathlib.Core.Path.{_≡_, refl, sym, ap, _∙_}
 use native.Mathlib.Omega.{arith}
 use borrow.Author.Needs.{needs}
 use lib.ListN.{length, set}
+use Rattle.arith.specs.Lists.{greatest}
 use Rattle.arith.specs.laws.Walks.{walk-less}
 use Rattle.bus_model.specs.declared.Choice.the-variants.{Fixed}
+use Rattle.bus_model.specs.Bounds.{orEmpty}
 use Rattle.bus_model.specs.theory.OpenGroups.{fixingMore}
-use Rattle.bus_model.specs.theory.Turns.{turn, turn-le}
+use Rattle.bus_model.specs.theory.Turns.{turn, firstTurn, turn-le}
 use Rattle.workload.specs.Prepared.{tableOf}
 use Rattle.greatest_work.specs.Ready.{Ready}
-use Rattle.bounds.specs.laws.Search.{Best, best-first, best-more, best-end, own-group, own-next, own-set, own-limits, own-window, open-more}
+use Rattle.bounds.specs.laws.Search.{Best, best-first, best-more, best-end, best-above, own-group, own-next, own-set, own-limits, own-window, open-more}
 use Rattle.bounds.proofs.refine.refine_own.Statement.{statement}
 use Rattle.bounds.proofs.refine.refine_own.Tie as tie
 
 abbrev Inv-loop : tie.InvT-loop
-Inv-loop rows prepared target choices left best limit memory₀ own fewer most₀ a₀ memory most a =
+Inv-loop rows prepared target choices left best enough limit memory₀ own fewer most₀ a₀ memory most a =
     Best (tableOf rows prepared) (target .frame) (target .frame .group) (λ b. fixingMore (target .faults) (tableOf rows prepared) (target .frame) (left - 1) (set choices (target .frame .group - 1) (Fixed b))) best most a × Ready rows prepared target memory
 
 abbrev μ-loop : tie.MeasureT-loop
-μ-loop rows prepared target choices left best limit memory₀ own fewer most₀ a₀ memory most a = turn (tableOf rows prepared) (target .frame) (target .frame .group) - a
+μ-loop rows prepared target choices left best enough limit memory₀ own fewer most₀ a₀ memory most a = turn (tableOf rows prepared) (target .frame) (target .frame .group) - a
 
 cast-own : tie.Need-cast-own Inv-loop μ-loop
 cast-own c = search needs
@@ -63,15 +65,34 @@ refine-requires c κs =
     let p = s .pre in
     (c .before .before .before .before .before .limit-of .ensures .1, (group s, (own-set (p .0 .prepared .filled .table) (p .0 .listed) (s .args .choices) (long s) (p .1 .0) (c .before .before .before .before .before .before .before .before .loop .inv .0 .listed) refl, rw (← c .before .before .before .before .before .before .before .with-choice .ensures) (c .before .reach-before .ensures (c .before .before .before .before .before .before .before .before .loop .most)))))
 
+-- the greatest over the alignments is that with one group more
+whole : (s : tie.Start Inv-loop μ-loop) → let x = s .args in let fs = tableOf (x .rows .now) (x .prepared .now) in let k = x .target .frame in
+    greatest (λ b. fixingMore (x .target .faults) fs k (x .left - 1) (set (x .choices) (k .group - 1) (Fixed b))) (orEmpty (firstTurn fs k (k .group))) ≡ fixingMore (x .target .faults) fs k (x .left) (x .choices)
+whole s =
+    let p = s .pre in
+    let fewer : suc (s .args .left - 1) ≡ s .args .left = omega (arith, p .1 .1 .1 .1) in
+    rw fewer at (open-more (p .0 .prepared .filled .table) (p .0 .listed) (s .args .choices) (long s) (s .args .target .faults) (s .args .left - 1) (own-next (p .0 .prepared .filled .table) (p .0 .listed) (s .args .choices) (long s) (p .1 .0)))
+
+same-length : tie.Need-same-length Inv-loop μ-loop
+same-length c = c .before .before .before .refine .ensures .1 .remembered .size ∙ sym (c .before .before .before .before .before .before .before .before .before .before .before .before .before .before .before .before .before .before .before .before .pre .0 .remembered .size)
+
+returns : tie.Need-returns Inv-loop μ-loop
+returns c = (best-above _ _ _ _ (c .before .before .before .before .before .before .before .before .before .before .before .before .loop .inv .0) (whole (c .before .before .before .before .before .before .before .before .before .before .before .before .before .before .before .before .before .before .before .before)) (c .before .before .before .refine .ensures .0) (c .if1 .taken), c .before .before .before .refine .ensures .1)
+
+-- what is not above `enough` is the greatest
+exact : (c : tie.Else1 Inv-loop μ-loop) → let x = c .before .before .before .before .before .before .before .before .before .before .before .before .before .before .before .before .before .before .before .before .args in let k = x .target .frame in
+    c .before .before .before .refine .result ≡ max (c .before .before .before .before .before .before .before .before .before .before .before .before .loop .most) (fixingMore (x .target .faults) (tableOf (x .rows .now) (x .prepared .now)) k (x .left - 1) (set (x .choices) (k .group - 1) (Fixed (c .before .before .before .before .before .before .before .before .before .before .before .before .loop .a))))
+exact c = omega (arith, c .before .before .before .refine .ensures .0, c .if1 .left)
+
 add-next-of : tie.Need-add-next-of Inv-loop μ-loop
 add-next-of c =
-    let s = c .before .before .before .before .before .before .before .before .before .before .before .before .before .before .before .before .before .before .before in
+    let s = c .before .before .before .before .before .before .before .before .before .before .before .before .before .before .before .before .before .before .before .before in
     let n = group s in
     let t = s .pre .0 .prepared .filled .table in
-    omega (arith, c .before .before .before .before .before .before .before .before .before .before .before .loop .inv .0 .walk .inside, t .hyper _ (n .0) (n .1), turn-le (t .valid) (s .args .target .frame) (s .args .target .frame .group))
+    omega (arith, c .before .before .before .before .before .before .before .before .before .before .before .before .loop .inv .0 .walk .inside, t .hyper _ (n .0) (n .1), turn-le (t .valid) (s .args .target .frame) (s .args .target .frame .group))
 
 next-of-requires-2 : tie.Need-next-of-requires-2 Inv-loop μ-loop
-next-of-requires-2 c κs = let n = group (c .before .before .before .before .before .before .before .before .before .before .before .before .before .before .before .before .before .before .before) in (c .before .before .before .before .before .before .before .before .before .before .before .before .before .before .before .before .before .before .before .pre .0 .prepared, (n .0, n .1, omega (arith, c .before .before .before .before .before .before .before .before .before .before .before .loop .inv .0 .walk .inside)))
+next-of-requires-2 c κs = let n = group (c .before .before .before .before .before .before .before .before .before .before .before .before .before .before .before .before .before .before .before .before) in (c .before .before .before .before .before .before .before .before .before .before .before .before .before .before .before .before .before .before .before .before .pre .0 .prepared, (n .0, n .1, omega (arith, c .before .before .before .before .before .before .before .before .before .before .before .before .loop .inv .0 .walk .inside)))
 
 enum-known-found : tie.Need-enum-known-found Inv-loop μ-loop
 enum-known-found c = search needs
@@ -79,25 +100,20 @@ enum-known-found c = search needs
 enum-told : tie.Need-enum-told Inv-loop μ-loop
 enum-told c = search needs
 
-same-length : tie.Need-same-length Inv-loop μ-loop
-same-length c = c .before .before .before .before .before .refine .ensures .1 .remembered .size ∙ sym (c .before .before .before .before .before .before .before .before .before .before .before .before .before .before .before .before .before .before .before .before .before .before .pre .0 .remembered .size)
+same-length-2 : tie.Need-same-length-2 Inv-loop μ-loop
+same-length-2 c = c .before .before .before .before .before .before .refine .ensures .1 .remembered .size ∙ sym (c .before .before .before .before .before .before .before .before .before .before .before .before .before .before .before .before .before .before .before .before .before .before .before .pre .0 .remembered .size)
 
-returns : tie.Need-returns Inv-loop μ-loop
-returns c =
-    let s = c .before .before .before .before .before .before .before .before .before .before .before .before .before .before .before .before .before .before .before .before .before .before in
-    let p = s .pre in
-    let fewer : suc (s .args .left - 1) ≡ s .args .left = omega (arith, p .1 .1 .1 .1) in
-    let whole = rw fewer at (open-more (p .0 .prepared .filled .table) (p .0 .listed) (s .args .choices) (long s) (s .args .target .faults) (s .args .left - 1) (own-next (p .0 .prepared .filled .table) (p .0 .listed) (s .args .choices) (long s) (p .1 .0))) in (
-      best-end _ _ _ _ (c .before .before .before .before .before .before .before .before .before .before .before .before .before .before .loop .inv .0) (c .before .before .before .before .before .refine .ensures .0) (sym (c .before .before .next-of2 .ensures) ∙ c .enum-told .given .1) ∙ ap (max (s .args .best)) whole,
-      c .before .before .before .before .before .refine .ensures .1,
-    )
+returns-2 : tie.Need-returns-2 Inv-loop μ-loop
+returns-2 c =
+    let s = c .before .before .before .before .before .before .before .before .before .before .before .before .before .before .before .before .before .before .before .before .before .before .before in
+    (ap (min (suc (s .args .enough))) (best-end _ _ _ _ (c .before .before .before .before .before .before .before .before .before .before .before .before .before .before .before .loop .inv .0) (exact (c .before .before .before)) (sym (c .before .before .next-of2 .ensures) ∙ c .enum-told .given .1) ∙ ap (max (s .args .best)) (whole s)), c .before .before .before .before .before .before .refine .ensures .1)
 
 loop-less : tie.Need-loop-less Inv-loop μ-loop
-loop-less c = walk-less _ _ _ _ _ (c .before .before .before .before .before .before .before .before .before .before .before .before .before .before .before .loop .inv .0 .walk) (sym (c .before .before .before .next-of2 .ensures) ∙ c .before .found .given .1)
+loop-less c = walk-less _ _ _ _ _ (c .before .before .before .before .before .before .before .before .before .before .before .before .before .before .before .before .loop .inv .0 .walk) (sym (c .before .before .before .next-of2 .ensures) ∙ c .before .found .given .1)
 
 loop-again : tie.Need-loop-again Inv-loop μ-loop
 loop-again c =
-    (best-more _ _ _ _ (c .before .before .before .before .before .before .before .before .before .before .before .before .before .before .before .loop .inv .0) (c .before .before .before .before .before .before .refine .ensures .0) (c .before .before .before .before .before .before .before .before .before .before .before .before .before .before .before .before .before .before .before .before .before .before .before .pre .0 .prepared .filled .table .valid) (sym (c .before .before .before .next-of2 .ensures) ∙ c .before .found .given .1), c .before .before .before .before .before .before .refine .ensures .1)
+    (best-more _ _ _ _ (c .before .before .before .before .before .before .before .before .before .before .before .before .before .before .before .before .loop .inv .0) (exact (c .before .before .before .before)) (c .before .before .before .before .before .before .before .before .before .before .before .before .before .before .before .before .before .before .before .before .before .before .before .before .pre .0 .prepared .filled .table .valid) (sym (c .before .before .before .next-of2 .ensures) ∙ c .before .found .given .1), c .before .before .before .before .before .before .before .refine .ensures .1)
 
 pub refine-own-spec : {M : Type 1} → statement M
 refine-own-spec =
@@ -114,11 +130,13 @@ refine-own-spec =
     limit-of-requires
     reach-before-requires
     refine-requires
+    same-length
+    returns
     add-next-of
     next-of-requires-2
     enum-known-found
     enum-told
-    same-length
-    returns
+    same-length-2
+    returns-2
     loop-less
     loop-again)

@@ -1,9 +1,10 @@
 -- By the own group: where it is open, it is the first to be fixed.
-use Prim.Native.Nat.{ℕ, _-_, _≤_, max}
+use Prim.Native.Nat.{ℕ, _-_, _≤_}
 use mathlib.Core.Path.{_≡_, sym, ap, subst, _∙_}
 use mathlib.Core.List.{List}
 use native.Mathlib.Omega.{arith}
 use borrow.Author.Needs.{needs}
+use lib.Dec.{ltb}
 use lib.ListN.{length, set}
 use Rattle.bus_model.specs.Bounds.{choiceOf}
 use Rattle.bus_model.specs.theory.OpenGroups.{fixingMore}
@@ -12,10 +13,10 @@ use Rattle.bus_model.specs.declared.Choice.the-variants.{Fixed}
 use Rattle.workload.specs.Prepared.{tableOf}
 use Rattle.response_time.specs.Load.{OwnFixed, Reaches}
 use Rattle.workload.specs.laws.Fine.{in-table-fine}
-use Rattle.bounds.specs.laws.Search.{own-group}
+use Rattle.bounds.specs.laws.Search.{own-group, settled-test}
 use Rattle.bounds.specs.laws.Case.{own-again, refined-window}
-use Rattle.bounds.proofs.refine.refine_all.Statement.{statement}
-use Rattle.bounds.proofs.refine.refine_all.Tie as tie
+use Rattle.bounds.proofs.refine.is_exceeded.Statement.{statement}
+use Rattle.bounds.proofs.refine.is_exceeded.Tie as tie
 
 own-choice-requires : tie.Need-own-choice-requires
 own-choice-requires c κs = let p = c .before .before .before .pre .0 in in-table-fine _ (p .prepared .filled .table) (p .listed)
@@ -35,7 +36,7 @@ same-length : tie.Need-same-length
 same-length c = c .before .before .refine-own .ensures .1 .remembered .size ∙ sym (c .before .before .before .before .before .before .before .before .before .before .pre .0 .remembered .size)
 
 returns : tie.Need-returns
-returns c = c .before .before .refine-own .ensures
+returns c = (settled-test (c .before .before .before .before .before .before .before .before .before .before .args .claim) _ _ (c .before .before .refine-own .ensures .0), c .before .before .refine-own .ensures .1)
 
 -- the choices are as many as the groups
 long : (s : tie.Start) → length (s .args .choices) ≡ 16
@@ -62,14 +63,14 @@ limit-of-requires c κs =
 reach-before-requires : tie.Need-reach-before-requires
 reach-before-requires c κs = (c .before .before .before .limit-of .ensures .1, c .before .before .before .limit-of .ensures .0)
 
-cast-t21 : tie.Need-cast-t21
-cast-t21 c = search needs
+cast-t23 : tie.Need-cast-t23
+cast-t23 c = search needs
 
 refine-requires : tie.Need-refine-requires
 refine-requires c κs =
     let o = c .before .before .before .before .before .before .before .before .before .before in
     let s = c .before .before .before .before .before .before .before .before .before .before .before .before .before .before .before .before in
-    (c .before .before .before .before .before .before .before .limit-of .ensures .1, (group s, (subst (OwnFixed (s .args .target .frame)) (sym (again o)) (fixed o), subst (λ (cs : List Choice). Reaches (s .args .target .faults) (tableOf (s .args .rows .now) (s .args .prepared .now)) (s .args .target .frame) cs (s .args .best) (c .before .before .before .reach-before .result)) (sym (again o)) (c .before .before .before .reach-before .ensures (s .args .best)))))
+    (c .before .before .before .before .before .before .before .limit-of .ensures .1, (group s, (subst (OwnFixed (s .args .target .frame)) (sym (again o)) (fixed o), subst (λ (cs : List Choice). Reaches (s .args .target .faults) (tableOf (s .args .rows .now) (s .args .prepared .now)) (s .args .target .frame) cs (s .args .claim) (c .before .before .before .reach-before .result)) (sym (again o)) (c .before .before .before .reach-before .ensures (s .args .claim)))))
 
 same-length-2 : tie.Need-same-length-2
 same-length-2 c = c .before .before .refine .ensures .1 .remembered .size ∙ sym (c .before .before .before .before .before .before .before .before .before .before .before .before .before .before .before .before .before .before .before .pre .0 .remembered .size)
@@ -77,10 +78,10 @@ same-length-2 c = c .before .before .refine .ensures .1 .remembered .size ∙ sy
 returns-2 : tie.Need-returns-2
 returns-2 c =
     let s = c .before .before .before .before .before .before .before .before .before .before .before .before .before .before .before .before .before .before .before in
-    (c .before .before .refine .ensures .0 ∙ ap (λ (cs : List Choice). max (s .args .best) (fixingMore (s .args .target .faults) (tableOf (s .args .rows .now) (s .args .prepared .now)) (s .args .target .frame) 16 cs)) (again (c .before .before .before .before .before .before .before .before .before .before .before .before .before)), c .before .before .refine .ensures .1)
+    (settled-test (s .args .claim) _ _ (c .before .before .refine .ensures .0) ∙ ap (λ (cs : List Choice). ltb (s .args .claim) (fixingMore (s .args .target .faults) (tableOf (s .args .rows .now) (s .args .prepared .now)) (s .args .target .frame) 16 cs)) (again (c .before .before .before .before .before .before .before .before .before .before .before .before .before)), c .before .before .refine .ensures .1)
 
-pub refine-all-spec : {M : Type 1} → statement M
-refine-all-spec =
+pub is-exceeded-spec : {M : Type 1} → statement M
+is-exceeded-spec =
     tie.close
     (tie.spec
     own-choice-requires
@@ -91,7 +92,7 @@ refine-all-spec =
     returns
     limit-of-requires
     reach-before-requires
-    cast-t21
+    cast-t23
     refine-requires
     same-length-2
     returns-2)
