@@ -1,5 +1,6 @@
 // A group's alignments, one after the other: no array holds them. Which instants this walk visits: specs/Walk.
 use arith::Found;
+use arith::choose;
 use arith::lesser;
 use bus_model::Frame;
 use workload::GROUP_ROWS;
@@ -71,14 +72,14 @@ struct Visited {
 fn in_rest(wait: u32, rest: u32, length: u32) -> u32
     ensures { λ r. ⌜ r ≡ cond (ltb wait rest) length 0 ⌝ }
 {
-    if wait < rest { length } else { 0 }
+    choose(wait < rest, length, 0)
 }
 
 // How long the next release is waited for: a period, where one is released now.
 fn wait_after(wait: u32, period: u32) -> u32
     ensures { λ r. ⌜ r ≡ cond (eqb wait 0) period wait ⌝ }
 {
-    if wait == 0 { period } else { wait }
+    choose(wait == 0, period, wait)
 }
 
 // The demand of the frames' whole periods in the first n ticks, which no alignment changes. Noted are each frame's length and
@@ -209,7 +210,7 @@ pub fn best_alignment(rows: &[u32], prepared: &[u32], part: &[u32], end: u32, n:
 pub fn count_alignments(rows: &[u32], prepared: &[u32], part: &[u32], end: u32) -> u32
     requires { ⌜ FinePart (now rows) (now prepared) (now part) ⌝ }
     requires { ⌜ end ≤ 1000000 ⌝ }
-    ensures { λ r. ⌜ r ≡ length (orEmpty (visits (framesIn (tableOf (now (rows .entry)) (now (prepared .entry))) (now (part .entry))) end)) ⌝ }
+    ensures { λ r. ⌜ r ≡ max (length (visits (framesIn (tableOf (now (rows .entry)) (now (prepared .entry))) (now (part .entry))) end)) 1 ⌝ }
     ensures small { λ r. ⌜ (1 ≤ r) × (r ≤ 1000000) ⌝ }
 {
     at_least_one(best_alignment(rows, prepared, part, end, 0).count)

@@ -1,7 +1,8 @@
-// Arithmetic that the other crates share: the answer of a search, the lesser and the greater of two numbers, the greatest common
-// divisor and the least common multiple. The definitions and their laws are in specs/.
+// Arithmetic that the other crates share: the answer of a search, one of two numbers, their product, the greatest common divisor and the
+// least common multiple. The definitions and their laws are in specs/.
 ghost use mathlib.Core.Path.{_≡_};
-ghost use Prim.Native.Nat.{_<_, _^_, min, max};
+ghost use mathlib.Core.Bool.{cond};
+ghost use Prim.Native.Nat.{_*_, _≤_, _<_, _^_, min, max};
 ghost use Rattle.arith.specs.Least.{orZero};
 ghost use Rattle.arith.specs.Multiples.{gcd, lcm};
 
@@ -37,6 +38,21 @@ pub fn greater_wide(a: u64, b: u64) -> u64
     ensures { λ r. ⌜ r ≡ max a b ⌝ }
 {
     if a < b { b } else { a }
+}
+
+// a where the test holds, and b elsewhere.
+pub fn choose(test: bool, a: u32, b: u32) -> u32
+    ensures { λ r. ⌜ r ≡ cond test a b ⌝ }
+{
+    if test { a } else { b }
+}
+
+// The product, which always fits.
+pub fn product(a: u32, b: u32) -> u64
+    ensures { λ r. ⌜ r ≡ a * b ⌝ }
+    ensures small { λ r. ⌜ r ≤ 4294967295 * 4294967295 ⌝ }
+{
+    a as u64 * b as u64
 }
 
 // The greatest common divisor, by Euclid's algorithm.

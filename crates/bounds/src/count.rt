@@ -1,5 +1,6 @@
 // How many alignments the groups have, and up to which level they are fixed.
 use alignment_walk::count_alignments;
+use arith::product;
 use bus_model::Frame;
 use workload::GROUPS;
 use workload::Target;
@@ -21,14 +22,13 @@ pub const LAST_LEVEL: usize = GROUPS - 1;
 
 // The product of two numbers, cut at one more than the limit.
 fn cut_product(a: u32, b: u32) -> u32
-    requires { ⌜ (a ≤ 65537) × (b ≤ 1000000) ⌝ }
     ensures { λ r. ⌜ r ≡ min 65537 (a * b) ⌝ }
 {
-    let product = a as u64 * b as u64;
-    if (SCENARIO_LIMIT as u64) < product {
+    let whole = product(a, b);
+    if (SCENARIO_LIMIT as u64) < whole {
         SCENARIO_LIMIT + 1
     } else {
-        product as u32
+        whole as u32
     }
 }
 
@@ -37,7 +37,6 @@ fn alignment_count(rows: &[u32], prepared: &[u32], target: Target, group: usize)
     requires { ⌜ Prepared (now rows) (now prepared) (target .frame) ⌝ }
     requires { ⌜ (1 ≤ group) × (group ≤ 16) ⌝ }
     ensures { λ r. ⌜ r ≡ length (orEmpty (alignments (tableOf (now (rows .entry)) (now (prepared .entry))) (target .frame) group)) ⌝ }
-    ensures small { λ r. ⌜ r ≤ 1000000 ⌝ }
 {
     let at = group - 1;
     let part = part_of(prepared, at);

@@ -59,7 +59,7 @@ module _ (faults : Faults) where
   outcomeOf fs k claim = cond (lacksWindow fs k) NoWindow (windowedOutcome fs k claim)
 
 -- the "verdict" of an outcome
-unfoldable pub verdict : Outcome → ℕ
+abbrev pub verdict : Outcome → ℕ
 verdict (CertifiedApproximate b) = 1
 verdict (CertifiedPrecise b) = 2
 verdict (ClaimTooSmall b) = 3

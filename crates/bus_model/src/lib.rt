@@ -15,11 +15,11 @@ pub struct Frame {
     pub offset: u32,
 }
 
-// A group's part in a scenario: one of its alignments, or whichever gives the greatest sum, chosen anew
-// at each tick.
+// A group's part in a scenario: whichever of its alignments gives the greatest sum, chosen anew at each tick,
+// or one of them.
 pub enum Choice {
-    Fixed(u32),
     Any,
+    Fixed(u32),
 }
 
 // A premise about faults on the bus (document 02, request 9): none ever begins, or they begin at least so many

@@ -1,6 +1,7 @@
 // The memory of greatest works. A group's greatest work rises in stairs: where two lengths have the same, so has each between them. A
 // number holds a stair as far as it is known: the group, its first and last length that were asked for, and the work.
 use arith::Found;
+use arith::product;
 ghost use mathlib.Core.Path.{_≡_};
 ghost use Prim.Native.Nat.{ℕ, _≤_, _<_, min, max};
 ghost use lib.ListN.{length};
@@ -30,8 +31,8 @@ pub fn set_of(before: usize, count: usize, n: u32, cycle: u32) -> usize
     requires { ⌜ (before ≤ 1024) × (count ≤ 64) × (n ≤ 1000001) × (1 ≤ cycle) ⌝ }
     ensures { λ r. ⌜ r < 128 ⌝ }
 {
-    let at = n as usize * (FRAME_SETS * count) / cycle as usize;
-    (FRAME_SETS * before + at) % SETS
+    let at = product(n, (FRAME_SETS * count) as u32) / cycle as u64;
+    (FRAME_SETS * before + (at % SETS as u64) as usize) % SETS
 }
 
 fn pack(j: u64, low: u64, high: u64, work: u64) -> u64
@@ -44,16 +45,14 @@ fn pack(j: u64, low: u64, high: u64, work: u64) -> u64
 fn is_on(v: u64, j: usize, n: u32) -> bool
     ensures { λ r. ⌜ r ≡ isOn v j n ⌝ }
 {
-    if v / UNIT / UNIT / UNIT != j as u64 {
-        return false;
-    }
-    v / UNIT / UNIT % UNIT <= n as u64 && n as u64 <= v / UNIT % UNIT
+    let inside = (v / UNIT / UNIT % UNIT <= n as u64) & (n as u64 <= v / UNIT % UNIT);
+    (v / UNIT / UNIT / UNIT == j as u64) & inside
 }
 
 fn is_of(v: u64, j: usize, work: u64) -> bool
     ensures { λ r. ⌜ r ≡ isOf v j work ⌝ }
 {
-    v / UNIT / UNIT / UNIT == j as u64 && v % UNIT == work
+    (v / UNIT / UNIT / UNIT == j as u64) & (v % UNIT == work)
 }
 
 fn lesser(a: u64, b: u64) -> u64

@@ -1,5 +1,6 @@
 // The load of a scenario, and the searches over it.
 use arith::Found;
+use arith::product;
 use bus_model::Choice;
 use bus_model::Frame;
 use greatest_work::guessed;
@@ -80,7 +81,7 @@ fn own_demand(k: Frame, choices: [Choice; 16], n: u32) -> u64
 fn with_lengths(blocked: u32, q: u32, length: u32) -> u64
     ensures { λ r. ⌜ r ≡ blocked + q * length ⌝ }
 {
-    blocked as u64 + q as u64 * length as u64
+    blocked as u64 + product(q, length)
 }
 
 // What is waited for besides the work of the frames and the faults.

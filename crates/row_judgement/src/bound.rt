@@ -9,12 +9,9 @@ use bounds::Bound;
 use bus_model::Faults;
 use table_checks::Checked;
 ghost use mathlib.Core.Path.{_≡_};
-ghost use Prim.Native.Nat.{_<_};
-ghost use lib.ListN.{length};
-ghost use Rattle.table_checks.specs.Frames.{framesOf};
 ghost use Rattle.table_checks.specs.Checks.{Loadable, Accepted};
 ghost use Rattle.table_checks.specs.Returns.{loadedReturns};
-ghost use Rattle.row_judgement.specs.Judge.{boundFrame, boundRow};
+ghost use Rattle.row_judgement.specs.Judge.{boundRow};
 ghost use Rattle.row_judgement.specs.Decide.{boundedBy};
 ghost use Rattle.row_judgement.specs.Returns.{boundedReturns, boundReturns};
 
@@ -41,19 +38,8 @@ pub fn bound_accepted(lengths: [[u32; 9]; 2], rows: &[u32], row: u64) -> Bounded
             place: 0,
         });
     }
-    bound_row(lengths, rows, row as usize)
-}
-
-// The precise bound of a row of an accepted table.
-fn bound_row(lengths: [[u32; 9]; 2], rows: &[u32], i: usize) -> Bounded
-    requires { ⌜ Loadable lengths × Accepted (now rows) ⌝ }
-    requires { ⌜ i < length (framesOf lengths (now rows)) ⌝ }
-    ensures { λ r. ⌜ r ≡ boundFrame (framesOf lengths (now (rows .entry))) i ⌝ }
-{
-    bounded(
-        decide(lengths, rows, i, Faults::Never, Found::Nothing),
-        i as u32,
-    )
+    let bound = decide(lengths, rows, row as usize, Faults::Never, Found::Nothing);
+    bounded(bound, row as u32)
 }
 
 // The answer for a row by the bound that was found without a claim.

@@ -31,6 +31,11 @@ ghost use Rattle.row_judgement.specs.declared.Judged.the-variants.{Verdi
 ghost use Rattle.row_judgement.specs.Judge.{claimOf, certified};
 ghost use Rattle.row_judgement.specs.Explain.{beside, explainRow, explainFaults, explainedReturns, explainReturns, explainFaultsReturns};
 
+const NO_CASE: Case = Case {
+    instance: Found::Nothing,
+    alignments: [0u32; 16],
+};
+
 // Judges the claim of a row, by the lengths loaded, and finds the case that breaks it, where it is too small.
 pub fn explain(lengths: [[u32; 9]; 2], rows: &[u32], row: u64) -> Explained
     ensures { λ r. ⌜ r ≡ explainRow lengths (now (rows .entry)) row ⌝ }
@@ -80,23 +85,13 @@ pub fn explain_faults(lengths: [[u32; 9]; 2], rows: &[u32], row: u64, gap: u64) 
     }
 }
 
-// There is no case.
-fn no_case() -> Case
-    ensures { λ r. ⌜ r ≡ noCase ⌝ }
-{
-    Case {
-        instance: Found::Nothing,
-        alignments: [0u32; 16],
-    }
-}
-
 // A row that is not judged has no case.
 fn turned_back(refusal: Refusal) -> Explained
     ensures { λ r. ⌜ r ≡ record { judged = NotJudged refusal; breaking = noCase } ⌝ }
 {
     Explained {
         judged: Judged::NotJudged(refusal),
-        breaking: no_case(),
+        breaking: NO_CASE,
     }
 }
 
@@ -123,6 +118,6 @@ fn explain_row(lengths: [[u32; 9]; 2], rows: &[u32], i: usize, faults: Faults) -
     }
     Explained {
         judged: Judged::Verdict(judgement),
-        breaking: no_case(),
+        breaking: NO_CASE,
     }
 }

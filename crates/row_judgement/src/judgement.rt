@@ -62,10 +62,7 @@ pub fn judge_accepted(lengths: [[u32; 9]; 2], rows: &[u32], row: u64) -> Judged
 pub fn is_gap(gap: u64) -> bool
     ensures { λ r. ⌜ r ≡ isGap gap ⌝ }
 {
-    if gap < 1 {
-        return false;
-    }
-    gap <= 1000000
+    (1 <= gap) & (gap <= 1000000)
 }
 
 // Judges the claim of a row under the premise that faults begin at least so many ticks apart. Where it certifies the frame, no instance of it

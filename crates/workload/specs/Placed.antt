@@ -23,15 +23,14 @@ pub record Placed : Type 0 where
   pub period : ℕ
   pub first : ℕ
 
--- whether a frame is one of those that load a window, those ahead, or a start, the better ones
-unfoldable pub isLoad : Search → Frame → Frame → Bool
-isLoad Window k g = isAhead k g
-isLoad (Instance q) k g = isBetter k g
+-- one of two answers: that for a window, or that for a start
+abbrev pub bySearch : Search → Bool → Bool → Bool
+bySearch Window window start = window
+bySearch (Instance q) window start = start
 
--- by how much such a frame goes before k, at the least
-abbrev pub aheadBy : Search → ℕ
-aheadBy Window = 0
-aheadBy (Instance q) = 1
+-- whether a frame is one of those that load a window, those ahead, or a start, the better ones
+abbrev pub isLoad : Search → Frame → Frame → Bool
+isLoad search k g = bySearch search (isAhead k g) (isBetter k g)
 
 -- how long after the start a frame is released first: its distance where its group's alignment is fixed, and at once where that is open
 unfoldable pub firstRelease : Choice → Frame → ℕ

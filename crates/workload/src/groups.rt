@@ -25,7 +25,7 @@ ghost use Rattle.workload.specs.Prepared.{Fine, framesIn, FineTable, ByG
 fn belongs(g: Frame, k: Frame, group: u32) -> bool
     ensures { λ r. ⌜ r ≡ (eqb (g .group) group && leb (g .priority) (k .priority)) ⌝ }
 {
-    g.group == group && g.priority <= k.priority
+    (g.group == group) & (g.priority <= k.priority)
 }
 
 // The least common multiple of h and the period of a frame, where it counts.

@@ -17,7 +17,7 @@ ghost use lib.ListN.{length, take};
 ghost use Rattle.workload.specs.Prepared.{Fine, tableOf, Filled};
 ghost use mathlib.Core.List.{_++_};
 ghost use Rattle.workload.specs.Faults.{FineTarget};
-ghost use Rattle.workload.specs.Placed.{isLoad, aheadBy, firstRelease, placedIn, putAt, placedFrames, placedFaults, placedOut, placedWork, FinePlaced};
+ghost use Rattle.workload.specs.Placed.{bySearch, isLoad, firstRelease, placedIn, putAt, placedFrames, placedFaults, placedOut, placedWork, FinePlaced};
 
 // So many numbers has a placed frame,
 pub const PLACED: usize = 4;
@@ -25,23 +25,21 @@ pub const PLACED: usize = 4;
 // and so many those of the longest table and the faults.
 pub const PLACES: usize = 260;
 
-// By how much a frame that loads what is looked for goes before k at the least: k loads its busy window itself, and no start.
-fn ahead_by(search: Search) -> u64
-    ensures { λ r. ⌜ r ≡ aheadBy search ⌝ }
-    ensures small { λ r. ⌜ r ≤ 1 ⌝ }
+// One of two answers, by what is looked for.
+fn by_search(search: Search, window: bool, start: bool) -> bool
+    ensures { λ r. ⌜ r ≡ bySearch search window start ⌝ }
 {
     match search {
-        Search::Window => 0,
-        Search::Instance(_) => 1,
+        Search::Window => window,
+        Search::Instance(_) => start,
     }
 }
 
-// Whether a frame loads what is looked for.
+// Whether a frame loads what is looked for: k loads its busy window itself, and no start.
 fn is_load(g: Frame, k: Frame, search: Search) -> bool
-    requires { ⌜ Fine g ⌝ }
     ensures { λ r. ⌜ r ≡ isLoad search k g ⌝ }
 {
-    g.priority + ahead_by(search) <= k.priority
+    by_search(search, g.priority <= k.priority, g.priority < k.priority)
 }
 
 // How long after the start a frame is released first: at once, where the alignment is open.

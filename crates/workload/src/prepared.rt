@@ -130,10 +130,10 @@ pub fn part_of(prepared: &[u32], i: usize) -> &[u32]
 
 // 2^32 / period, rounded up, and 0 where that does not fit.
 fn inverse_of(period: u32) -> u32 {
-    if period < 2 {
+    if period == 0 {
         return 0;
     }
-    4294967295 / period + 1
+    std::num::wrapping_add_u32(4294967295 / period, 1)
 }
 
 // Puts the numbers of each row of an accepted table into an area, by the lengths loaded.

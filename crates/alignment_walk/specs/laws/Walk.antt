@@ -1,6 +1,6 @@
 -- The walk visits every alignment of a group once, rising, and nothing else, and their number is the one in the scenario count (document 02,
 -- request 3).
-use Prim.Native.Nat.{ℕ, zero, suc, _+_, _-_, _%_, _≤_, _<_}
+use Prim.Native.Nat.{ℕ, zero, suc, _+_, _-_, _%_, _≤_, _<_, max}
 use mathlib.Core.Path.{_≡_, refl, sym, ap, fun-ext, _∙_}
 use mathlib.Core.Bool.{Bool, true, false, cond}
 use mathlib.Core.List.{List, [], _∷_, List·Memᴰ as Mem}
@@ -22,6 +22,7 @@ use Rattle.bus_model.specs.Bounds.{groups, ahead, alignments, orEmpty, scenario
 use Rattle.bus_model.specs.theory.Turns.{turn, firstTurn, turned-alignment}
 use Rattle.workload.specs.Prepared.{isInstant, instantsIn}
 use Rattle.alignment_walk.specs.Walk.{step, onFrom, visitsFrom, visits, Rising}
+use Rattle.alignment_walk.specs.laws.Parts.{length-or-empty}
 
 -- From any tick on the walk visits the instants from there on, if it may take as many steps as there are ticks.
 visits-from : (n : ℕ) (gs : List Frame) (end a : ℕ) → end - a ≤ n → visitsFrom n gs end a ≡ keep (isInstant gs) (range a (end - a))
@@ -72,11 +73,11 @@ module _ (fs : List Frame) (k : Frame) where
   visits-alignments j = visits-are (ofGroup (ahead fs k) j) (hyperperiod (ofGroup fs j))
 
   -- Their number, an empty one counting 1, is the group's factor in the scenario count: `count_alignments` computes it by this walk,
-  pub visits-factor : (j : ℕ) → length (orEmpty (visits (ofGroup (ahead fs k) j) (hyperperiod (ofGroup fs j)))) ≡ length (orEmpty (alignments fs k j))
-  visits-factor j = ap (λ (xs : List ℕ). length (orEmpty xs)) (visits-alignments j)
+  pub visits-factor : (j : ℕ) → max (length (visits (ofGroup (ahead fs k) j) (hyperperiod (ofGroup fs j)))) 1 ≡ length (orEmpty (alignments fs k j))
+  visits-factor j = sym (length-or-empty _) ∙ ap (λ (xs : List ℕ). length (orEmpty xs)) (visits-alignments j)
 
   -- and `scenario_count` the product of these numbers.
-  pub visits-counted : product (λ j. length (orEmpty (visits (ofGroup (ahead fs k) j) (hyperperiod (ofGroup fs j))))) (range 1 groups) ≡ scenarioCount fs k
+  pub visits-counted : product (λ j. max (length (visits (ofGroup (ahead fs k) j) (hyperperiod (ofGroup fs j)))) 1) (range 1 groups) ≡ scenarioCount fs k
   unfolding scenarioCount
   visits-counted = ap (λ (f : ℕ → ℕ). product f (range 1 groups)) (fun-ext visits-factor)
 

@@ -33,7 +33,7 @@ use Rattle.bus_model.specs.theory.Levels.{lastLevel, level-last, deepest-last, 
 use Rattle.bus_model.specs.theory.Judged.{has-windows}
 use Rattle.bus_model.specs.theory.Visits.{isAlignment}
 use Rattle.bus_model.specs.theory.Refine.{free, set-same, own-scenarios, own-kept, refines-group}
-use Rattle.bus_model.specs.theory.OpenGroups.{isAny, isOpen, nextOpen, fixingMore, next-open, free-open, free-refined, more-refined, more-end, more-none, more-turn, more-pruned, more-window, approximate-more}
+use Rattle.bus_model.specs.theory.OpenGroups.{isOpen, nextOpen, fixingMore, next-open, free-open, free-refined, more-refined, more-end, more-none, more-turn, more-pruned, more-window, approximate-more}
 use Rattle.bus_model.specs.theory.LevelSearch.{level-found}
 use Rattle.bus_model.specs.theory.Turns.{turn, firstTurn, first-aligned, turned, window-alike, alike-turn, visit-first, found-listed, first-listed}
 use Rattle.workload.specs.Prepared.{FineTable, framesIn, hyperIn, partOf, tableOf, Prepared, InTable}
@@ -50,7 +50,7 @@ use Rattle.bounds.specs.Search.{OwnOpen, Limits, Settles}
 
 -- It is how many the walk visits, an empty one counting 1.
 pub counted : {rows p : List ℕ} {k : Frame} → Prepared rows p k → {i : ℕ} → i < 16
-    → length (orEmpty (visits (framesIn (tableOf rows p) (partOf p i)) (hyperIn p i))) ≡ length (orEmpty (alignments (tableOf rows p) k (i + 1)))
+    → max (length (visits (framesIn (tableOf rows p) (partOf p i)) (hyperIn p i))) 1 ≡ length (orEmpty (alignments (tableOf rows p) k (i + 1)))
 counted {rows} {p} {k} g {i} less = rw (g .by-group .part i less, g .by-group .hyper i less, add-one i) (visits-factor (tableOf rows p) k (suc i))
 
 -- ---- a greatest value of which it is enough to know that it is above `enough`
@@ -286,7 +286,7 @@ module _ {fs : List Frame} (accepted : FineTable fs) {k : Frame} (table : InTabl
 
     module _ (start : OwnOpen fs k cs) where
       pub own-next : nextOpen k cs ≡ At (k .group)
-      unfolding nextOpen isAny
+      unfolding nextOpen
       own-next = rw (start .any)
 
       module _ {a : ℕ} (m : Mem a (orEmpty (alignments fs k (k .group)))) {cs′ : List Choice} (is : cs′ ≡ set cs (k .group - 1) (Fixed a)) where

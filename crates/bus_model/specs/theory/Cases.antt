@@ -238,7 +238,7 @@ module _ {fs : List Frame} (valid : Valid fs) {k : ℕ} (inside : k < length fs)
 
   -- "Where neither 11 nor 12 is the verdict, it is 3 if and only if such a case exists".
   pub small-just-with-case : (faults : Faults) (claim : ℕ) → let v = verdict (judge faults fs f claim .outcome) in v ≢ 11 → v ≢ 12 → (v ≡ 3) ↔ Exists (firstCase faults fs f claim)
-  unfolding judge verdict
+  unfolding judge
   small-just-with-case faults claim =
       by-outcome (λ o. verdict o ≢ 11 → verdict o ≢ 12 → (verdict o ≡ 3) ↔ Exists (firstCase faults fs f claim)) faults fs f claim
       (λ lacks n11 n12. absurd (n11 refl))
@@ -253,7 +253,7 @@ module _ {fs : List Frame} (valid : Valid fs) {k : ℕ} (inside : k < length fs)
 
 -- "For every other verdict the judgement comes without a case".
 pub case-of-small : (faults : Faults) (fs : List Frame) (k : Frame) (claim : ℕ) (o : Outcome) → verdict o ≡ 3 → caseOf faults fs k claim o ≡ firstCase faults fs k claim
-unfolding verdict caseOf
+unfolding caseOf
 case-of-small faults fs k claim (CertifiedApproximate b) e = absurd (omega arith)
 case-of-small faults fs k claim (CertifiedPrecise b) e = absurd (omega arith)
 case-of-small faults fs k claim (ClaimTooSmall b) e = refl
@@ -262,7 +262,7 @@ case-of-small faults fs k claim (Undecided b) e = absurd (omega arith)
 case-of-small faults fs k claim NoWindow e = absurd (omega arith)
 
 pub case-of-other : (faults : Faults) (fs : List Frame) (k : Frame) (claim : ℕ) (o : Outcome) → verdict o ≢ 3 → caseOf faults fs k claim o ≡ noCase
-unfolding verdict caseOf
+unfolding caseOf
 case-of-other faults fs k claim (CertifiedApproximate b) other = refl
 case-of-other faults fs k claim (CertifiedPrecise b) other = refl
 case-of-other faults fs k claim (ClaimTooSmall b) other = absurd (other refl)

@@ -16,7 +16,7 @@ use Rattle.bus_model.specs.declared.Outcome.the-variants.{CertifiedAppro
 use Rattle.bus_model.specs.declared.Judgement.{Judgement}
 
 pub judge-finds : (faults : Faults) (fs : List Frame) (k : Frame) (claim : ℕ) → findingOf (judge faults fs k claim) ≡ findingFor faults fs k claim
-unfolding findingOf findingFor judge outcomeOf windowedOutcome refinedOutcome crowdedOutcome preciseOutcome verdict boundUsed marginOf
+unfolding findingOf findingFor judge outcomeOf windowedOutcome refinedOutcome crowdedOutcome preciseOutcome boundUsed marginOf
 judge-finds faults fs k claim =
     by-test (lacksWindow faults fs k) (λ w. simp w)
     (λ w. by-test (leb (approximateBound faults fs k) claim) (λ a. simp (w, a))
@@ -31,7 +31,7 @@ outcomeBy v b =
     (cond (eqb v 2) (CertifiedPrecise b) (cond (eqb v 3) (ClaimTooSmall b) (cond (eqb v 4) (CertifiedLevel b) (cond (eqb v 12) (Undecided b) NoWindow))))
 
 outcome-back : (o : Outcome) → outcomeBy (verdict o) (boundUsed o) ≡ o
-unfolding outcomeBy verdict boundUsed
+unfolding outcomeBy boundUsed
 outcome-back (CertifiedApproximate b) = refl
 outcome-back (CertifiedPrecise b) = refl
 outcome-back (ClaimTooSmall b) = refl

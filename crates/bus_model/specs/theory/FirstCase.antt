@@ -29,7 +29,7 @@ use Rattle.bus_model.specs.theory.Cases.{Exists, no-instance, no-case-in
 use Rattle.bus_model.specs.theory.Refine.{refined, free, set-same, set-other, refined-choices}
 use Rattle.bus_model.specs.theory.Visits.{isAlignment}
 use Rattle.bus_model.specs.theory.Turns.{visit-first, found-listed, first-listed, turn, firstTurn, turn-le, first-alignment, turned-alignment, alike-turn, refined-alike}
-use Rattle.bus_model.specs.theory.OpenGroups.{isAny, isOpen, openGroups, fixingMore, open-set, open-groups, free-open}
+use Rattle.bus_model.specs.theory.OpenGroups.{isOpen, openGroups, fixingMore, open-set, open-groups, free-open}
 use Rattle.arith.specs.declared.Found.{Found}
 use Rattle.arith.specs.declared.Found.the-variants.{At, Nothing}
 use Rattle.bus_model.specs.declared.Frame.{Frame}
@@ -65,7 +65,7 @@ module _ (fs : List Frame) (k : Frame) where
 
   -- Their greatest response is that where all open groups take each of their alignments.
   pub completions-most : (faults : Faults) → ValidFrame k → (cs : List Choice) → length cs ≡ groups → fixingMore faults fs k groups cs ≡ greatest (scenarioResponse faults fs k) (completions fs k cs)
-  unfolding fixingMore completions openGroups isAny
+  unfolding fixingMore completions openGroups
   completions-most faults valid cs long =
       let few : length (openGroups k cs) ≤ groups = le-trans (keep-le (isOpen cs) (fixingOrder k)) (order-length valid) in
       ap (λ (js : List ℕ). refined faults fs k js cs) (take-all groups (openGroups k cs) few)

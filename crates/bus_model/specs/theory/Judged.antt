@@ -36,7 +36,7 @@ has-windows faults fs k has cs m = not-none (busyWindow faults fs k cs) (λ t. h
 
 -- A frame whose verdict is not 11 lacks none.
 pub not-lacking : (faults : Faults) (fs : List Frame) (k : Frame) (claim : ℕ) → verdict (judge faults fs k claim .outcome) ≢ 11 → ¬ T (lacksWindow faults fs k)
-unfolding judge outcomeOf verdict
+unfolding judge outcomeOf
 not-lacking faults fs k claim other t = other (ap verdict (cond-yes (lacksWindow faults fs k) NoWindow (windowedOutcome faults fs k claim) t))
 
 -- What holds of an outcome in each of document 01's cases holds of the outcome.
@@ -72,7 +72,7 @@ plainOutcome faults fs k claim =
 module _ (faults : Faults) (fs : List Frame) (k : Frame) (claim : ℕ) where
   -- "Other verdicts are untouched".
   pub untouched : verdict (plainOutcome faults fs k claim) ≢ 12 → outcomeOf faults fs k claim ≡ plainOutcome faults fs k claim
-  unfolding plainOutcome outcomeOf windowedOutcome refinedOutcome verdict
+  unfolding plainOutcome outcomeOf windowedOutcome refinedOutcome
   untouched other = go (lacksWindow faults fs k) (leb (approximateBound faults fs k) claim) (tooManyScenarios fs k) other
     where
       go : (lacks fits many : Bool) → verdict (cond lacks NoWindow (cond fits (CertifiedApproximate (approximateBound faults fs k)) (cond many (Undecided (approximateBound faults fs k)) (preciseOutcome faults fs k claim)))) ≢ 12
@@ -85,7 +85,7 @@ module _ (faults : Faults) (fs : List Frame) (k : Frame) (claim : ℕ) where
 
   -- "Where 12 was given", the deepest level decides.
   pub levels-decide : verdict (plainOutcome faults fs k claim) ≡ 12 → outcomeOf faults fs k claim ≡ crowdedOutcome faults fs k claim (approximateBound faults fs k)
-  unfolding plainOutcome outcomeOf windowedOutcome refinedOutcome preciseOutcome verdict
+  unfolding plainOutcome outcomeOf windowedOutcome refinedOutcome preciseOutcome
   levels-decide undecided = go (lacksWindow faults fs k) (leb (approximateBound faults fs k) claim) (tooManyScenarios fs k) (leb (preciseBound faults fs k) claim) undecided
     where
       go : (lacks fits many small : Bool)
@@ -115,7 +115,7 @@ margin-positive {claim} {b = suc b} le = rw (le-ltb claim (suc b) le) (not-below
 
 -- The margin is negative exactly for verdicts 3 and 12.
 pub margin-sign : (faults : Faults) (fs : List Frame) (k : Frame) (claim : ℕ) → MarginSign (judge faults fs k claim)
-unfolding judge marginOf verdict
+unfolding judge marginOf
 margin-sign faults fs k claim =
     by-outcome (λ o. (marginOf claim o <ℤ pos 0) ↔ ((verdict o ≡ 3) ⊎ (verdict o ≡ 12))) faults fs k claim
     (λ lacks. (λ t. absurd (not-below 0 t), elim [ inl e ↦ omega arith | inr e ↦ omega arith ]))
@@ -129,7 +129,7 @@ margin-sign faults fs k claim =
 
 -- "Certified" is verdict 1, 2 or 4.
 pub certified-verdict : (o : Outcome) → T (certifies o) ↔ ((verdict o ≡ 1) ⊎ (verdict o ≡ 2) ⊎ (verdict o ≡ 4))
-unfolding certifies verdict
+unfolding certifies
 certified-verdict (CertifiedApproximate b) = (λ t. inl refl, λ e. tt)
 certified-verdict (CertifiedPrecise b) = (λ t. inr (inl refl), λ e. tt)
 certified-verdict (ClaimTooSmall b) = (λ t. absurd t, elim [ inl e ↦ omega arith | inr (inl e) ↦ omega arith | inr (inr e) ↦ omega arith ])
@@ -143,7 +143,7 @@ module _ {fs : List Frame} (valid : Valid fs) {k : ℕ} (inside : k < length fs)
 
   -- A frame that is certified under a premise about faults meets its claim in every schedule under that premise.
   pub certified-meets-under : (faults : Faults) → ValidFaults faults → (claim : ℕ) → T (certifies (judge faults fs f claim .outcome)) → MeetsClaim faults fs k claim
-  unfolding judge verdict certifies
+  unfolding judge certifies
   certified-meets-under faults fine claim =
       by-outcome (λ o. T (certifies o) → MeetsClaim faults fs k claim) faults fs f claim
       (λ lacks t. absurd t)

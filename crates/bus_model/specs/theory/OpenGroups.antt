@@ -33,7 +33,7 @@ use Rattle.bus_model.specs.declared.Choice.{Choice}
 use Rattle.bus_model.specs.declared.Choice.the-variants.{Fixed, Any}
 
 -- whether a choice leaves the alignment open
-unfoldable pub isAny : Choice → Bool
+abbrev pub isAny : Choice → Bool
 isAny (Fixed a) = false
 isAny Any = true
 
@@ -57,14 +57,12 @@ fixingMore faults fs k m cs = refined faults fs k (take m (openGroups k cs)) cs
 
 -- A choice that does is `Any`.
 pub open-any : (c : Choice) → T (isAny c) → c ≡ Any
-unfolding isAny
 open-any (Fixed a) t = absurd t
 open-any Any t = refl
 
 -- Where a group is fixed, that one is no longer open.
 pub open-set : (cs : List Choice) → length cs ≡ groups → {j : ℕ} → Mem j (range 1 groups) → (a : ℕ) {i : ℕ} → Mem i (range 1 groups)
     → isOpen (set cs (j - 1) (Fixed a)) i ≡ (not (eqb i j) && isOpen cs i)
-unfolding isAny
 open-set cs long {j} listed a {i} m =
     elim (ℕ-discrete i j) [
       | yes e ↦ rw (e, set-same cs listed a long) (closed (eqb j j) (eqb-refl j))
@@ -189,7 +187,7 @@ more-refined fs k cs refines long {j} listed m = refines-more fs k free cs refin
 
 -- The open groups then are all, in their order.
 pub all-open : {k : Frame} → ValidFrame k → openGroups k free ≡ fixingOrder k
-unfolding openGroups isAny
+unfolding openGroups
 all-open {k} valid = keep-all (isOpen free) (fixingOrder k) (λ j m. rw (free-open j (order-group valid m)) tt)
 
 module _ (fs : List Frame) {k : Frame} (valid : ValidFrame k) where

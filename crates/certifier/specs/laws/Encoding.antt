@@ -44,7 +44,6 @@ use Rattle.certifier.specs.laws.Small.{judged-encodable}
 -- ---- the parts
 
 pub verdict-max : (outcome : Outcome) → verdict outcome ≤ 12
-unfolding verdict
 verdict-max (CertifiedApproximate b) = omega arith
 verdict-max (CertifiedPrecise b) = omega arith
 verdict-max (ClaimTooSmall b) = omega arith

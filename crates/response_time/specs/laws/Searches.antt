@@ -37,7 +37,7 @@ use Rattle.workload.specs.declared.Search.the-variants.{Window, Instance}
 use Rattle.workload.specs.declared.Target.{Target}
 use Rattle.workload.specs.Prepared.{FineTable, InTable}
 use Rattle.workload.specs.Faults.{costOf, faultsIn, leadOf, FineTarget}
-use Rattle.workload.specs.Placed.{Placed, isLoad, placedFrames, placedOut, placedWork, AllFixed, FinePlaced}
+use Rattle.workload.specs.Placed.{Placed, placedFrames, placedOut, placedWork, AllFixed, FinePlaced}
 use Rattle.workload.specs.laws.Fine.{in-table-fine}
 use Rattle.workload.specs.laws.Groups.{blocking-small}
 use Rattle.workload.specs.laws.Placed.{placed-mono, placed-both, faults-work, better-exact, ahead-exact}
@@ -164,7 +164,7 @@ base-small {fs} table {k} listed cs (Instance q) asked blocks =
 
 -- Which instance it is makes no difference to what is placed for it.
 pub placed-any : (fs : List Frame) (t : Target) (cs : List Choice) (q : ℕ) → placedOut fs t (Instance 0) cs ≡ placedOut fs t (Instance q) cs
-unfolding isLoad leadOf
+unfolding leadOf
 placed-any fs t cs q = refl
 
 -- ---- the search by a scenario that refines the one at hand

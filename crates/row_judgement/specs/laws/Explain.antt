@@ -90,7 +90,7 @@ ready-new ls {rows} {p} {t} {i} same is premise (prepared, blocked, cost) inside
 
 -- Where the verdict is 3, no window lacks.
 pub small-windows : (faults : Faults) (fs : List Frame) (k : Frame) (claim : ℕ) → verdict (judge faults fs k claim .outcome) ≡ 3 → lacksWindow faults fs k ≡ false
-unfolding judge outcomeOf verdict
+unfolding judge outcomeOf
 small-windows faults fs k claim e = go (lacksWindow faults fs k) refl e
   where
     go : (b : Bool) → lacksWindow faults fs k ≡ b → verdict (outcomeOf faults fs k claim) ≡ 3 → b ≡ false

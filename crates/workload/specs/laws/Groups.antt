@@ -1,7 +1,7 @@
 -- The rows of each group's frames ahead of k, as they are found and then read; and the lengths below k.
 use Prim.Native.Nat.{ℕ, zero, suc, _+_, _-_, _*_, _≤_, _<_, max}
 use mathlib.Core.Path.{_≡_, refl, sym, ap, ap₂, subst, _∙_}
-use mathlib.Core.Bool.{Bool, cond, _&&_}
+use mathlib.Core.Bool.{Bool, true, false, cond, _&&_}
 use mathlib.Core.List.{List, [], _∷_, _++_, append-nil, List·Memᴰ as Mem, List·Memᴰ·head as here, List·Memᴰ·tail as there}
 use native.Mathlib.Omega.{arith}
 use native.Mathlib.Nat.{le-refl, le-trans, sub-zero}
@@ -15,7 +15,7 @@ use borrow.Rule.Slice.PartMut.{midOf, postOf, putMid, mid-len, post-is, same-len
 use Rattle.arith.specs.Lists.{greatest, keep, range}
 use Rattle.arith.specs.Least.{least}
 use Rattle.arith.specs.Multiples.{lcm, lcmOf}
-use Rattle.arith.specs.laws.Members.{of-keep, fold-keep, map-keep, keep-keep, keep-le, list-places, part-before, part-written, part-start, getD-within, mem-getD}
+use Rattle.arith.specs.laws.Members.{of-keep, fold-keep, map-keep, keep-keep, keep-le, list-places, part-before, part-written, part-start, mem-getD}
 use Rattle.arith.specs.laws.Multiples.{lcm-ge-second}
 use Rattle.arith.specs.laws.Sums.{greatest-le}
 use Rattle.arith.specs.laws.Walks.{Down, down-start, down-more, down-end}
@@ -24,7 +24,7 @@ use Rattle.bus_model.specs.declared.Frame.{Frame}
 use Rattle.bus_model.specs.declared.Faults.{Faults}
 use Rattle.bus_model.specs.declared.Faults.the-variants.{Never, Apart}
 use Rattle.bus_model.specs.declared.Choice.{Choice}
-use Rattle.bus_model.specs.declared.Choice.the-variants.{Fixed, Any}
+use Rattle.bus_model.specs.declared.Choice.the-variants.{Any}
 use Rattle.bus_model.specs.Frame.{noFrame, row}
 use Rattle.bus_model.specs.Pattern.{ofGroup, hyperperiod}
 use Rattle.bus_model.specs.Bounds.{isAhead, isBelow, ahead, below, blocking, alignments, choiceOf, groupWork, faultTime}
@@ -44,10 +44,14 @@ longestOf p gs = greatest (λ g. g .length) (keep p gs)
 
 -- what a frame more makes of it
 abbrev longerOf : (Frame → Bool) → Frame → ℕ → ℕ
-longerOf p g n = cond (p g) (max (g .length) n) n
+longerOf p g n = max n (cond (p g) (g .length) 0)
+
+longer-is : (b : Bool) (l n : ℕ) → cond b (max l n) n ≡ max n (cond b l 0)
+longer-is true l n = omega arith
+longer-is false l n = omega arith
 
 longest-cons : (p : Frame → Bool) (g : Frame) (gs : List Frame) → longestOf p (g ∷ gs) ≡ longerOf p g (longestOf p gs)
-longest-cons p g gs = fold-keep (greatest (λ (x : Frame). x .length)) (λ (x : Frame). max (x .length)) (λ x xs. unfold greatest in refl) p g gs
+longest-cons p g gs = fold-keep (greatest (λ (x : Frame). x .length)) (λ (x : Frame). max (x .length)) (λ x xs. unfold greatest in refl) p g gs ∙ longer-is (p g) _ _
 
 module _ (fs : List Frame) (p : Frame → Bool) where
   -- A loop down through the frames starts at 0.
@@ -387,8 +391,8 @@ prepared-all ls {rows} {k} area lists numbers whole size size′ table groups fi
 -- ---- group i + 1, as it is read
 
 -- The choice that is read is the group's.
-pub read-choice : (i : ℕ) → i < 16 → (cs : List Choice) → length cs ≡ 16 → getD cs i (Fixed 0) ≡ choiceOf cs (i + 1)
-read-choice i l cs all = let place : i + 1 - 1 ≡ i = omega arith in rw place (getD-within cs i (Fixed 0) Any (omega arith))
+pub read-choice : (i : ℕ) (cs : List Choice) → getD cs i Any ≡ choiceOf cs (i + 1)
+read-choice i cs = let place : i + 1 - 1 ≡ i = omega arith in rw place
 
 module _ {rows p : List ℕ} {k : Frame} (g : Prepared rows p k) (i : ℕ) (l : i < 16) where
   abbrev fs : List Frame

@@ -5,18 +5,17 @@ use mathlib.Core.List.{List, [], _∷_, _++_, map, map-append, List·Memᴰ as M
 use mathlib.Core.Bool.{Bool, true, false, cond}
 use mathlib.Core.Logic.{_≢_, ⊎-elim}
 use native.Mathlib.Omega.{arith}
-use native.Mathlib.Nat.{le-refl, le-of-eq, mul-le-mul-left, add-zero, zero-add}
+use native.Mathlib.Nat.{le-refl, le-of-eq, mul-le-mul-left, zero-add}
 use native.Mathlib.Numerals.{add-one}
 use native.Mathlib.Decide.{decLe}
-use borrow.Author.Tests.{le-leb, lt-leb, lt-ltb, le-ltb}
-use lib.Dec.{eqb, leb, ltb, eqb-refl, eqb→eq}
+use lib.Dec.{eqb, eqb-refl, eqb→eq}
 use lib.ListN.{length, length-map, length-set, length-take, getD, set, take, drop, drop-of-length-le, length-append}
 use lib.Seq.{drop-cons, getD-set-same, getD-set-other, getD-take}
 use borrow.Author.Count.{below-more}
 use Rattle.arith.specs.Lists.{sum, keep, range}
 use Rattle.arith.specs.Releases.{releasesBefore}
 use Rattle.arith.specs.laws.Tests.{cond-yes, cond-no}
-use Rattle.arith.specs.laws.Members.{keep-le, getD-within, getD-table, length-range, map-same, of-range, range-append, of-keep, of-map, list-places}
+use Rattle.arith.specs.laws.Members.{keep-le, getD-table, length-range, map-same, of-range, range-append, of-keep, of-map, list-places}
 use Rattle.arith.specs.laws.Sums.{sum-le, sum-same, sum-append, sum-keep, sum-at, greatest-le}
 use Rattle.arith.specs.laws.Releases.{count-mono, count-ahead, count-later}
 use Rattle.bus_model.specs.declared.Frame.{Frame}
@@ -32,7 +31,7 @@ use Rattle.workload.specs.declared.Search.{Search}
 use Rattle.workload.specs.declared.Search.the-variants.{Window, Instance}
 use Rattle.workload.specs.declared.Target.{Target}
 use Rattle.workload.specs.Prepared.{Fine, FineTable}
-use Rattle.workload.specs.Placed.{Placed, isLoad, aheadBy, firstRelease, placedBy, placedFrame, placedOut, placedDemand, placedWork, AllFixed, FineOne, FinePlaced, noPlaced, placedAt, placedIn, putAt, placedFrames, faultFrames, placedFaults}
+use Rattle.workload.specs.Placed.{Placed, isLoad, firstRelease, placedFrame, placedOut, placedDemand, placedWork, AllFixed, FineOne, FinePlaced, noPlaced, placedAt, placedIn, putAt, placedFrames, faultFrames, placedFaults}
 use Rattle.workload.specs.Faults.{FineFaults, FineTarget, faultsIn, leadOf}
 use Rattle.workload.specs.laws.Fine.{member-fine}
 
@@ -105,15 +104,6 @@ module _ (fs : List Frame) (k : Frame) (gs : List Frame) (fine : (g : Frame) →
 
 -- ---- those that load a scenario of a table
 
-next-leb : (a b : ℕ) → leb (a + 1) b ≡ ltb a b
-next-leb a b = elim (decLe (a + 1) b) [ yes less ↦ le-leb (a + 1) b less ∙ sym (lt-ltb a b (omega arith)) | no over ↦ lt-leb (a + 1) b (omega arith) ∙ sym (le-ltb a b (omega arith)) ]
-
--- They are those that go before k by so much.
-pub load-leads : (search : Search) (k g : Frame) → leb (g .priority + aheadBy search) (k .priority) ≡ isLoad search k g
-unfolding isLoad
-load-leads Window k g = ap (λ (n : ℕ). leb n (k .priority)) (add-zero (g .priority))
-load-leads (Instance q) k g = next-leb (g .priority) (k .priority)
-
 module _ {fs : List Frame} (table : FineTable fs) (k : Frame) (cs : List Choice) where
   load-fine : (search : Search) (g : Frame) → Mem g (keep (isLoad search k) fs) → Fine g
   load-fine search g m = member-fine fs table (of-keep _ fs m .0)
@@ -132,17 +122,17 @@ module _ {fs : List Frame} (table : FineTable fs) (k : Frame) (cs : List Choice)
 
   -- Their work is not below that of the better frames, for a start,
   pub better-above : (q n : ℕ) → work fs k (better fs k) cs n ≤ placedWork (placedFrames fs k (Instance q) cs) n
-  unfolding better isLoad
+  unfolding better
   better-above q n = above fs k (keep (isLoad (Instance q) k) fs) (load-fine (Instance q)) cs n
 
   -- and it is the work where every group's alignment is fixed, for a start and for a window.
   module _ (fixed : AllFixed cs) (n : ℕ) where
     pub better-exact : (q : ℕ) → work fs k (better fs k) cs n ≡ placedWork (placedFrames fs k (Instance q) cs) n
-    unfolding better isLoad
+    unfolding better
     better-exact q = exact fs k (keep (isLoad (Instance q) k) fs) (load-fine (Instance q)) cs n fixed
 
     pub ahead-exact : work fs k (ahead fs k) cs n ≡ placedWork (placedFrames fs k Window cs) n
-    unfolding ahead isLoad
+    unfolding ahead
     ahead-exact = exact fs k (keep (isLoad Window k) fs) (load-fine Window) cs n fixed
 
 -- ---- the faults behind them
@@ -314,11 +304,6 @@ module _ {A : Type 0} (d : A) (xs : List A) (m : ℕ) {y : A} {ys : List A} (lef
 
   others-left : drop (suc m) xs ≡ ys
   others-left = ap (drop 1) parts
-
--- A frame is placed by the choice that stands at its group's place.
-pub placed-choice : {g : Frame} → Fine g → (cs : List Choice) (beyond : Choice) → length cs ≡ groups → placedBy (getD cs (g .group - 1) beyond) g ≡ placedFrame cs g
-unfolding placedFrame
-placed-choice {g} fine cs beyond long = ap (λ (choice : Choice). placedBy choice g) (getD-within cs (g .group - 1) beyond Any (omega (arith, fine .group-low, fine .group-high)))
 
 module _ {fs : List Frame} {k : Frame} {search : Search} {cs : List Choice} {area : List ℕ} where
   -- At first none is.

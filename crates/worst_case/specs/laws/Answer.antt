@@ -194,7 +194,7 @@ module _ (ls : List (List ℕ)) (rows : List ℕ) (i : ℕ) {faults : Faults} {f
 
 -- Where windows exist, the verdict is not 11.
 windowed-verdict : (fs : List Frame) (k : Frame) (claim : ℕ) → ¬ T (lacksWindow Never fs k) → verdict (judge Never fs k claim .outcome) ≢ 11
-unfolding judge verdict
+unfolding judge
 windowed-verdict fs k claim has =
     by-outcome (λ o. verdict o ≢ 11) Never fs k claim (λ lacks. absurd (has lacks)) (λ w le e. omega arith) (λ w exceeds many le e. omega arith)
     (λ w exceeds many less e. omega arith) (λ w exceeds few le e. omega arith) (λ w exceeds few less e. omega arith)

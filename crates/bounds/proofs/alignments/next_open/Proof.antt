@@ -9,8 +9,6 @@ use lib.ListN.{length, getD}
 use Rattle.arith.specs.Least.{least}
 use Rattle.arith.specs.declared.Found.the-variants.{At, Nothing}
 use Rattle.arith.specs.laws.Least.{least-here, least-end, least-skip}
-use Rattle.arith.specs.laws.Members.{getD-within}
-use Rattle.bus_model.specs.declared.Choice.the-variants.{Fixed, Any}
 use Rattle.bus_model.specs.Bounds.{choiceOf}
 use Rattle.bus_model.specs.theory.OpenGroups.{isAny, isOpen, nextOpen}
 use Rattle.workload.specs.laws.Groups.{read-choice}
@@ -40,10 +38,7 @@ is-open-requires c κs = search needs
 
 -- what is asked of k's own group
 own-is : (c : tie.After-is-open Inv-loop μ-loop) → c .is-open .result ≡ isOpen (c .before .before .before .args .t2) (c .before .before .before .args .k .group)
-own-is c =
-    let a = c .before .before .before .args in
-    let size : length (a .t2) ≡ 16 = search needs in
-    c .is-open .ensures ∙ ap isAny (getD-within (a .t2) (a .k .group - 1) (Fixed 0) Any (omega (arith, size, c .before .before .before .pre .group-low, c .before .before .before .pre .group-high)))
+own-is c = c .is-open .ensures
 
 returns : tie.Need-returns Inv-loop μ-loop
 unfolding nextOpen
@@ -71,8 +66,7 @@ cast-t21 c = search needs
 group-is : (c : tie.After-is-open2 Inv-loop μ-loop) → c .is-open2 .result ≡ isOpen (c .before .before .before .before .before .before .before .before .args .t2) (c .before .before .before .loop .j + 1)
 group-is c =
     let a = c .before .before .before .before .before .before .before .before .args in
-    let size : length (a .t2) ≡ 16 = search needs in
-    c .is-open2 .ensures ∙ ap isAny (read-choice (c .before .before .before .loop .j) (c .before .before .loop-test .taken) (a .t2) size)
+    c .is-open2 .ensures ∙ ap isAny (read-choice (c .before .before .before .loop .j) (a .t2))
 
 returns-2 : tie.Need-returns-2 Inv-loop μ-loop
 unfolding nextOpen

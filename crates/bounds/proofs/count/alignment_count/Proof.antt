@@ -39,7 +39,7 @@ returns c =
     let s = c .before .before .before .before .before in
     let fs = tableOf (s .args .rows .now) (s .args .prepared .now) in
     let is = rw (c .before .before .part-of .ensures, c .before .hyperperiod-of .ensures) at (c .count-alignments .ensures .0) in
-    (is ∙ counted (s .pre .0) (less s) ∙ ap (λ (j : ℕ). length (orEmpty (alignments fs (s .args .target .frame) j))) (same s), c .count-alignments .ensures .1 .1)
+    is ∙ counted (s .pre .0) (less s) ∙ ap (λ (j : ℕ). length (orEmpty (alignments fs (s .args .target .frame) j))) (same s)
 
 pub alignment-count-spec : {M : Type 1} → statement M
 alignment-count-spec =

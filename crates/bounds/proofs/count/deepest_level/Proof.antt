@@ -30,10 +30,10 @@ alignment-count-requires : tie.Need-alignment-count-requires Inv-loop μ-loop
 alignment-count-requires c κs = let s = c .before .before .before .before in (s .pre .0, (s .pre .1 .group-low, s .pre .1 .group-high))
 
 cut-product-requires : tie.Need-cut-product-requires Inv-loop μ-loop
-cut-product-requires c κs = (omega arith, c .alignment-count .ensures .1)
+cut-product-requires c κs = search needs
 
 loop-holds : tie.Need-loop-holds Inv-loop μ-loop
-loop-holds c = let s = c .before .before .before .before .before .before in level-start _ (valid s) (c .cut-product .ensures ∙ ap (min 65537) (omega (arith, c .before .alignment-count .ensures .0)))
+loop-holds c = let s = c .before .before .before .before .before .before in level-start _ (valid s) (c .cut-product .ensures ∙ ap (min 65537) (omega (arith, c .before .alignment-count .ensures)))
 
 add-group-at : tie.Need-add-group-at Inv-loop μ-loop
 add-group-at c = search needs
@@ -45,7 +45,7 @@ alignment-count-requires-2 : tie.Need-alignment-count-requires-2 Inv-loop μ-loo
 alignment-count-requires-2 c κs = (c .before .before .before .before .before .before .before .before .before .pre .0, c .group-at .ensures .1)
 
 cut-product-requires-2 : tie.Need-cut-product-requires-2 Inv-loop μ-loop
-cut-product-requires-2 c κs = (omega (arith, c .before .before .before .loop .inv .cut), c .alignment-count2 .ensures .1)
+cut-product-requires-2 c κs = search needs
 
 -- the product with the next group's alignments
 factor : (c : tie.After-cut-product2 Inv-loop μ-loop) → let a = c .before .before .before .before .before .before .before .before .before .before .before .args in
@@ -53,7 +53,7 @@ factor : (c : tie.After-cut-product2 Inv-loop μ-loop) → let a = c .before .be
 factor c =
     let a = c .before .before .before .before .before .before .before .before .before .before .before .args in
     c .cut-product2 .ensures
-    ∙ ap (λ (n : ℕ). min 65537 (c .before .before .before .before .loop .product * n)) (c .before .alignment-count2 .ensures .0
+    ∙ ap (λ (n : ℕ). min 65537 (c .before .before .before .before .loop .product * n)) (c .before .alignment-count2 .ensures
     ∙ ap (λ (j : ℕ). length (orEmpty (alignments (tableOf (a .rows .now) (a .prepared .now)) (a .target .frame) j))) (c .before .before .group-at .ensures .0 ∙ ap (groupAt (a .target .frame)) (add-one (c .before .before .before .before .loop .level))))
 
 returns : tie.Need-returns Inv-loop μ-loop

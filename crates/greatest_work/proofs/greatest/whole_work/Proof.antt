@@ -1,10 +1,9 @@
 -- The invariant has the sum over the groups done.
 use Prim.Native.Nat.{ℕ, _+_, _-_, _*_, _≤_}
-use mathlib.Core.Path.{_≡_, _∙_, ap, sym}
+use mathlib.Core.Path.{_∙_, ap, sym}
 use native.Mathlib.Omega.{arith}
 use native.Mathlib.Nat.{zero-add, add-zero}
 use borrow.Author.Needs.{needs}
-use lib.ListN.{length}
 use Rattle.arith.specs.Lists.{sum}
 use Rattle.arith.specs.laws.Walks.{CountUp, count-more, count-end, sum-more}
 use Rattle.bus_model.specs.Pattern.{ofGroup}
@@ -51,9 +50,8 @@ loop-again c =
     let s = c .before .before .before .before .before .before .before .before .before .before in
     let l = c .before .before .before .before .before .before .loop in
     let r = c .before .before .group-work .ensures in
-    let size : length (s .args .t4) ≡ 16 = search needs in
     let less = c .before .before .before .before .before .loop-test .taken in
-    let is = rw (read-choice (l .j) less (s .args .t4) size) at (r .0) in
+    let is = rw (read-choice (l .j) (s .args .t4)) at (r .0) in
     let fs = tableOf (s .args .rows .now) (s .args .prepared .now) in
     let k = s .args .target .frame in
     let term : ℕ = groupWork (ofGroup (ahead fs k) (l .j + 1)) (alignments fs k (l .j + 1)) (choiceOf (s .args .t4) (l .j + 1)) (s .args .n) in (

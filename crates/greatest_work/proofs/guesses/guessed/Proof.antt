@@ -1,9 +1,7 @@
 -- The invariant has the choices of the groups done.
 use Prim.Native.Nat.{_-_}
-use mathlib.Core.Path.{_≡_}
 use native.Mathlib.Omega.{arith}
 use borrow.Author.Needs.{needs}
-use lib.ListN.{length}
 use Rattle.workload.specs.Prepared.{tableOf}
 use Rattle.greatest_work.specs.laws.Guesses.{AllowedTo, allowed-put, allowed-all, fixed-all}
 use Rattle.greatest_work.proofs.guesses.guessed.Statement.{statement}
@@ -43,10 +41,7 @@ loop-again : tie.Need-loop-again Inv-loop μ-loop
 loop-again c = allowed-put (c .before .before .before .loop .inv) (c .before .before .loop-test .taken) _ (c .guessed-choice .ensures .0) (c .guessed-choice .ensures .1)
 
 returns : tie.Need-returns Inv-loop μ-loop
-returns c =
-    let s = c .before .before .before .before .before in
-    let size : length (s .args .t4) ≡ 16 = search needs in
-    (allowed-all (c .before .loop .inv) (c .loop-test .left) size, fixed-all (c .before .loop .inv) (c .loop-test .left))
+returns c = (allowed-all (c .before .loop .inv) (c .loop-test .left), fixed-all (c .before .loop .inv) (c .loop-test .left))
 
 pub guessed-spec : {M : Type 1} → statement M
 guessed-spec =

@@ -1,11 +1,12 @@
 -- The claim of the row, by the bound that decides about it; where its verdict is 3, the case is found with what is prepared and remembered.
 use Prim.Native.Nat.{ℕ, _+_, _*_, _≤_, _<_}
-use mathlib.Core.Path.{_≡_, sym, ap, subst, _∙_}
+use mathlib.Core.Path.{_≡_, refl, sym, ap, subst, _∙_}
 use mathlib.Core.List.{List}
 use native.Mathlib.Omega.{arith}
 use borrow.Author.Needs.{needs}
 use lib.ListN.{length}
 use Rattle.bus_model.specs.Frame.{row}
+use Rattle.bus_model.specs.Case.{noCase}
 use Rattle.bus_model.specs.Judgement.{judge, verdict}
 use Rattle.bus_model.specs.declared.Faults.{Faults}
 use Rattle.table_checks.specs.Columns.{columns, mostNumbers, claimColumn}
@@ -93,14 +94,12 @@ returns c =
     small-beside (p .prepare-row .result .faults) (a .lengths) (a .rows .now) (a .i) (p .prepare-row .ensures .0) (p .prepare-row .ensures .1 .0 .0) (judged (c .before .before .before .before .before .before)) (small (c .before .before .before .before)) (c .before .first-case .ensures)
     ∙ given p (a .lengths) (a .rows .now) (a .i)
 
-no-case-requires : tie.Need-no-case-requires
-no-case-requires c κs = search needs
-
 returns-2 : tie.Need-returns-2
+unfolding noCase
 returns-2 c =
-    let a = c .before .before .before .before .before .before .before .before .before .before .before .before .before .args in
-    let p = c .before .before .before .before .before .before .before .before .before in
-    other-beside (p .prepare-row .result .faults) (a .lengths) (a .rows .now) (a .i) (p .prepare-row .ensures .0) (p .prepare-row .ensures .1 .0 .0) (judged (c .before .before .before)) (λ is. omega (arith, c .before .before .verdict .ensures, c .before .if1 .left)) (c .no-case .ensures)
+    let a = c .before .before .before .before .before .before .before .before .before .before .before .before .args in
+    let p = c .before .before .before .before .before .before .before .before in
+    other-beside (p .prepare-row .result .faults) (a .lengths) (a .rows .now) (a .i) (p .prepare-row .ensures .0) (p .prepare-row .ensures .1 .0 .0) (judged (c .before .before)) (λ is. omega (arith, c .before .verdict .ensures, c .if1 .left)) refl
     ∙ given p (a .lengths) (a .rows .now) (a .i)
 
 pub explain-row-spec : {M : Type 1} → statement M
@@ -122,5 +121,4 @@ explain-row-spec =
     slice-aggregate-first-case-2
     first-case-requires
     returns
-    no-case-requires
     returns-2)

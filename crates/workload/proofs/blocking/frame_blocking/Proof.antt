@@ -1,7 +1,7 @@
 -- `workload::blocking::frame_blocking` meets its contract: the invariant has the greatest length below k of the rows read.
 use borrow.Author.Needs.{needs}
 use Prim.Native.Nat.{ℕ, _-_}
-use mathlib.Core.Path.{_≡_, sym, ap, subst, _∙_}
+use mathlib.Core.Path.{ap, subst}
 use native.Mathlib.Omega.{arith}
 use Rattle.arith.specs.laws.Walks.{Down, down-end}
 use Rattle.bus_model.specs.Bounds.{isBelow, below, blocking}
@@ -33,7 +33,7 @@ loop-less : tie.Need-loop-less Inv-loop μ-loop
 loop-less c = search needs
 
 loop-again : tie.Need-loop-again Inv-loop μ-loop
-loop-again c = longest-more _ _ (c .before .before .before .loop .inv) (c .before .before .loop-test .taken) (c .before .row-at .ensures) (c .longer .ensures)
+loop-again c = longest-more _ _ (c .before .before .before .before .before .before .loop .inv) (c .before .before .before .before .before .loop-test .taken) (c .before .before .before .before .row-at .ensures) (c .longer .ensures)
 
 sub-result : tie.Need-sub-result Inv-loop μ-loop
 sub-result c = search needs

@@ -25,14 +25,14 @@ sub-i c = search needs
 row-at-requires : tie.Need-row-at-requires Inv-loop μ-loop
 row-at-requires c κs = search needs
 
-longer-ahead-requires : tie.Need-longer-ahead-requires Inv-loop μ-loop
-longer-ahead-requires c κs = search needs
+longer-requires : tie.Need-longer-requires Inv-loop μ-loop
+longer-requires c κs = search needs
 
 loop-less : tie.Need-loop-less Inv-loop μ-loop
 loop-less c = search needs
 
 loop-again : tie.Need-loop-again Inv-loop μ-loop
-loop-again c = longest-more _ _ (c .before .before .before .loop .inv) (c .before .before .loop-test .taken) (c .before .row-at .ensures) (c .longer-ahead .ensures)
+loop-again c = longest-more _ _ (c .before .before .before .before .before .before .loop .inv) (c .before .before .before .before .before .loop-test .taken) (c .before .before .before .before .row-at .ensures) (c .longer .ensures)
 
 returns : tie.Need-returns Inv-loop μ-loop
 unfolding ahead
@@ -49,7 +49,7 @@ longest-ahead-spec =
     loop-holds
     sub-i
     row-at-requires
-    longer-ahead-requires
+    longer-requires
     loop-less
     loop-again
     returns)

@@ -5,12 +5,10 @@ use mathlib.Core.Logic.{⊎-elim}
 use native.Mathlib.Omega.{arith}
 use borrow.Author.Needs.{needs}
 use lib.ListN.{length}
-use Rattle.bus_model.specs.declared.Choice.the-variants.{Fixed}
-use Rattle.bus_model.specs.Bounds.{groups}
 use Rattle.workload.specs.Prepared.{Fine, tableOf}
 use Rattle.workload.specs.Placed.{Placed, placedFrame}
 use Rattle.workload.specs.laws.Prepared.{length-table}
-use Rattle.workload.specs.laws.Placed.{PlacedTo, place-none, place-put, place-skip, place-all, placed-choice}
+use Rattle.workload.specs.laws.Placed.{PlacedTo, place-none, place-put, place-skip, place-all}
 use Rattle.workload.proofs.placed.place_frames.Statement.{statement}
 use Rattle.workload.proofs.placed.place_frames.Tie as tie
 
@@ -35,13 +33,9 @@ fine : (c : tie.After-row-at Inv-loop μ-loop) → Fine (c .row-at .result .fram
 fine c = rw (c .row-at .ensures) (c .before .before .before .before .before .before .pre .0 .table .fine (c .before .before .loop .i) (inside c))
 
 is-load-requires : tie.Need-is-load-requires Inv-loop μ-loop
-is-load-requires c κs = fine (c .before)
+is-load-requires c κs = search needs
 
--- the choices are as many as the groups
-size : (c : tie.After-row-at Inv-loop μ-loop) → length (c .before .before .before .before .before .before .args .t5) ≡ groups
-size c = search needs
-
--- and there is room for its frame
+-- there is room for its frame
 room : (c : tie.After-row-at Inv-loop μ-loop) → c .before .before .loop .found < 64
 room c = omega (arith, c .before .before .loop .inv .0 .few, inside c, c .before .before .before .before .before .before .pre .0 .table .few)
 
@@ -79,7 +73,7 @@ loop-again c =
     let l = c .before .before .before .before .before .loop in
     let g = c .before .before .before .row-at .result .frame in (
       ⊎-elim
-          (λ w. place-put (l .inv .0) (inside f) (c .before .before .before .row-at .ensures) (c .before .is-load .ensures) (room f) (w .0 .taken) {x = record { length = g .length; period = g .period; first = w .4 .result }} (ap {B = Placed} (λ x. record { length = g .length; period = g .period; first = x }) (w .4 .ensures) ∙ placed-choice (fine f) (c .before .before .before .before .before .before .before .before .before .args .t5) (Fixed 0) (size f)) _ (w .8 ∙ w .5 .ensures) (w .9))
+          (λ w. place-put (l .inv .0) (inside f) (c .before .before .before .row-at .ensures) (c .before .is-load .ensures) (room f) (w .0 .taken) {x = record { length = g .length; period = g .period; first = w .4 .result }} (ap {B = Placed} (λ x. record { length = g .length; period = g .period; first = x }) (w .4 .ensures)) _ (w .8 ∙ w .5 .ensures) (w .9))
           (λ w. place-skip (l .inv .0) (inside f) (c .before .before .before .row-at .ensures) (c .before .is-load .ensures) (w .0 .left) (w .1) (w .2))
           (c .if1 .came),
       l .inv .1,
