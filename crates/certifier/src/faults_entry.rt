@@ -7,13 +7,13 @@ use crate::faults_listing::list_faults;
 use frame_table::Answer;
 use lengths_file::lengths_of;
 use row_judgement::explain_faults;
-use row_judgement::judge_faults;
+use row_judgement::judge_faults_accepted;
 use row_judgement::of_table;
 use table_checks::Checked;
 ghost use mathlib.Core.Path.{_≡_};
 ghost use lib.ListN.{length};
+ghost use Rattle.table_checks.specs.Checks.{Loadable};
 ghost use Rattle.frame_table.specs.Table.{readCheck};
-ghost use Rattle.row_judgement.specs.Judge.{judgeFaults};
 ghost use Rattle.certifier.specs.Encode.{encodeJudged};
 ghost use Rattle.certifier.specs.ExplainEntry.{encodeExplained, shownAfter};
 ghost use Rattle.certifier.specs.FaultsEntry.{judgeFaultsRead, judgeFaultsFile, explainFaultsRead, explainFaultsFile, encodeListed};
@@ -35,21 +35,15 @@ pub extern "C" fn certifier_judge_faults(lengths: &[u8], table: &[u8], row: u64,
 
 // The same, by lengths that were read.
 fn judge_faults_table(lengths: [[u32; 9]; 2], table: &[u8], row: u64, gap: u64) -> i64
+    requires { ⌜ Loadable lengths ⌝ }
     ensures { λ r. ⌜ r ≡ encodeJudged (judgeFaultsRead (readCheck (now (table .entry))) lengths (now (table .entry)) row gap) ⌝ }
 {
     let mut rows = [0u32; table_checks::MOST_NUMBERS];
     let answer = frame_table::read(table, &mut rows);
     match answer {
         Answer::Refused(refusal) => encode_refusal(of_table(refusal)),
-        Answer::Done(n) => encode_faults_of(lengths, &rows[..n], row, gap),
+        Answer::Done(n) => encode_judged(judge_faults_accepted(lengths, &rows[..n], row, gap)),
     }
-}
-
-// The same, of rows in memory.
-fn encode_faults_of(lengths: [[u32; 9]; 2], rows: &[u32], row: u64, gap: u64) -> i64
-    ensures { λ r. ⌜ r ≡ encodeJudged (judgeFaults lengths (now (rows .entry)) row gap) ⌝ }
-{
-    encode_judged(judge_faults(lengths, rows, row, gap))
 }
 
 // Judges the same, and shows the case that breaks the claim, if its verdict is 3.

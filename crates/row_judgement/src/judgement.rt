@@ -76,28 +76,29 @@ pub fn judge_faults(lengths: [[u32; 9]; 2], rows: &[u32], row: u64, gap: u64) ->
     let checked = table_checks::check_loaded(lengths, rows);
     match checked {
         Checked::Failed(refusal) => Judged::NotJudged(of_table(refusal)),
-        Checked::Passed => {
-            if (rows.len() / table_checks::ROW) as u64 <= row {
-                return Judged::NotJudged(Refusal {
-                    cause: Cause::NoSuchRow,
-                    place: 0,
-                });
-            }
-            if is_gap(gap) {
-                let ticks = gap as u32;
-                return Judged::Verdict(judge_row(
-                    lengths,
-                    rows,
-                    row as usize,
-                    Faults::Apart(ticks),
-                ));
-            }
-            Judged::NotJudged(Refusal {
-                cause: Cause::GapOutside,
-                place: 0,
-            })
-        }
+        Checked::Passed => judge_faults_accepted(lengths, rows, row, gap),
     }
+}
+
+// The same of an accepted table, by lengths that passed their check.
+pub fn judge_faults_accepted(lengths: [[u32; 9]; 2], rows: &[u32], row: u64, gap: u64) -> Judged
+    requires { ⌜ Loadable lengths × Accepted (now rows) ⌝ }
+    ensures { λ r. ⌜ r ≡ judgeFaults lengths (now (rows .entry)) row gap ⌝ }
+{
+    if (rows.len() / table_checks::ROW) as u64 <= row {
+        return Judged::NotJudged(Refusal {
+            cause: Cause::NoSuchRow,
+            place: 0,
+        });
+    }
+    if is_gap(gap) {
+        let ticks = gap as u32;
+        return Judged::Verdict(judge_row(lengths, rows, row as usize, Faults::Apart(ticks)));
+    }
+    Judged::NotJudged(Refusal {
+        cause: Cause::GapOutside,
+        place: 0,
+    })
 }
 
 // The judgement of a row of an accepted table, under a premise about faults.

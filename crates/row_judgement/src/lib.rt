@@ -15,6 +15,7 @@ pub use judgement::is_gap;
 pub use judgement::judge;
 pub use judgement::judge_accepted;
 pub use judgement::judge_faults;
+pub use judgement::judge_faults_accepted;
 pub use judgement::judge_row;
 pub use judgement::verdict;
 ghost use mathlib.Core.Path.{_≡_};

@@ -37,7 +37,7 @@ lengths-of-requires : tie.Need-lengths-of-requires
 lengths-of-requires c κs = search needs
 
 judge-faults-table-requires : tie.Need-judge-faults-table-requires
-judge-faults-table-requires c κs = search needs
+judge-faults-table-requires c κs = loaded c .loadable
 
 returns : tie.Need-returns
 unfolding encodeJudged judgeFaultsFile judgeFaultsRead

@@ -1,12 +1,14 @@
 -- The file is read into rows of its own; a refusal of the file is encoded, and a table that was read is judged and its judgement encoded.
 use Prim.Native.Nat.{ℕ}
-use mathlib.Core.Path.{refl, ap, _∙_}
+use mathlib.Core.Path.{refl, sym, ap, subst, _∙_}
 use mathlib.Core.List.{List}
 use borrow.Author.Needs.{needs}
 use Rattle.arith.specs.laws.Signed.{kept}
 use Rattle.row_judgement.specs.Judge.{judgeFaults}
 use Rattle.certifier.specs.Encode.{encodeJudged, encodeRefusal}
 use Rattle.certifier.specs.FaultsEntry.{judgeFaultsRead}
+use Rattle.certifier.specs.Steps.{Encodable}
+use Rattle.certifier.specs.laws.Small.{faults-encodable}
 use Rattle.frame_table.specs.laws.Reading.{ReadRows, read-refused, read-rows}
 use Rattle.certifier.proofs.faults_entry.judge_faults_table.Statement.{statement}
 use Rattle.certifier.proofs.faults_entry.judge_faults_table.Tie as tie
@@ -36,11 +38,14 @@ table c = let r = c .before .before .before .before .read in read-rows _ _ _ ref
 array-share-prefix-rows : tie.Need-array-share-prefix-rows
 array-share-prefix-rows c = table c .room
 
-slice-aggregate-encode-faults-of : tie.Need-slice-aggregate-encode-faults-of
-slice-aggregate-encode-faults-of c = table (c .before) .size
+slice-aggregate-judge-faults-accepted : tie.Need-slice-aggregate-judge-faults-accepted
+slice-aggregate-judge-faults-accepted c = table (c .before) .size
 
-encode-faults-of-requires : tie.Need-encode-faults-of-requires
-encode-faults-of-requires c κs = search needs
+judge-faults-accepted-requires : tie.Need-judge-faults-accepted-requires
+judge-faults-accepted-requires c κs = (c .before .before .before .before .before .before .before .before .pre, table (c .before) .accepted)
+
+encode-judged-requires : tie.Need-encode-judged-requires
+encode-judged-requires c κs = subst Encodable (sym (c .judge-faults-accepted .ensures)) (faults-encodable _ _ _ _)
 
 returns : tie.Need-returns
 unfolding encodeJudged judgeFaultsRead
@@ -52,10 +57,10 @@ returns c =
 returns-2 : tie.Need-returns-2
 unfolding judgeFaultsRead
 returns-2 c =
-    let t = table (c .before .before) in
-    let a = c .before .before .before .before .before .before .before .before .before .args in
-    kept _ (c .encode-faults-of .ok) ∙ c .encode-faults-of .ensures
-    ∙ ap encodeJudged (rw (t .passed) (ap (λ (rows : List ℕ). judgeFaults (a .lengths) rows (a .row) (a .gap)) (t .rows)))
+    let t = table (c .before .before .before) in
+    let a = c .before .before .before .before .before .before .before .before .before .before .args in
+    kept _ (c .encode-judged .ok) ∙ c .encode-judged .ensures
+    ∙ ap encodeJudged (c .before .judge-faults-accepted .ensures ∙ rw (t .passed) (ap (λ (rows : List ℕ). judgeFaults (a .lengths) rows (a .row) (a .gap)) (t .rows)))
 
 pub judge-faults-table-spec : {M : Type 1} → statement M
 judge-faults-table-spec =
@@ -68,7 +73,8 @@ judge-faults-table-spec =
     encode-refusal-requires
     enum-known-answer-2
     array-share-prefix-rows
-    slice-aggregate-encode-faults-of
-    encode-faults-of-requires
+    slice-aggregate-judge-faults-accepted
+    judge-faults-accepted-requires
+    encode-judged-requires
     returns
     returns-2)
