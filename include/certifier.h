@@ -12,7 +12,7 @@
  * may be null only if its length is 0. Where an output area is lent, a call writes its result at the start of it and
  * leaves all that stands behind; where it is turned back, it leaves the whole area. The area must not overlap what is read, and
  * may be null only if its length is 0. A call allocates nothing and needs at most CERTIFIER_STACK bytes of stack, and at most
- * CERTIFIER_JUDGING_STACK unless it explains, shows the worst case or judges one row under faults.
+ * CERTIFIER_JUDGING_STACK unless it explains or shows the worst case.
  * Threads: there is no state between calls, so any number of threads may call at once.
  */
 #ifndef CERTIFIER_H
@@ -25,8 +25,8 @@
 extern "C" {
 #endif
 
-/* The most bytes of stack that a call needs, whatever it is given: any call; any but certifier_explain, certifier_worst,
- * certifier_judge_faults and certifier_explain_faults. */
+/* The most bytes of stack that a call needs, whatever it is given: any call; any but certifier_explain, certifier_explain_faults
+ * and certifier_worst. */
 #define CERTIFIER_STACK 30720
 #define CERTIFIER_JUDGING_STACK 24576
 
