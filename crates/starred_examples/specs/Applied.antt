@@ -10,7 +10,6 @@ use lib.IntN.{pos}
 use lib.ListN.{replicate}
 use Rattle.bus_model.specs.declared.Frame.{Frame}
 use Rattle.bus_model.specs.declared.Outcome.the-variants.{CertifiedApproximate, CertifiedPrecise}
-use Rattle.bus_model.specs.Frame.{row}
 use Rattle.bus_model.specs.Bus.{Transmission, Schedule, Finished, MeetsClaim}
 use Rattle.bus_model.specs.Judgement.{certifies}
 use Rattle.bus_model.specs.Valid.{Valid, Early}

@@ -31,15 +31,6 @@ abbrev μ-loop : tie.MeasureT-loop
 loop-holds : tie.Need-loop-holds Inv-loop μ-loop
 loop-holds c = let p = c .before .before .before .pre .1 .1 in (through-start _ _ _ _ (zero-add _), omega arith, notes-none (p .0), note-none (p .1))
 
-mul-index : tie.Need-mul-index Inv-loop μ-loop
-mul-index c = search needs
-
-shared-slice-read-index : tie.Need-shared-slice-read-index Inv-loop μ-loop
-shared-slice-read-index c = search needs
-
-index-requires : tie.Need-index-requires Inv-loop μ-loop
-index-requires c κs = search needs
-
 row-at-requires : tie.Need-row-at-requires Inv-loop μ-loop
 row-at-requires c κs = c .before .before .before .before .before .before .before .pre .0 .filled
 
@@ -69,35 +60,11 @@ small c =
     let s = c .before .before .before .before .before .before .before .before .before .before in
     rw (c .quotient .ensures) (whole-small (fine f) (s .args .n) (s .pre .1 .0 .0))
 
-mul-notes : tie.Need-mul-notes Inv-loop μ-loop
-mul-notes c = search needs
-
-element-write-notes : tie.Need-element-write-notes Inv-loop μ-loop
-element-write-notes c = search needs
-
-add-notes : tie.Need-add-notes Inv-loop μ-loop
-add-notes c = search needs
-
-mul-notes-2 : tie.Need-mul-notes-2 Inv-loop μ-loop
-mul-notes-2 c = search needs
-
-element-write-notes-2 : tie.Need-element-write-notes-2 Inv-loop μ-loop
-element-write-notes-2 c = search needs
-
 mul-notes-3 : tie.Need-mul-notes-3 Inv-loop μ-loop
 mul-notes-3 c = omega (arith, inside (c .before))
 
 sub-notes : tie.Need-sub-notes Inv-loop μ-loop
 sub-notes c = omega (arith, inside (c .before))
-
-add-notes-2 : tie.Need-add-notes-2 Inv-loop μ-loop
-add-notes-2 c = search needs
-
-mul-notes-4 : tie.Need-mul-notes-4 Inv-loop μ-loop
-mul-notes-4 c = search needs
-
-element-write-notes-3 : tie.Need-element-write-notes-3 Inv-loop μ-loop
-element-write-notes-3 c = search needs
 
 phase-of-requires : tie.Need-phase-of-requires Inv-loop μ-loop
 phase-of-requires c κs = fine (c .before .before .before)
@@ -109,29 +76,11 @@ first-inside c = c .before .before .before .before .before .before .before .befo
 sub-waits : tie.Need-sub-waits Inv-loop μ-loop
 sub-waits c = rw (c .phase-of .ensures .0) (first-inside (c .before .before .before .before))
 
-mul-waits : tie.Need-mul-waits Inv-loop μ-loop
-mul-waits c = search needs
-
-element-write-waits : tie.Need-element-write-waits Inv-loop μ-loop
-element-write-waits c = search needs
-
-cast-whole : tie.Need-cast-whole Inv-loop μ-loop
-cast-whole c = search needs
-
-cast-whole-2 : tie.Need-cast-whole-2 Inv-loop μ-loop
-cast-whole-2 c = search needs
-
 mul-whole : tie.Need-mul-whole Inv-loop μ-loop
 mul-whole c = omega (arith, small (c .before .before .before))
 
 add-whole : tie.Need-add-whole Inv-loop μ-loop
 add-whole c = omega (arith, small (c .before .before .before), c .before .before .before .before .before .before .before .before .before .loop .inv .1, c .before .before .before .before .before .before .before .before .before .loop .inv .0 .inside, c .before .before .before .before .before .before .before .before .before .before .before .before .before .pre .0 .few)
-
-add-i : tie.Need-add-i Inv-loop μ-loop
-add-i c = search needs
-
-loop-less : tie.Need-loop-less Inv-loop μ-loop
-loop-less c = search needs
 
 loop-again : tie.Need-loop-again Inv-loop μ-loop
 loop-again c =
@@ -165,30 +114,30 @@ begin-spec =
     Inv-loop
     μ-loop
     loop-holds
-    mul-index
-    shared-slice-read-index
-    index-requires
+    (λ c. search needs)
+    (λ c. search needs)
+    (λ c κs. search needs)
     row-at-requires
     quotient-requires
-    mul-notes
-    element-write-notes
-    add-notes
-    mul-notes-2
-    element-write-notes-2
+    (λ c. search needs)
+    (λ c. search needs)
+    (λ c. search needs)
+    (λ c. search needs)
+    (λ c. search needs)
     mul-notes-3
     sub-notes
-    add-notes-2
-    mul-notes-4
-    element-write-notes-3
+    (λ c. search needs)
+    (λ c. search needs)
+    (λ c. search needs)
     phase-of-requires
     sub-waits
-    mul-waits
-    element-write-waits
-    cast-whole
-    cast-whole-2
+    (λ c. search needs)
+    (λ c. search needs)
+    (λ c. search needs)
+    (λ c. search needs)
     mul-whole
     add-whole
-    add-i
-    loop-less
+    (λ c. search needs)
+    (λ c. search needs)
     loop-again
     returns)

@@ -34,15 +34,6 @@ Inv-loop rows prepared part end n first notes waits₀ whole alignment₀ work�
 abbrev μ-loop : tie.MeasureT-loop
 μ-loop rows prepared part end n first notes waits₀ whole alignment₀ work₀ count₀ gap₀ a₀ waits alignment work count gap a = end - a
 
-next-alignment-requires : tie.Need-next-alignment-requires Inv-loop μ-loop
-next-alignment-requires c κs = search needs
-
-enum-known-found : tie.Need-enum-known-found Inv-loop μ-loop
-enum-known-found c = search needs
-
-enum-told : tie.Need-enum-told Inv-loop μ-loop
-enum-told c = search needs
-
 returns : tie.Need-returns Inv-loop μ-loop
 unfolding greatest orEmpty
 returns c =
@@ -79,9 +70,6 @@ visit-requires c κs =
     let b = c .before .before .before .begin .ensures in
     let s = c .before .before .before .before .before .before .before .before .before .before .before .before .before in
     (s .pre .0, ((l .inv .4, l .inv .0 .inside, s .pre .1 .0), (b .1 .1 .0, l .inv .5)))
-
-cast-visited : tie.Need-cast-visited Inv-loop μ-loop
-cast-visited c = search needs
 
 -- the visit's work
 visits : (c : tie.After-visit Inv-loop μ-loop)
@@ -172,14 +160,14 @@ best-alignment-spec =
     (tie.spec
     Inv-loop
     μ-loop
-    next-alignment-requires
-    enum-known-found
-    enum-told
+    (λ c κs. search needs)
+    (λ c. search needs)
+    (λ c. search needs)
     returns
     begin-requires
     loop-holds
     visit-requires
-    cast-visited
+    (λ c. search needs)
     add-visited
     add-count
     add-if2

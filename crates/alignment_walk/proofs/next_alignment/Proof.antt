@@ -1,5 +1,5 @@
 -- The loop goes through the rows and keeps the least next release, cut at the end.
-use Prim.Native.Nat.{ℕ, _+_, _-_, max}
+use Prim.Native.Nat.{_-_, max}
 use mathlib.Core.Path.{sym, ap, _∙_}
 use native.Mathlib.Omega.{arith}
 use native.Mathlib.Nat.{sub-self, max-zero, zero-max}
@@ -24,15 +24,6 @@ abbrev μ-loop : tie.MeasureT-loop
 loop-holds : tie.Need-loop-holds Inv-loop μ-loop
 loop-holds c = through-start _ _ _ _ (rw sub-self (zero-max _))
 
-mul-index : tie.Need-mul-index Inv-loop μ-loop
-mul-index c = search needs
-
-shared-slice-read-index : tie.Need-shared-slice-read-index Inv-loop μ-loop
-shared-slice-read-index c = search needs
-
-index-requires : tie.Need-index-requires Inv-loop μ-loop
-index-requires c κs = search needs
-
 row-at-requires : tie.Need-row-at-requires Inv-loop μ-loop
 row-at-requires c κs = c .before .before .before .before .before .before .before .pre .0 .filled
 
@@ -40,15 +31,6 @@ next-release-requires : tie.Need-next-release-requires Inv-loop μ-loop
 next-release-requires c κs =
     let s = c .before .before .before .before .before .before .before .before in
     (part-fine (s .pre .0) (c .before .before .before .loop-test .taken) (c .row-at .ensures ∙ ap (row (tableOf (s .args .rows .now) (s .args .prepared .now))) (c .before .index .ensures)), omega (arith, s .pre .1))
-
-lesser-requires : tie.Need-lesser-requires Inv-loop μ-loop
-lesser-requires c κs = search needs
-
-add-i : tie.Need-add-i Inv-loop μ-loop
-add-i c = search needs
-
-loop-less : tie.Need-loop-less Inv-loop μ-loop
-loop-less c = search needs
 
 loop-again : tie.Need-loop-again Inv-loop μ-loop
 loop-again c =
@@ -77,14 +59,14 @@ next-alignment-spec =
     Inv-loop
     μ-loop
     loop-holds
-    mul-index
-    shared-slice-read-index
-    index-requires
+    (λ c. search needs)
+    (λ c. search needs)
+    (λ c κs. search needs)
     row-at-requires
     next-release-requires
-    lesser-requires
-    add-i
-    loop-less
+    (λ c κs. search needs)
+    (λ c. search needs)
+    (λ c. search needs)
     loop-again
     returns
     returns-2)

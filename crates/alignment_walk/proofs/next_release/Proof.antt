@@ -1,20 +1,12 @@
 -- The next release is small.
 use Prim.Native.Nat.{ℕ, _+_, _*_, _≤_}
-use mathlib.Core.Path.{ap, ap₂, _∙_}
+use mathlib.Core.Path.{ap, _∙_}
 use native.Mathlib.Omega.{arith}
 use borrow.Author.Needs.{needs}
 use Rattle.arith.specs.laws.Releases.{count-short}
-use Rattle.bus_model.specs.Bounds.{phase}
-use Rattle.bus_model.specs.declared.Frame.{Frame}
 use Rattle.arith.specs.Releases.{releasesBefore}
 use Rattle.alignment_walk.proofs.next_release.Statement.{statement}
 use Rattle.alignment_walk.proofs.next_release.Tie as tie
-
-phase-of-requires : tie.Need-phase-of-requires
-phase-of-requires c κs = search needs
-
-releases-before-requires : tie.Need-releases-before-requires
-releases-before-requires c κs = search needs
 
 short : (c : tie.After-releases-before) → c .releases-before .result * c .before .before .args .g .period ≤ 2000000
 short c =
@@ -37,8 +29,8 @@ pub next-release-spec : {M : Type 1} → statement M
 next-release-spec =
     tie.close
     (tie.spec
-    phase-of-requires
-    releases-before-requires
+    (λ c κs. search needs)
+    (λ c κs. search needs)
     mul-result
     add-result
     returns)

@@ -27,9 +27,6 @@ Inv-loop rows prepared part gap a n end notes waits₀ extra₀ least₀ i₀ wa
 abbrev μ-loop : tie.MeasureT-loop
 μ-loop rows prepared part gap a n end notes waits₀ extra₀ least₀ i₀ waits extra least i = length part - i
 
-sub-least : tie.Need-sub-least Inv-loop μ-loop
-sub-least c = search needs
-
 loop-holds : tie.Need-loop-holds Inv-loop μ-loop
 loop-holds c =
     let s = c .before .before .before in
@@ -66,34 +63,10 @@ noted c = c .before .loop .inv .5 .each (c .before .loop .i) (omega arith) (c .l
 waited : (c : tie.In-loop Inv-loop μ-loop) → let a = c .before .before .before .before .before .args in getD (c .before .loop .waits) (c .before .loop .i) 0 - a .gap ≡ waitFrom (a .a) (a .a) (frame c)
 waited c = omega (arith, noted c, next-late (fine c) (c .before .before .before .before .before .args .a), c .before .before .before .before .before .pre .1 .0)
 
-mul-wait : tie.Need-mul-wait Inv-loop μ-loop
-mul-wait c = search needs
-
-element-copy-out-wait : tie.Need-element-copy-out-wait Inv-loop μ-loop
-element-copy-out-wait c = search needs
-
 sub-wait : tie.Need-sub-wait Inv-loop μ-loop
 sub-wait c =
     let i = c .before in
     omega (arith, noted i, next-late (fine i) (c .before .before .before .before .before .before .args .a), c .before .before .before .before .before .before .pre .1 .0)
-
-add-in-rest : tie.Need-add-in-rest Inv-loop μ-loop
-add-in-rest c = search needs
-
-mul-in-rest : tie.Need-mul-in-rest Inv-loop μ-loop
-mul-in-rest c = search needs
-
-element-copy-out-in-rest : tie.Need-element-copy-out-in-rest Inv-loop μ-loop
-element-copy-out-in-rest c = search needs
-
-mul-in-rest-2 : tie.Need-mul-in-rest-2 Inv-loop μ-loop
-mul-in-rest-2 c = search needs
-
-element-copy-out-in-rest-2 : tie.Need-element-copy-out-in-rest-2 Inv-loop μ-loop
-element-copy-out-in-rest-2 c = search needs
-
-in-rest-requires : tie.Need-in-rest-requires Inv-loop μ-loop
-in-rest-requires c κs = search needs
 
 -- what the rest asks for
 extra : (c : tie.After-in-rest Inv-loop μ-loop) → let i = c .before .before .before .before in let s = c .before .before .before .before .before .before .before .before .before in (c .in-rest .result ≡ extraDemand (s .args .a) (s .args .n) (frame i)) × (c .in-rest .result ≤ 400)
@@ -105,33 +78,6 @@ extra c =
 
 add-extra : tie.Need-add-extra Inv-loop μ-loop
 add-extra c = omega (arith, extra (c), c .before .before .before .before .before .loop .inv .2, few (c .before .before .before .before))
-
-add-wait-after : tie.Need-add-wait-after Inv-loop μ-loop
-add-wait-after c = search needs
-
-mul-wait-after : tie.Need-mul-wait-after Inv-loop μ-loop
-mul-wait-after c = search needs
-
-element-copy-out-wait-after : tie.Need-element-copy-out-wait-after Inv-loop μ-loop
-element-copy-out-wait-after c = search needs
-
-wait-after-requires : tie.Need-wait-after-requires Inv-loop μ-loop
-wait-after-requires c κs = search needs
-
-mul-waits : tie.Need-mul-waits Inv-loop μ-loop
-mul-waits c = search needs
-
-element-write-waits : tie.Need-element-write-waits Inv-loop μ-loop
-element-write-waits c = search needs
-
-lesser-requires : tie.Need-lesser-requires Inv-loop μ-loop
-lesser-requires c κs = search needs
-
-add-i : tie.Need-add-i Inv-loop μ-loop
-add-i c = search needs
-
-loop-less : tie.Need-loop-less Inv-loop μ-loop
-loop-less c = search needs
 
 loop-again : tie.Need-loop-again Inv-loop μ-loop
 loop-again c =
@@ -171,26 +117,26 @@ visit-spec =
     (tie.spec
     Inv-loop
     μ-loop
-    sub-least
+    (λ c. search needs)
     loop-holds
-    mul-wait
-    element-copy-out-wait
+    (λ c. search needs)
+    (λ c. search needs)
     sub-wait
-    add-in-rest
-    mul-in-rest
-    element-copy-out-in-rest
-    mul-in-rest-2
-    element-copy-out-in-rest-2
-    in-rest-requires
+    (λ c. search needs)
+    (λ c. search needs)
+    (λ c. search needs)
+    (λ c. search needs)
+    (λ c. search needs)
+    (λ c κs. search needs)
     add-extra
-    add-wait-after
-    mul-wait-after
-    element-copy-out-wait-after
-    wait-after-requires
-    mul-waits
-    element-write-waits
-    lesser-requires
-    add-i
-    loop-less
+    (λ c. search needs)
+    (λ c. search needs)
+    (λ c. search needs)
+    (λ c κs. search needs)
+    (λ c. search needs)
+    (λ c. search needs)
+    (λ c κs. search needs)
+    (λ c. search needs)
+    (λ c. search needs)
     loop-again
     returns)

@@ -15,9 +15,6 @@ product a b g h k =
     let b′ : b / g ≤ 2 ^ 32 - 1 = omega (arith, div-le-self b g) in
     lt-of-le-of-lt (mul-le-mul a′ b′) (lit< tt)
 
-gcd-requires : tie.Need-gcd-requires
-gcd-requires c κs = search needs
-
 div-result : tie.Need-div-result
 div-result c = rw (c .gcd .ensures) (gcd-pos _ _ (c .before .pre .1))
 
@@ -29,4 +26,4 @@ unfolding lcm
 returns c = rw (c .gcd .ensures)
 
 pub lcm-spec : {M : Type 1} → statement M
-lcm-spec = tie.close (tie.spec gcd-requires div-result mul-result returns)
+lcm-spec = tie.close (tie.spec (λ c κs. search needs) div-result mul-result returns)

@@ -5,12 +5,6 @@ use Rattle.arith.specs.Least.{orZero}
 use Rattle.arith.proofs.or_zero.Statement.{statement}
 use Rattle.arith.proofs.or_zero.Tie as tie
 
-enum-known-found : tie.Need-enum-known-found
-enum-known-found c = search needs
-
-enum-told : tie.Need-enum-told
-enum-told c = search needs
-
 returns : tie.Need-returns
 unfolding orZero
 returns c = sym (ap orZero (c .before .found .given .1))
@@ -20,4 +14,4 @@ unfolding orZero
 returns-2 c = sym (ap orZero (c .enum-told .given .1))
 
 pub or-zero-spec : {M : Type 1} → statement M
-or-zero-spec = tie.close (tie.spec enum-known-found enum-told returns returns-2)
+or-zero-spec = tie.close (tie.spec (λ c. search needs) (λ c. search needs) returns returns-2)

@@ -2,7 +2,7 @@
 use Prim.Native.Nat.{ℕ, zero, suc, _+_, _-_, _≤_, _<_}
 use mathlib.Core.Path.{_≡_, refl, sym, ap, subst, _∙_}
 use mathlib.Core.List.{List, [], _∷_, map, List·Memᴰ as Mem}
-use mathlib.Core.Bool.{true, false}
+use mathlib.Core.Bool.{false}
 use native.Mathlib.Omega.{arith}
 use lib.Dec.{T}
 use lib.ListN.{length, getD, set, replicate}
@@ -26,13 +26,12 @@ use Rattle.bus_model.specs.theory.Work.{RefinedBy}
 use Rattle.bus_model.specs.theory.Judged.{has-windows}
 use Rattle.bus_model.specs.theory.Visits.{isAlignment}
 use Rattle.bus_model.specs.theory.Refine.{free}
-use Rattle.bus_model.specs.theory.OpenGroups.{isAny, fixingMore, free-refined, more-refined, more-window}
+use Rattle.bus_model.specs.theory.OpenGroups.{fixingMore, free-refined, more-refined, more-window}
 use Rattle.bus_model.specs.theory.Turns.{turn}
 use Rattle.bus_model.specs.theory.Cases.{in-at, in-none}
-use Rattle.bus_model.specs.theory.FirstCase.{completions, Prefix, prefix-start, prefix-more, case-start, case-last, Trying, try-first, try-take, try-last, try-next}
+use Rattle.bus_model.specs.theory.FirstCase.{completions, prefix-start, prefix-more, case-start, case-last, Trying, try-first, try-take, try-last, try-next}
 use Rattle.workload.specs.Prepared.{FineTable, InTable}
 use Rattle.response_time.specs.Load.{OwnFixed}
-use Rattle.bounds.specs.Search.{OwnOpen}
 use Rattle.bounds.specs.Case.{LeadsTo, caseBy}
 
 -- ---- the own group where it is fixed

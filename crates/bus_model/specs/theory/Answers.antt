@@ -4,7 +4,6 @@ use mathlib.Core.Path.{_≡_, refl, sym, _∙_}
 use mathlib.Core.List.{List, map, List·Memᴰ as Mem}
 use mathlib.Core.Logic.{_↔_}
 use lib.ListN.{length, length-map}
-use Rattle.arith.specs.Lists.{sum}
 use Rattle.arith.specs.laws.Members.{mem-getD}
 use Rattle.arith.specs.laws.Maps.{sum-map}
 use Rattle.bus_model.specs.declared.Frame.{Frame}

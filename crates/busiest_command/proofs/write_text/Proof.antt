@@ -4,30 +4,12 @@ use Rattle.busiest_command.specs.laws.Text.{text-refused, text-done}
 use Rattle.busiest_command.proofs.write_text.Statement.{statement}
 use Rattle.busiest_command.proofs.write_text.Tie as tie
 
-busiest-input-requires : tie.Need-busiest-input-requires
-busiest-input-requires c κs = search needs
-
-enum-known-answer : tie.Need-enum-known-answer
-enum-known-answer c = search needs
-
-write-refusal-requires : tie.Need-write-refusal-requires
-write-refusal-requires c κs = search needs
-
-enum-known-answer-2 : tie.Need-enum-known-answer-2
-enum-known-answer-2 c = search needs
-
-same-length : tie.Need-same-length
-same-length c = search needs
-
 returns : tie.Need-returns
 returns c =
     let a = c .before .before .before .before .before .before .before .before .before .busiest-input .ensures in
     let line = text-refused _ _ _ _ _ _ (a .0) (a .1 .1 .1) _ (c .before .before .before .before .before .answer .given .1) in
     let left = rw (c .before .before .before .before .before .answer .given .1) at (a .1 .0) in
     rw (← line, ← left) (c .before .before .write-refusal .ensures)
-
-same-length-2 : tie.Need-same-length-2
-same-length-2 c = search needs
 
 returns-2 : tie.Need-returns-2
 returns-2 c = let a = c .before .before .before .before .before .busiest-input .ensures in text-done _ _ _ _ _ _ (a .0) (a .1 .1 .1) _ _ (c .before .answer2 .given .1) (a .1 .0)
@@ -36,11 +18,11 @@ pub write-text-spec : {M : Type 1} → statement M
 write-text-spec =
     tie.close
     (tie.spec
-    busiest-input-requires
-    enum-known-answer
-    write-refusal-requires
-    enum-known-answer-2
-    same-length
+    (λ c κs. search needs)
+    (λ c. search needs)
+    (λ c κs. search needs)
+    (λ c. search needs)
+    (λ c. search needs)
     returns
-    same-length-2
+    (λ c. search needs)
     returns-2)

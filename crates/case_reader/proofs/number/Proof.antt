@@ -5,15 +5,6 @@ use Rattle.case_reader.specs.Cases.{numberIn}
 use Rattle.case_reader.proofs.number.Statement.{statement}
 use Rattle.case_reader.proofs.number.Tie as tie
 
-read-requires : tie.Need-read-requires
-read-requires c κs = search needs
-
-enum-known-column : tie.Need-enum-known-column
-enum-known-column c = search needs
-
-enum-told : tie.Need-enum-told
-enum-told c = search needs
-
 returns : tie.Need-returns
 returns c = ap numberIn (sym (c .before .column .given .1) ∙ c .before .before .before .read .ensures)
 
@@ -21,4 +12,4 @@ returns-2 : tie.Need-returns-2
 returns-2 c = ap numberIn (sym (c .enum-told .given .1) ∙ c .before .before .read .ensures)
 
 pub number-spec : {M : Type 1} → statement M
-number-spec = tie.close (tie.spec read-requires enum-known-column enum-told returns returns-2)
+number-spec = tie.close (tie.spec (λ c κs. search needs) (λ c. search needs) (λ c. search needs) returns returns-2)

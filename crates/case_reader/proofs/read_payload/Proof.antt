@@ -10,21 +10,6 @@ use Rattle.case_reader.proofs.read_payload.Tie as tie
 returns : tie.Need-returns
 returns c = record { room = λ e. absurd (let z : _≡_ {A = ℕ} 0 1 = cc in omega arith); left = λ l. refl; behind = refl }
 
-sub-read-full : tie.Need-sub-read-full
-sub-read-full c = search needs
-
-part-read-full-start : tie.Need-part-read-full-start
-part-read-full-start c = search needs
-
-part-read-full-end : tie.Need-part-read-full-end
-part-read-full-end c = search needs
-
-read-full-requires : tie.Need-read-full-requires
-read-full-requires c κs = search needs
-
-same-length : tie.Need-same-length
-same-length c = search needs
-
 returns-2 : tie.Need-returns-2
 returns-2 c =
     let at-if1 = c .before .before .before .before in
@@ -42,9 +27,9 @@ read-payload-spec =
     tie.close
     (tie.spec
     returns
-    sub-read-full
-    part-read-full-start
-    part-read-full-end
-    read-full-requires
-    same-length
+    (λ c. search needs)
+    (λ c. search needs)
+    (λ c. search needs)
+    (λ c κs. search needs)
+    (λ c. search needs)
     returns-2)

@@ -5,7 +5,6 @@ use mathlib.Core.List.{List, [], _∷_, _++_}
 use borrow.Author.Tests.{lt-ltb, le-ltb}
 use lib.IntN.{ℤ, pos, negℤ}
 use lib.ListN.{length, drop}
-use Rattle.arith.specs.declared.Found.{Found}
 use Rattle.arith.specs.declared.Found.the-variants.{At, Nothing}
 use Rattle.table_checks.specs.declared.Checked.{Checked}
 use Rattle.table_checks.specs.declared.Checked.the-variants.{Passed, Failed}

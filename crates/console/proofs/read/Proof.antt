@@ -17,32 +17,11 @@ within-more (Whole k) n m h w = omega arith
 within-more (Longer k) n m h w = tt
 within-more Unreadable n m h w = tt
 
-fill-requires : tie.Need-fill-requires
-fill-requires c κs = search needs
-
-enum-known-stream : tie.Need-enum-known-stream
-enum-known-stream c = search needs
-
-enum-known-stream-2 : tie.Need-enum-known-stream-2
-enum-known-stream-2 c = search needs
-
-read-rest-requires : tie.Need-read-rest-requires
-read-rest-requires c κs = search needs
-
-enum-told : tie.Need-enum-told
-enum-told c = search needs
-
-same-length : tie.Need-same-length
-same-length c = search needs
-
 returns : tie.Need-returns
 returns c =
     let fill = c .before .before .before .before .before .fill in
     let buffer : List ℕ = fill .last .1 .0 in
     subst (λ (s : Stream). Held s (length buffer)) (c .before .stream .given .1) (fill .ensures)
-
-same-length-2 : tie.Need-same-length-2
-same-length-2 c = search needs
 
 returns-2 : tie.Need-returns-2
 returns-2 c =
@@ -52,24 +31,18 @@ returns-2 c =
     (subst (λ (s : Stream). Held s (length buffer)) (c .before .before .stream2 .given .1) (fill .ensures))
     (c .read-rest .ensures)
 
-same-length-3 : tie.Need-same-length-3
-same-length-3 c = search needs
-
-returns-3 : tie.Need-returns-3
-returns-3 c = search needs
-
 pub read-spec : {M : Type 1} → statement M
 read-spec =
     tie.close
     (tie.spec
-    fill-requires
-    enum-known-stream
-    enum-known-stream-2
-    read-rest-requires
-    enum-told
-    same-length
+    (λ c κs. search needs)
+    (λ c. search needs)
+    (λ c. search needs)
+    (λ c κs. search needs)
+    (λ c. search needs)
+    (λ c. search needs)
     returns
-    same-length-2
+    (λ c. search needs)
     returns-2
-    same-length-3
-    returns-3)
+    (λ c. search needs)
+    (λ c. search needs))

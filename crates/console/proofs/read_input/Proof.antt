@@ -10,30 +10,6 @@ use Rattle.console.specs.Steps.{Within}
 use Rattle.console.proofs.read_input.Statement.{statement}
 use Rattle.console.proofs.read_input.Tie as tie
 
-read-requires : tie.Need-read-requires
-read-requires c κs = search needs
-
-enum-known-stream : tie.Need-enum-known-stream
-enum-known-stream c = search needs
-
-enum-known-stream-2 : tie.Need-enum-known-stream-2
-enum-known-stream-2 c = search needs
-
-print-size-requires : tie.Need-print-size-requires
-print-size-requires c κs = search needs
-
-enum-told : tie.Need-enum-told
-enum-told c = search needs
-
-slice-aggregate-complain : tie.Need-slice-aggregate-complain
-slice-aggregate-complain c = search needs
-
-complain-requires : tie.Need-complain-requires
-complain-requires c κs = search needs
-
-same-length : tie.Need-same-length
-same-length c = search needs
-
 returns : tie.Need-returns
 returns c =
     let read = c .before .before .before .before .before .read in
@@ -41,32 +17,20 @@ returns c =
     let fits = subst (λ (s : Stream). Within s (length buffer)) (c .before .stream .given .1) (read .ensures) in
     (fits, sym (length-take-le _ buffer fits))
 
-same-length-2 : tie.Need-same-length-2
-same-length-2 c = search needs
-
-returns-2 : tie.Need-returns-2
-returns-2 c = search needs
-
-same-length-3 : tie.Need-same-length-3
-same-length-3 c = search needs
-
-returns-3 : tie.Need-returns-3
-returns-3 c = search needs
-
 pub read-input-spec : {M : Type 1} → statement M
 read-input-spec =
     tie.close
     (tie.spec
-    read-requires
-    enum-known-stream
-    enum-known-stream-2
-    print-size-requires
-    enum-told
-    slice-aggregate-complain
-    complain-requires
-    same-length
+    (λ c κs. search needs)
+    (λ c. search needs)
+    (λ c. search needs)
+    (λ c κs. search needs)
+    (λ c. search needs)
+    (λ c. search needs)
+    (λ c κs. search needs)
+    (λ c. search needs)
     returns
-    same-length-2
-    returns-2
-    same-length-3
-    returns-3)
+    (λ c. search needs)
+    (λ c. search needs)
+    (λ c. search needs)
+    (λ c. search needs))

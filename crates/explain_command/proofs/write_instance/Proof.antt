@@ -6,20 +6,8 @@ use Rattle.explain_command.specs.laws.Lines.{instance-written}
 use Rattle.explain_command.proofs.write_instance.Statement.{statement}
 use Rattle.explain_command.proofs.write_instance.Tie as tie
 
-instance-width-requires : tie.Need-instance-width-requires
-instance-width-requires c κs = search needs
-
-sub-write : tie.Need-sub-write
-sub-write c = search needs
-
-part-write-start : tie.Need-part-write-start
-part-write-start c = search needs
-
 part-write-end : tie.Need-part-write-end
 part-write-end c = omega (arith, c .before .before .pre, c .instance-width .ensures .0)
-
-write-requires : tie.Need-write-requires
-write-requires c κs = search needs
 
 slice-write-line : tie.Need-slice-write-line
 slice-write-line c = omega (arith, c .before .before .before .before .before .before .pre, c .before .before .before .before .instance-width .ensures .0)
@@ -36,11 +24,11 @@ pub write-instance-spec : {M : Type 1} → statement M
 write-instance-spec =
     tie.close
     (tie.spec
-    instance-width-requires
-    sub-write
-    part-write-start
+    (λ c κs. search needs)
+    (λ c. search needs)
+    (λ c. search needs)
     part-write-end
-    write-requires
+    (λ c κs. search needs)
     slice-write-line
     same-length
     returns)

@@ -1,5 +1,5 @@
 -- The line is written where it has room, and else the area is left.
-use mathlib.Core.Path.{refl, _∙_}
+use mathlib.Core.Path.{refl}
 use borrow.Author.Needs.{needs}
 use Rattle.table_checks.specs.declared.Checked.the-variants.{Passed}
 use Rattle.frame_table.specs.laws.Areas.{area-short, area-written}
@@ -9,26 +9,8 @@ use Rattle.arith.specs.laws.Overwriting.{begun-none, begun-part}
 use Rattle.explain_command.proofs.write_one.Statement.{statement}
 use Rattle.explain_command.proofs.write_one.Tie as tie
 
-no-room-requires : tie.Need-no-room-requires
-no-room-requires c κs = search needs
-
 returns : tie.Need-returns
 returns c = area-short Passed _ _ _ _ (length-line _ _) refl (c .before .if1 .taken) (c .no-room .ensures)
-
-sub-write-line : tie.Need-sub-write-line
-sub-write-line c = search needs
-
-part-write-line-start : tie.Need-part-write-line-start
-part-write-line-start c = search needs
-
-part-write-line-end : tie.Need-part-write-line-end
-part-write-line-end c = search needs
-
-write-line-requires : tie.Need-write-line-requires
-write-line-requires c κs = search needs
-
-same-length : tie.Need-same-length
-same-length c = search needs
 
 returns-2 : tie.Need-returns-2
 returns-2 c =
@@ -41,11 +23,11 @@ pub write-one-spec : {M : Type 1} → statement M
 write-one-spec =
     tie.close
     (tie.spec
-    no-room-requires
+    (λ c κs. search needs)
     returns
-    sub-write-line
-    part-write-line-start
-    part-write-line-end
-    write-line-requires
-    same-length
+    (λ c. search needs)
+    (λ c. search needs)
+    (λ c. search needs)
+    (λ c κs. search needs)
+    (λ c. search needs)
     returns-2)

@@ -6,33 +6,6 @@ use Rattle.lengths_file.specs.laws.Input.{first-part, second-part}
 use Rattle.explain_command.proofs.write_parts.Statement.{statement}
 use Rattle.explain_command.proofs.write_parts.Tie as tie
 
-lengths-end-requires : tie.Need-lengths-end-requires
-lengths-end-requires c κs = search needs
-
-sub-write-files : tie.Need-sub-write-files
-sub-write-files c = search needs
-
-part-write-files-start : tie.Need-part-write-files-start
-part-write-files-start c = search needs
-
-part-write-files-end : tie.Need-part-write-files-end
-part-write-files-end c = search needs
-
-sub-write-files-2 : tie.Need-sub-write-files-2
-sub-write-files-2 c = search needs
-
-part-write-files-start-2 : tie.Need-part-write-files-start-2
-part-write-files-start-2 c = search needs
-
-part-write-files-end-2 : tie.Need-part-write-files-end-2
-part-write-files-end-2 c = search needs
-
-write-files-requires : tie.Need-write-files-requires
-write-files-requires c κs = search needs
-
-same-length : tie.Need-same-length
-same-length c = search needs
-
 returns : tie.Need-returns
 returns c =
     let xs : List ℕ = c .before .before .before .before .before .before .before .before .before .args .input .now in
@@ -42,13 +15,13 @@ pub write-parts-spec : {M : Type 1} → statement M
 write-parts-spec =
     tie.close
     (tie.spec
-    lengths-end-requires
-    sub-write-files
-    part-write-files-start
-    part-write-files-end
-    sub-write-files-2
-    part-write-files-start-2
-    part-write-files-end-2
-    write-files-requires
-    same-length
+    (λ c κs. search needs)
+    (λ c. search needs)
+    (λ c. search needs)
+    (λ c. search needs)
+    (λ c. search needs)
+    (λ c. search needs)
+    (λ c. search needs)
+    (λ c κs. search needs)
+    (λ c. search needs)
     returns)

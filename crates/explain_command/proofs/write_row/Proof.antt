@@ -1,28 +1,16 @@
 -- A refusal is written as such; a row that is judged has an identifier.
-use Prim.Native.Nat.{_+_, _*_, _/_, _≤_, _<_}
+use Prim.Native.Nat.{_/_, _≤_, _<_}
 use mathlib.Core.Path.{sym, ap, _∙_}
 use native.Mathlib.Omega.{arith}
 use borrow.Author.Needs.{needs}
 use lib.ListN.{length}
-use Rattle.table_checks.specs.Columns.{columns, mostNumbers, identifierColumn}
+use Rattle.table_checks.specs.Columns.{columns, mostNumbers}
 use Rattle.table_checks.specs.laws.Accepted.{accepted-size}
 use Rattle.row_judgement.specs.declared.Explained.{Explained}
 use Rattle.row_judgement.specs.Explain.{explainRow}
 use Rattle.explain_command.specs.laws.Text.{text-refused, text-judged, judged-inside}
 use Rattle.explain_command.proofs.write_row.Statement.{statement}
 use Rattle.explain_command.proofs.write_row.Tie as tie
-
-explain-requires : tie.Need-explain-requires
-explain-requires c κs = search needs
-
-enum-known-judged : tie.Need-enum-known-judged
-enum-known-judged c = search needs
-
-write-refusal-requires : tie.Need-write-refusal-requires
-write-refusal-requires c κs = search needs
-
-enum-known-judged-2 : tie.Need-enum-known-judged-2
-enum-known-judged-2 c = search needs
 
 -- the row stands in the table, which is short
 place : (c : tie.After-known-told2) → (c .before .before .before .before .before .before .args .row < length (c .before .before .before .before .before .before .args .rows .now) / columns) × (length (c .before .before .before .before .before .before .args .rows .now) ≤ mostNumbers)
@@ -41,19 +29,10 @@ mul-identifier-2 c = record { fits = omega (arith, place (c)) }
 shared-slice-read-identifier : tie.Need-shared-slice-read-identifier
 shared-slice-read-identifier c = omega (arith, place (c .before))
 
-write-judged-requires : tie.Need-write-judged-requires
-write-judged-requires c κs = search needs
-
-same-length : tie.Need-same-length
-same-length c = search needs
-
 returns : tie.Need-returns
 returns c =
     let e = c .before .before .write-refusal .ensures in
     rw (← c .before .before .before .before .before .before .before .explain .ensures .0, text-refused _ (c .before .before .before .before .before .before .before .explain .result) _ (c .before .before .before .before .before .judged .given .1)) (e .0, e .1 .0)
-
-same-length-2 : tie.Need-same-length-2
-same-length-2 c = search needs
 
 returns-2 : tie.Need-returns-2
 returns-2 c = rw (← c .before .before .before .before .before .before .before .before .before .explain .ensures .0, text-judged _ (c .before .before .before .before .before .before .before .before .before .explain .result) _ (c .before .before .before .before .before .before .before .judged2 .given .1)) (c .before .before .write-judged .ensures)
@@ -62,16 +41,16 @@ pub write-row-spec : {M : Type 1} → statement M
 write-row-spec =
     tie.close
     (tie.spec
-    explain-requires
-    enum-known-judged
-    write-refusal-requires
-    enum-known-judged-2
+    (λ c κs. search needs)
+    (λ c. search needs)
+    (λ c κs. search needs)
+    (λ c. search needs)
     mul-identifier
     add-identifier
     mul-identifier-2
     shared-slice-read-identifier
-    write-judged-requires
-    same-length
+    (λ c κs. search needs)
+    (λ c. search needs)
     returns
-    same-length-2
+    (λ c. search needs)
     returns-2)

@@ -9,24 +9,6 @@ use Rattle.explain_command.specs.laws.Text.{text-turned}
 use Rattle.explain_command.proofs.write_table.Statement.{statement}
 use Rattle.explain_command.proofs.write_table.Tie as tie
 
-slice-aggregate-read : tie.Need-slice-aggregate-read
-slice-aggregate-read c = search needs
-
-read-requires : tie.Need-read-requires
-read-requires c κs = search needs
-
-enum-known-answer : tie.Need-enum-known-answer
-enum-known-answer c = search needs
-
-of-table-requires : tie.Need-of-table-requires
-of-table-requires c κs = search needs
-
-write-refusal-requires : tie.Need-write-refusal-requires
-write-refusal-requires c κs = search needs
-
-enum-known-answer-2 : tie.Need-enum-known-answer-2
-enum-known-answer-2 c = search needs
-
 -- what was read is the table
 table : (c : tie.After-known-told2) → ReadRows (c .before .before .before .before .before .before .before .before .args .table .now) (c .before .before .before .before .read .last .1 .0) (c .before .answer2 .given .0 .0)
 table c = read-rows _ _ _ refl (c .before .before .before .before .read .ensures .0) _ _ (c .before .before .before .before .read .ensures .1 .0) (c .before .answer2 .given .1)
@@ -40,18 +22,12 @@ slice-aggregate-write-row c = table (c .before) .size
 write-row-requires : tie.Need-write-row-requires
 write-row-requires c κs = table (c .before .before) .accepted
 
-same-length : tie.Need-same-length
-same-length c = search needs
-
 returns : tie.Need-returns
 unfolding explainRead
 returns c =
     let s = c .before .before .before .before .before .before .before .before .before .before .before .before .before in
     let e = c .before .before .write-refusal .ensures in
     rw (read-refused (s .args .table .now) _ _ refl (c .before .before .before .before .before .before .before .before .before .read .ensures .0) _ (c .before .before .before .before .before .before .answer .given .1), ← c .before .before .before .before .of-table .ensures, text-turned (field (fieldsOf (s .args .table .now)) (s .args .row) identifierColumn) (c .before .before .before .before .of-table .result)) (e .0, e .1 .0)
-
-same-length-2 : tie.Need-same-length-2
-same-length-2 c = search needs
 
 returns-2 : tie.Need-returns-2
 unfolding explainRead
@@ -63,16 +39,16 @@ pub write-table-spec : {M : Type 1} → statement M
 write-table-spec =
     tie.close
     (tie.spec
-    slice-aggregate-read
-    read-requires
-    enum-known-answer
-    of-table-requires
-    write-refusal-requires
-    enum-known-answer-2
+    (λ c. search needs)
+    (λ c κs. search needs)
+    (λ c. search needs)
+    (λ c κs. search needs)
+    (λ c κs. search needs)
+    (λ c. search needs)
     array-share-prefix-rows
     slice-aggregate-write-row
     write-row-requires
-    same-length
+    (λ c. search needs)
     returns
-    same-length-2
+    (λ c. search needs)
     returns-2)

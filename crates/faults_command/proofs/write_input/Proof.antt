@@ -5,23 +5,8 @@ use Rattle.certifier.specs.declared.Reply.the-variants.{Answered}
 use Rattle.faults_command.proofs.write_input.Statement.{statement}
 use Rattle.faults_command.proofs.write_input.Tie as tie
 
-read-requires : tie.Need-read-requires
-read-requires c κs = search needs
-
-enum-known-read : tie.Need-enum-known-read
-enum-known-read c = search needs
-
-enum-told : tie.Need-enum-told
-enum-told c = search needs
-
 returns : tie.Need-returns
 returns c = rw (← c .before .before .read .ensures, c .enum-told .given .1) (refl, refl)
-
-write-parts-requires : tie.Need-write-parts-requires
-write-parts-requires c κs = search needs
-
-same-length : tie.Need-same-length
-same-length c = search needs
 
 returns-2 : tie.Need-returns-2
 returns-2 c =
@@ -32,10 +17,10 @@ pub write-input-spec : {M : Type 1} → statement M
 write-input-spec =
     tie.close
     (tie.spec
-    read-requires
-    enum-known-read
-    enum-told
+    (λ c κs. search needs)
+    (λ c. search needs)
+    (λ c. search needs)
     returns
-    write-parts-requires
-    same-length
+    (λ c κs. search needs)
+    (λ c. search needs)
     returns-2)

@@ -7,12 +7,6 @@ use Rattle.frame_length.specs.Crc.{crcStep}
 use Rattle.frame_length.proofs.crc_step.Statement.{statement}
 use Rattle.frame_length.proofs.crc_step.Tie as tie
 
-mul-shifted : tie.Need-mul-shifted
-mul-shifted c = search needs
-
-bit-of-requires : tie.Need-bit-of-requires
-bit-of-requires c κs = search needs
-
 returns : tie.Need-returns
 unfolding crcStep xor
 returns c =
@@ -28,4 +22,4 @@ returns-2 c =
     rw e
 
 pub crc-step-spec : {M : Type 1} → statement M
-crc-step-spec = tie.close (tie.spec mul-shifted bit-of-requires returns returns-2)
+crc-step-spec = tie.close (tie.spec (λ c. search needs) (λ c κs. search needs) returns returns-2)

@@ -14,18 +14,6 @@ use Rattle.frame_length.proofs.measure.Tie as tie
 returns : tie.Need-returns
 returns c = sym (refused-long _ _ _ (c .if1 .taken))
 
-is-identifier-requires : tie.Need-is-identifier-requires
-is-identifier-requires c κs = search needs
-
-send-before-crc-requires : tie.Need-send-before-crc-requires
-send-before-crc-requires c κs = search needs
-
-send-bits-requires : tie.Need-send-bits-requires
-send-bits-requires c κs = search needs
-
-add-t10 : tie.Need-add-t10
-add-t10 c = search needs
-
 returns-2 : tie.Need-returns-2
 unfolding measuredReturns frameReturns isDataFrame frameLength stuffedPart
 returns-2 c =
@@ -50,9 +38,9 @@ measure-spec =
     tie.close
     (tie.spec
     returns
-    is-identifier-requires
-    send-before-crc-requires
-    send-bits-requires
-    add-t10
+    (λ c κs. search needs)
+    (λ c κs. search needs)
+    (λ c κs. search needs)
+    (λ c. search needs)
     returns-2
     returns-3)

@@ -4,9 +4,6 @@ use native.Mathlib.Omega.{arith}
 use Rattle.frame_length.proofs.run_with.Statement.{statement}
 use Rattle.frame_length.proofs.run_with.Tie as tie
 
-add-result : tie.Need-add-result
-add-result c = search needs
-
 returns : tie.Need-returns
 returns c = (rw (c .if1 .taken), omega arith)
 
@@ -14,4 +11,4 @@ returns-2 : tie.Need-returns-2
 returns-2 c = (rw (c .if1 .left), omega arith)
 
 pub run-with-spec : {M : Type 1} → statement M
-run-with-spec = tie.close (tie.spec add-result returns returns-2)
+run-with-spec = tie.close (tie.spec (λ c. search needs) returns returns-2)

@@ -8,12 +8,6 @@ use Rattle.frame_length.specs.laws.Sending.{sent-base, sent-extended}
 use Rattle.frame_length.proofs.send_arbitration.Statement.{statement}
 use Rattle.frame_length.proofs.send_arbitration.Tie as tie
 
-send-bits-requires : tie.Need-send-bits-requires
-send-bits-requires c κs = search needs
-
-send-bit-requires : tie.Need-send-bit-requires
-send-bit-requires c κs = search needs
-
 returns : tie.Need-returns
 unfolding arbitration
 returns c =
@@ -21,21 +15,6 @@ returns c =
       rw (eq-eqb _ _ (c .before .before .if1 .taken)) (rw (c .before .send-bits .ensures .0) at (c .send-bit .ensures .0) ∙ sent-base (a .s) (a .identifier)),
       omega arith,
     )
-
-send-bits-requires-2 : tie.Need-send-bits-requires-2
-send-bits-requires-2 c κs = search needs
-
-send-bit-requires-2 : tie.Need-send-bit-requires-2
-send-bit-requires-2 c κs = search needs
-
-send-bit-requires-3 : tie.Need-send-bit-requires-3
-send-bit-requires-3 c κs = search needs
-
-send-bits-requires-3 : tie.Need-send-bits-requires-3
-send-bits-requires-3 c κs = search needs
-
-send-bit-requires-4 : tie.Need-send-bit-requires-4
-send-bit-requires-4 c κs = search needs
 
 returns-2 : tie.Need-returns-2
 unfolding arbitration
@@ -56,12 +35,12 @@ pub send-arbitration-spec : {M : Type 1} → statement M
 send-arbitration-spec =
     tie.close
     (tie.spec
-    send-bits-requires
-    send-bit-requires
+    (λ c κs. search needs)
+    (λ c κs. search needs)
     returns
-    send-bits-requires-2
-    send-bit-requires-2
-    send-bit-requires-3
-    send-bits-requires-3
-    send-bit-requires-4
+    (λ c κs. search needs)
+    (λ c κs. search needs)
+    (λ c κs. search needs)
+    (λ c κs. search needs)
+    (λ c κs. search needs)
     returns-2)

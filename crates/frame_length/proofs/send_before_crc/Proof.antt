@@ -5,18 +5,6 @@ use Rattle.frame_length.specs.laws.Sending.{sent-before}
 use Rattle.frame_length.proofs.send_before_crc.Statement.{statement}
 use Rattle.frame_length.proofs.send_before_crc.Tie as tie
 
-send-bit-requires : tie.Need-send-bit-requires
-send-bit-requires c κs = search needs
-
-send-arbitration-requires : tie.Need-send-arbitration-requires
-send-arbitration-requires c κs = search needs
-
-send-control-requires : tie.Need-send-control-requires
-send-control-requires c κs = search needs
-
-send-data-requires : tie.Need-send-data-requires
-send-data-requires c κs = search needs
-
 returns : tie.Need-returns
 returns c =
     let controlled = c .before in
@@ -31,8 +19,8 @@ pub send-before-crc-spec : {M : Type 1} → statement M
 send-before-crc-spec =
     tie.close
     (tie.spec
-    send-bit-requires
-    send-arbitration-requires
-    send-control-requires
-    send-data-requires
+    (λ c κs. search needs)
+    (λ c κs. search needs)
+    (λ c κs. search needs)
+    (λ c κs. search needs)
     returns)

@@ -6,18 +6,6 @@ use Rattle.frame_length.specs.Steps.{sendBit}
 use Rattle.frame_length.proofs.send_bit.Statement.{statement}
 use Rattle.frame_length.proofs.send_bit.Tie as tie
 
-run-with-requires : tie.Need-run-with-requires
-run-with-requires c κs = search needs
-
-crc-step-requires : tie.Need-crc-step-requires
-crc-step-requires c κs = search needs
-
-add-t8 : tie.Need-add-t8
-add-t8 c = search needs
-
-add-t9 : tie.Need-add-t9
-add-t9 c = search needs
-
 returns : tie.Need-returns
 unfolding sendBit
 returns c =
@@ -29,4 +17,4 @@ returns-2 c =
     (rw (← c .before .before .before .run-with .ensures .0, ne-eqb _ _ (c .before .if1 .left), ← c .before .before .crc-step .ensures), omega arith)
 
 pub send-bit-spec : {M : Type 1} → statement M
-send-bit-spec = tie.close (tie.spec run-with-requires crc-step-requires add-t8 add-t9 returns returns-2)
+send-bit-spec = tie.close (tie.spec (λ c κs. search needs) (λ c κs. search needs) (λ c. search needs) (λ c. search needs) returns returns-2)

@@ -20,32 +20,11 @@ abbrev μ-loop : tie.MeasureT-loop
 loop-holds : tie.Need-loop-holds Inv-loop μ-loop
 loop-holds c = (refl, omega arith, refl)
 
-mul-hex-value : tie.Need-mul-hex-value Inv-loop μ-loop
-mul-hex-value c = search needs
-
-shared-slice-read-hex-value : tie.Need-shared-slice-read-hex-value Inv-loop μ-loop
-shared-slice-read-hex-value c = search needs
-
-hex-value-requires : tie.Need-hex-value-requires Inv-loop μ-loop
-hex-value-requires c κs = search needs
-
 mul-bytes : tie.Need-mul-bytes Inv-loop μ-loop
 unfolding Digits
 mul-bytes c =
     let at-loop = c .before .before .before in
     omega (arith, c .hex-value .ensures, at-loop .before .before .before .pre .0 (2 * at-loop .loop .i) (omega arith))
-
-mul-hex-value-2 : tie.Need-mul-hex-value-2 Inv-loop μ-loop
-mul-hex-value-2 c = search needs
-
-add-hex-value : tie.Need-add-hex-value Inv-loop μ-loop
-add-hex-value c = search needs
-
-shared-slice-read-hex-value-2 : tie.Need-shared-slice-read-hex-value-2 Inv-loop μ-loop
-shared-slice-read-hex-value-2 c = search needs
-
-hex-value-requires-2 : tie.Need-hex-value-requires-2 Inv-loop μ-loop
-hex-value-requires-2 c κs = search needs
 
 add-bytes : tie.Need-add-bytes Inv-loop μ-loop
 unfolding Digits
@@ -55,15 +34,6 @@ add-bytes c =
     let digits = at-loop .before .before .before .pre .0 in
     let i = at-loop .loop .i in
     omega (arith, first .hex-value .ensures, digits (2 * i) (omega arith), c .hex-value2 .ensures, digits (2 * i + 1) (omega arith))
-
-slice-write-bytes : tie.Need-slice-write-bytes Inv-loop μ-loop
-slice-write-bytes c = search needs
-
-add-i : tie.Need-add-i Inv-loop μ-loop
-add-i c = search needs
-
-loop-less : tie.Need-loop-less Inv-loop μ-loop
-loop-less c = search needs
 
 loop-again : tie.Need-loop-again Inv-loop μ-loop
 unfolding byteAt
@@ -78,9 +48,6 @@ loop-again c =
       search needs,
     )
 
-same-length : tie.Need-same-length Inv-loop μ-loop
-same-length c = search needs
-
 returns : tie.Need-returns Inv-loop μ-loop
 returns c =
     let l = c .before .loop in
@@ -93,18 +60,18 @@ decode-spec =
     Inv-loop
     μ-loop
     loop-holds
-    mul-hex-value
-    shared-slice-read-hex-value
-    hex-value-requires
+    (λ c. search needs)
+    (λ c. search needs)
+    (λ c κs. search needs)
     mul-bytes
-    mul-hex-value-2
-    add-hex-value
-    shared-slice-read-hex-value-2
-    hex-value-requires-2
+    (λ c. search needs)
+    (λ c. search needs)
+    (λ c. search needs)
+    (λ c κs. search needs)
     add-bytes
-    slice-write-bytes
-    add-i
-    loop-less
+    (λ c. search needs)
+    (λ c. search needs)
+    (λ c. search needs)
     loop-again
-    same-length
+    (λ c. search needs)
     returns)

@@ -7,18 +7,12 @@ use Rattle.frame_length_command.specs.laws.Digits.{between-low}
 use Rattle.frame_length_command.proofs.hex_value.Statement.{statement}
 use Rattle.frame_length_command.proofs.hex_value.Tie as tie
 
-is-between-requires : tie.Need-is-between-requires
-is-between-requires c κs = search needs
-
 sub-result : tie.Need-sub-result
 sub-result c = omega (arith, between-low _ _ _ (sym (c .before .is-between .ensures) ∙ c .if1 .taken))
 
 returns : tie.Need-returns
 unfolding hexValue
 returns c = rw (sym (c .before .is-between .ensures) ∙ c .if1 .taken)
-
-is-between-requires-2 : tie.Need-is-between-requires-2
-is-between-requires-2 c κs = search needs
 
 sub-result-2 : tie.Need-sub-result-2
 sub-result-2 c = omega (arith, between-low _ _ _ (sym (c .before .is-between2 .ensures) ∙ c .if2 .taken))
@@ -28,9 +22,6 @@ unfolding hexValue
 returns-2 c =
     let first = c .before .before in
     rw (sym (first .before .is-between .ensures) ∙ first .if1 .left, sym (c .before .is-between2 .ensures) ∙ c .if2 .taken)
-
-is-between-requires-3 : tie.Need-is-between-requires-3
-is-between-requires-3 c κs = search needs
 
 sub-result-3 : tie.Need-sub-result-3
 sub-result-3 c = omega (arith, between-low _ _ _ (sym (c .before .is-between3 .ensures) ∙ c .if3 .taken))
@@ -61,13 +52,13 @@ pub hex-value-spec : {M : Type 1} → statement M
 hex-value-spec =
     tie.close
     (tie.spec
-    is-between-requires
+    (λ c κs. search needs)
     sub-result
     returns
-    is-between-requires-2
+    (λ c κs. search needs)
     sub-result-2
     returns-2
-    is-between-requires-3
+    (λ c κs. search needs)
     sub-result-3
     returns-3
     returns-4)

@@ -5,9 +5,6 @@ use Rattle.frame_length_command.specs.Command.{isPayload}
 use Rattle.frame_length_command.proofs.is_payload.Statement.{statement}
 use Rattle.frame_length_command.proofs.is_payload.Tie as tie
 
-shared-slice-read-result : tie.Need-shared-slice-read-result
-shared-slice-read-result c = search needs
-
 returns : tie.Need-returns
 unfolding isPayload
 returns c = rw (eq-eqb _ _ (c .before .if1 .taken))
@@ -20,9 +17,6 @@ returns-3 : tie.Need-returns-3
 unfolding isPayload
 returns-3 c = rw (ne-eqb _ _ (c .before .before .if1 .left), ne-eqb _ _ (c .before .if2 .left), ne-eqb _ _ (c .if3 .taken))
 
-is-hex-requires : tie.Need-is-hex-requires
-is-hex-requires c κs = search needs
-
 returns-4 : tie.Need-returns-4
 unfolding isPayload
 returns-4 c =
@@ -32,4 +26,4 @@ returns-4 c =
 pub is-payload-spec : {M : Type 1} → statement M
 is-payload-spec =
     tie.close
-    (tie.spec shared-slice-read-result returns returns-2 returns-3 is-hex-requires returns-4)
+    (tie.spec (λ c. search needs) returns returns-2 returns-3 (λ c κs. search needs) returns-4)

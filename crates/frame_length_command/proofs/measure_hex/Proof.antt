@@ -18,20 +18,8 @@ returns c =
     let a = c .before .before .args in
     sym (refused-long (a .kind) (a .identifier) (payloadOf (a .hex .now)) (omega (arith, length-payload (a .hex .now))))
 
-slice-aggregate-decode : tie.Need-slice-aggregate-decode
-slice-aggregate-decode c = search needs
-
-decode-requires : tie.Need-decode-requires
-decode-requires c κs = search needs
-
-array-share-prefix-bytes : tie.Need-array-share-prefix-bytes
-array-share-prefix-bytes c = search needs
-
 slice-aggregate-measure : tie.Need-slice-aggregate-measure
 slice-aggregate-measure c = simp length-take (omega arith)
-
-measure-requires : tie.Need-measure-requires
-measure-requires c κs = search needs
 
 returns-2 : tie.Need-returns-2
 returns-2 c =
@@ -47,9 +35,9 @@ measure-hex-spec =
     tie.close
     (tie.spec
     returns
-    slice-aggregate-decode
-    decode-requires
-    array-share-prefix-bytes
+    (λ c. search needs)
+    (λ c κs. search needs)
+    (λ c. search needs)
     slice-aggregate-measure
-    measure-requires
+    (λ c κs. search needs)
     returns-2)

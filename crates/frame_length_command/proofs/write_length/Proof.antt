@@ -8,31 +8,10 @@ use Rattle.frame_length_command.specs.laws.Lines.{length-length, length-
 use Rattle.frame_length_command.proofs.write_length.Statement.{statement}
 use Rattle.frame_length_command.proofs.write_length.Tie as tie
 
-no-room-requires : tie.Need-no-room-requires
-no-room-requires c κs = search needs
-
 returns : tie.Need-returns
 returns c =
     let start = c .before .before .before in
     area-short Passed (lengthLine (start .args .length)) (start .args .out .now) _ _ (length-length (start .args .length)) refl (c .before .if1 .taken) (c .no-room .ensures)
-
-sub-write : tie.Need-sub-write
-sub-write c = search needs
-
-part-write-start : tie.Need-part-write-start
-part-write-start c = search needs
-
-part-write-end : tie.Need-part-write-end
-part-write-end c = search needs
-
-write-requires : tie.Need-write-requires
-write-requires c κs = search needs
-
-slice-write-out : tie.Need-slice-write-out
-slice-write-out c = search needs
-
-same-length : tie.Need-same-length
-same-length c = search needs
 
 returns-2 : tie.Need-returns-2
 returns-2 c =
@@ -47,12 +26,12 @@ pub write-length-spec : {M : Type 1} → statement M
 write-length-spec =
     tie.close
     (tie.spec
-    no-room-requires
+    (λ c κs. search needs)
     returns
-    sub-write
-    part-write-start
-    part-write-end
-    write-requires
-    slice-write-out
-    same-length
+    (λ c. search needs)
+    (λ c. search needs)
+    (λ c. search needs)
+    (λ c κs. search needs)
+    (λ c. search needs)
+    (λ c. search needs)
     returns-2)

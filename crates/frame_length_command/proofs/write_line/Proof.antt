@@ -6,27 +6,9 @@ use Rattle.frame_length_command.specs.laws.Digits.{payload-digits}
 use Rattle.frame_length_command.proofs.write_line.Statement.{statement}
 use Rattle.frame_length_command.proofs.write_line.Tie as tie
 
-read-requires : tie.Need-read-requires
-read-requires c κs = search needs
-
-enum-known-first : tie.Need-enum-known-first
-enum-known-first c = search needs
-
-enum-told : tie.Need-enum-told
-enum-told c = search needs
-
 returns : tie.Need-returns
 unfolding replyFor isAsked
 returns c = (rw (← c .before .before .read .ensures, c .enum-told .given .1), refl)
-
-read-requires-2 : tie.Need-read-requires-2
-read-requires-2 c κs = search needs
-
-enum-known-second : tie.Need-enum-known-second
-enum-known-second c = search needs
-
-enum-told-2 : tie.Need-enum-told-2
-enum-told-2 c = search needs
 
 returns-2 : tie.Need-returns-2
 unfolding replyFor isAsked
@@ -35,17 +17,8 @@ returns-2 c =
     let first = second .before .before in
     (rw (← first .before .before .read .ensures, first .first .given .1, ← second .read2 .ensures, c .enum-told2 .given .1), refl)
 
-is-payload-requires : tie.Need-is-payload-requires
-is-payload-requires c κs = search needs
-
 measure-hex-requires : tie.Need-measure-hex-requires
 measure-hex-requires c κs = payload-digits _ (sym (c .before .is-payload .ensures) ∙ c .if1 .taken)
-
-write-measured-requires : tie.Need-write-measured-requires
-write-measured-requires c κs = search needs
-
-same-length : tie.Need-same-length
-same-length c = search needs
 
 returns-3 : tie.Need-returns-3
 unfolding replyFor isAsked lineFor
@@ -86,17 +59,17 @@ pub write-line-spec : {M : Type 1} → statement M
 write-line-spec =
     tie.close
     (tie.spec
-    read-requires
-    enum-known-first
-    enum-told
+    (λ c κs. search needs)
+    (λ c. search needs)
+    (λ c. search needs)
     returns
-    read-requires-2
-    enum-known-second
-    enum-told-2
+    (λ c κs. search needs)
+    (λ c. search needs)
+    (λ c. search needs)
     returns-2
-    is-payload-requires
+    (λ c κs. search needs)
     measure-hex-requires
-    write-measured-requires
-    same-length
+    (λ c κs. search needs)
+    (λ c. search needs)
     returns-3
     returns-4)

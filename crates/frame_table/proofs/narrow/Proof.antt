@@ -16,34 +16,13 @@ abbrev μ-loop : tie.MeasureT-loop
 loop-holds : tie.Need-loop-holds Inv-loop μ-loop
 loop-holds c = (refl, search needs, refl)
 
-mul-rows : tie.Need-mul-rows Inv-loop μ-loop
-mul-rows c = search needs
-
-shared-slice-read-rows : tie.Need-shared-slice-read-rows Inv-loop μ-loop
-shared-slice-read-rows c = search needs
-
 cast-rows : tie.Need-cast-rows Inv-loop μ-loop
 cast-rows c = record { fits = c .before .before .before .pre .1 _ (c .before .loop-test .taken) }
-
-mul-rows-2 : tie.Need-mul-rows-2 Inv-loop μ-loop
-mul-rows-2 c = search needs
-
-slice-write-rows : tie.Need-slice-write-rows Inv-loop μ-loop
-slice-write-rows c = search needs
-
-add-k : tie.Need-add-k Inv-loop μ-loop
-add-k c = search needs
-
-loop-less : tie.Need-loop-less Inv-loop μ-loop
-loop-less c = search needs
 
 loop-again : tie.Need-loop-again Inv-loop μ-loop
 loop-again c =
     let at-loop = c .before .before in
     (over-element _ _ _ _ refl _ _ (at-loop .loop .inv .0) (c .before .loop-test .taken) (search needs) refl, search needs, search needs)
-
-same-length : tie.Need-same-length Inv-loop μ-loop
-same-length c = search needs
 
 returns : tie.Need-returns Inv-loop μ-loop
 returns c = over-all _ _ _ _ refl _ (c .before .loop .inv .0) (c .before .loop .inv .1) (c .loop-test .left)
@@ -55,13 +34,13 @@ narrow-spec =
     Inv-loop
     μ-loop
     loop-holds
-    mul-rows
-    shared-slice-read-rows
+    (λ c. search needs)
+    (λ c. search needs)
     cast-rows
-    mul-rows-2
-    slice-write-rows
-    add-k
-    loop-less
+    (λ c. search needs)
+    (λ c. search needs)
+    (λ c. search needs)
+    (λ c. search needs)
     loop-again
-    same-length
+    (λ c. search needs)
     returns)

@@ -9,15 +9,6 @@ use Rattle.frame_table.specs.laws.Returns.{answer-told}
 use Rattle.frame_table.proofs.read.Statement.{statement}
 use Rattle.frame_table.proofs.read.Tie as tie
 
-check-length-requires : tie.Need-check-length-requires
-check-length-requires c κs = search needs
-
-enum-known-sized : tie.Need-enum-known-sized
-enum-known-sized c = search needs
-
-enum-told : tie.Need-enum-told
-enum-told c = search needs
-
 read-lines-requires : tie.Need-read-lines-requires
 read-lines-requires c κs = sym (c .before .before .before .check-length .ensures .0) ∙ c .before .enum-told .given .1
 
@@ -28,9 +19,6 @@ returns c =
     let file : List ℕ = start .args .file .now in
     answer-told (readCheck file) (fieldsOf file) (start .args .rows .now)
     (rw (← c .before .before .before .check-length .ensures .0, c .before .sized .given .1), refl)
-
-same-length : tie.Need-same-length
-same-length c = search needs
 
 returns-2 : tie.Need-returns-2
 unfolding readCheck
@@ -46,10 +34,10 @@ pub read-spec : {M : Type 1} → statement M
 read-spec =
     tie.close
     (tie.spec
-    check-length-requires
-    enum-known-sized
-    enum-told
+    (λ c κs. search needs)
+    (λ c. search needs)
+    (λ c. search needs)
     read-lines-requires
     returns
-    same-length
+    (λ c. search needs)
     returns-2)

@@ -31,23 +31,14 @@ table-checked file read e same is = is ∙ sized-check read (rw same (fields-siz
 few : (c : tie.Start) → length (c .args .file .now) / lineLength ≤ mostLines
 few c = file-size _ (c .pre) .most
 
-slice-aggregate-read-fields : tie.Need-slice-aggregate-read-fields
-slice-aggregate-read-fields c = search needs
-
 read-fields-requires : tie.Need-read-fields-requires
 read-fields-requires c κs = omega (arith, few (c .before .before .before))
-
-mul-size : tie.Need-mul-size
-mul-size c = search needs
 
 array-share-prefix-fields : tie.Need-array-share-prefix-fields
 array-share-prefix-fields c = let fits = few (c .before .before .before .before .before) in search needs
 
 slice-aggregate-check-fields : tie.Need-slice-aggregate-check-fields
 slice-aggregate-check-fields c = let fits = few (c .before .before .before .before .before .before) in simp length-take (omega arith)
-
-check-fields-requires : tie.Need-check-fields-requires
-check-fields-requires c κs = search needs
 
 array-share-prefix-fields-2 : tie.Need-array-share-prefix-fields-2
 array-share-prefix-fields-2 c = let fits = few (c .before .before .before .before .before .before .before) in search needs
@@ -64,9 +55,6 @@ store-requires c κs =
     storable _ (simp length-take (omega arith)) _
     (table-checked (start .args .file .now) _ (start .pre) (at-checked .before .before .before .read-fields .ensures) (at-checked .check-fields .ensures .0))
 
-same-length : tie.Need-same-length
-same-length c = search needs
-
 returns : tie.Need-returns
 unfolding fieldsOf
 returns c =
@@ -79,14 +67,14 @@ pub read-lines-spec : {M : Type 1} → statement M
 read-lines-spec =
     tie.close
     (tie.spec
-    slice-aggregate-read-fields
+    (λ c. search needs)
     read-fields-requires
-    mul-size
+    (λ c. search needs)
     array-share-prefix-fields
     slice-aggregate-check-fields
-    check-fields-requires
+    (λ c κs. search needs)
     array-share-prefix-fields-2
     slice-aggregate-store
     store-requires
-    same-length
+    (λ c. search needs)
     returns)

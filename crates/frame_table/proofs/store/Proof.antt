@@ -5,15 +5,6 @@ use Rattle.frame_table.specs.laws.Areas.{area-refused, area-short, area-
 use Rattle.frame_table.proofs.store.Statement.{statement}
 use Rattle.frame_table.proofs.store.Tie as tie
 
-enum-known-checked : tie.Need-enum-known-checked
-enum-known-checked c = search needs
-
-enum-told : tie.Need-enum-told
-enum-told c = search needs
-
-no-room-requires : tie.Need-no-room-requires
-no-room-requires c κs = search needs
-
 returns : tie.Need-returns
 returns c = area-short _ _ _ _ _ refl (c .before .before .enum-told .given .1) (c .before .if1 .taken) (c .no-room .ensures)
 
@@ -25,9 +16,6 @@ narrow-requires c κs =
 returns-2 : tie.Need-returns-2
 returns-2 c = area-refused _ _ _ _ _ (c .before .checked .given .1) refl
 
-same-length : tie.Need-same-length
-same-length c = search needs
-
 returns-3 : tie.Need-returns-3
 returns-3 c =
     let at-if1 = c .before .before .before .before in
@@ -37,11 +25,11 @@ pub store-spec : {M : Type 1} → statement M
 store-spec =
     tie.close
     (tie.spec
-    enum-known-checked
-    enum-told
-    no-room-requires
+    (λ c. search needs)
+    (λ c. search needs)
+    (λ c κs. search needs)
     returns
     narrow-requires
     returns-2
-    same-length
+    (λ c. search needs)
     returns-3)

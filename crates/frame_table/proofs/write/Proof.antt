@@ -14,36 +14,12 @@ use Rattle.frame_table.proofs.write.Tie as tie
 passed : (c : tie.After-enum-told) → rowsCheck (c .before .before .before .before .before .args .rows .now) ≡ Passed
 passed c = sym (c .before .before .check .ensures .0) ∙ c .enum-told .given .1
 
-check-requires : tie.Need-check-requires
-check-requires c κs = search needs
-
-enum-known-checked : tie.Need-enum-known-checked
-enum-known-checked c = search needs
-
-enum-told : tie.Need-enum-told
-enum-told c = search needs
-
-mul-if1 : tie.Need-mul-if1
-mul-if1 c = search needs
-
-no-room-requires : tie.Need-no-room-requires
-no-room-requires c κs = search needs
-
 returns : tie.Need-returns
 returns c =
     answer-told _ _ _ (area-short _ _ _ _ _ (length-text _) (passed (c .before .before)) (c .before .if1 .taken) (c .no-room .ensures))
 
-write-lines-requires : tie.Need-write-lines-requires
-write-lines-requires c κs = search needs
-
-mul-t7 : tie.Need-mul-t7
-mul-t7 c = search needs
-
 returns-2 : tie.Need-returns-2
 returns-2 c = answer-told _ _ _ (area-refused _ _ _ _ _ (sym (c .before .before .before .check .ensures .0) ∙ c .before .checked .given .1) refl)
-
-same-length : tie.Need-same-length
-same-length c = search needs
 
 returns-3 : tie.Need-returns-3
 unfolding textOf
@@ -56,14 +32,14 @@ pub write-spec : {M : Type 1} → statement M
 write-spec =
     tie.close
     (tie.spec
-    check-requires
-    enum-known-checked
-    enum-told
-    mul-if1
-    no-room-requires
+    (λ c κs. search needs)
+    (λ c. search needs)
+    (λ c. search needs)
+    (λ c. search needs)
+    (λ c κs. search needs)
     returns
-    write-lines-requires
-    mul-t7
+    (λ c κs. search needs)
+    (λ c. search needs)
     returns-2
-    same-length
+    (λ c. search needs)
     returns-3)

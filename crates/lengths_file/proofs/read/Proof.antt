@@ -12,17 +12,11 @@ use Rattle.lengths_file.proofs.read.Tie as tie
 held : (c : tie.Then1) → isText (c .before .before .before .args .file .now) ≡ true
 held c = sym (c .before .is-text .ensures) ∙ c .if1 .taken
 
-is-text-requires : tie.Need-is-text-requires
-is-text-requires c κs = search needs
-
 line-requires : tie.Need-line-requires
 line-requires c κs = omega (arith, text-size _ (held c))
 
 line-requires-2 : tie.Need-line-requires-2
 line-requires-2 c κs = omega (arith, text-size _ (held (c .before)))
-
-check-lengths-requires : tie.Need-check-lengths-requires
-check-lengths-requires c κs = search needs
 
 returns : tie.Need-returns
 unfolding loaded
@@ -39,9 +33,9 @@ pub read-spec : {M : Type 1} → statement M
 read-spec =
     tie.close
     (tie.spec
-    is-text-requires
+    (λ c κs. search needs)
     line-requires
     line-requires-2
-    check-lengths-requires
+    (λ c κs. search needs)
     returns
     returns-2)

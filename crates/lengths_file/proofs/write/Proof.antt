@@ -14,31 +14,13 @@ use Rattle.lengths_file.proofs.write.Tie as tie
 passed : (c : tie.After-enum-told) → lengthsCheck (c .before .before .before .before .args .lengths) ≡ Passed
 passed c = sym (c .before .before .check-lengths .ensures .0) ∙ c .enum-told .given .1
 
-check-lengths-requires : tie.Need-check-lengths-requires
-check-lengths-requires c κs = search needs
-
-enum-known-checked : tie.Need-enum-known-checked
-enum-known-checked c = search needs
-
-enum-told : tie.Need-enum-told
-enum-told c = search needs
-
-no-room-requires : tie.Need-no-room-requires
-no-room-requires c κs = search needs
-
 returns : tie.Need-returns
 returns c =
     rw (← lengths-returned _) (answer-told _ _ _ (area-short _ _ _ _ _ (length-text _) (passed (c .before .before)) (c .before .if1 .taken) (c .no-room .ensures)))
 
-write-lines-requires : tie.Need-write-lines-requires
-write-lines-requires c κs = search needs
-
 returns-2 : tie.Need-returns-2
 returns-2 c =
     rw (← lengths-returned _) (answer-told _ _ _ (area-refused _ _ _ _ _ (sym (c .before .before .before .check-lengths .ensures .0) ∙ c .before .checked .given .1) refl))
-
-same-length : tie.Need-same-length
-same-length c = search needs
 
 returns-3 : tie.Need-returns-3
 returns-3 c =
@@ -50,12 +32,12 @@ pub write-spec : {M : Type 1} → statement M
 write-spec =
     tie.close
     (tie.spec
-    check-lengths-requires
-    enum-known-checked
-    enum-told
-    no-room-requires
+    (λ c κs. search needs)
+    (λ c. search needs)
+    (λ c. search needs)
+    (λ c κs. search needs)
     returns
-    write-lines-requires
+    (λ c κs. search needs)
     returns-2
-    same-length
+    (λ c. search needs)
     returns-3)

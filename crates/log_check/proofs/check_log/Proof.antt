@@ -7,21 +7,6 @@ use Rattle.log_check.specs.laws.Answer.{told}
 use Rattle.log_check.proofs.check_log.Statement.{statement}
 use Rattle.log_check.proofs.check_log.Tie as tie
 
-check-loaded-requires : tie.Need-check-loaded-requires
-check-loaded-requires c κs = search needs
-
-enum-known-checked : tie.Need-enum-known-checked
-enum-known-checked c = search needs
-
-of-table-requires : tie.Need-of-table-requires
-of-table-requires c κs = search needs
-
-refuse-requires : tie.Need-refuse-requires
-refuse-requires c κs = search needs
-
-enum-told : tie.Need-enum-told
-enum-told c = search needs
-
 check-text-requires : tie.Need-check-text-requires
 check-text-requires c κs = loaded-both _ _ (sym (c .before .before .check-loaded .ensures .0) ∙ c .enum-told .given .1)
 
@@ -39,11 +24,11 @@ pub check-log-spec : {M : Type 1} → statement M
 check-log-spec =
     tie.close
     (tie.spec
-    check-loaded-requires
-    enum-known-checked
-    of-table-requires
-    refuse-requires
-    enum-told
+    (λ c κs. search needs)
+    (λ c. search needs)
+    (λ c κs. search needs)
+    (λ c κs. search needs)
+    (λ c. search needs)
     check-text-requires
     returns
     returns-2)

@@ -8,12 +8,6 @@ use Rattle.log_check.specs.laws.Meaning.{broken-few}
 use Rattle.log_check.proofs.check_text.Statement.{statement}
 use Rattle.log_check.proofs.check_text.Tie as tie
 
-is-missized-requires : tie.Need-is-missized-requires
-is-missized-requires c κs = search needs
-
-refuse-at-requires : tie.Need-refuse-at-requires
-refuse-at-requires c κs = search needs
-
 returns : tie.Need-returns
 unfolding textAnswer
 returns c = rw (← c .before .before .is-missized .ensures, c .before .if1 .taken) (c .refuse-at .ensures)
@@ -21,19 +15,10 @@ returns c = rw (← c .before .before .is-missized .ensures, c .before .if1 .tak
 first-broken-requires : tie.Need-first-broken-requires
 first-broken-requires c κs = sized _ (sym (c .before .is-missized .ensures) ∙ c .if1 .left)
 
-enum-known-broken : tie.Need-enum-known-broken
-enum-known-broken c = search needs
-
 add-refuse-at : tie.Need-add-refuse-at
 add-refuse-at c =
     let most = sized _ (sym (c .before .before .before .before .before .is-missized .ensures) ∙ c .before .before .before .before .if1 .left) in
     omega (arith, broken-few _ most _ (sym (c .before .before .before .first-broken .ensures) ∙ c .before .broken .given .1))
-
-refuse-at-requires-2 : tie.Need-refuse-at-requires-2
-refuse-at-requires-2 c κs = search needs
-
-enum-told : tie.Need-enum-told
-enum-told c = search needs
 
 answer-requires : tie.Need-answer-requires
 answer-requires c κs = (
@@ -68,14 +53,14 @@ pub check-text-spec : {M : Type 1} → statement M
 check-text-spec =
     tie.close
     (tie.spec
-    is-missized-requires
-    refuse-at-requires
+    (λ c κs. search needs)
+    (λ c κs. search needs)
     returns
     first-broken-requires
-    enum-known-broken
+    (λ c. search needs)
     add-refuse-at
-    refuse-at-requires-2
-    enum-told
+    (λ c κs. search needs)
+    (λ c. search needs)
     answer-requires
     returns-2
     returns-3)

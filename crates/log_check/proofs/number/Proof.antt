@@ -4,18 +4,6 @@ use Rattle.log_check.specs.Refusal.{numberOf}
 use Rattle.log_check.proofs.number.Statement.{statement}
 use Rattle.log_check.proofs.number.Tie as tie
 
-enum-known-cause : tie.Need-enum-known-cause
-enum-known-cause c = search needs
-
-number-requires : tie.Need-number-requires
-number-requires c κs = search needs
-
-enum-told : tie.Need-enum-told
-enum-told c = search needs
-
-enum-told-2 : tie.Need-enum-told-2
-enum-told-2 c = search needs
-
 returns : tie.Need-returns
 unfolding numberOf
 returns c = rw (c .before .before .cause .given .1) (c .number .ensures)
@@ -31,4 +19,4 @@ returns-3 c = rw (c .enum-told2 .given .1)
 pub number-spec : {M : Type 1} → statement M
 number-spec =
     tie.close
-    (tie.spec enum-known-cause number-requires enum-told enum-told-2 returns returns-2 returns-3)
+    (tie.spec (λ c. search needs) (λ c κs. search needs) (λ c. search needs) (λ c. search needs) returns returns-2 returns-3)

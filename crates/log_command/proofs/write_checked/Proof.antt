@@ -4,31 +4,10 @@ use Rattle.log_command.specs.laws.Lines.{text-accepted, text-refused}
 use Rattle.log_command.proofs.write_checked.Statement.{statement}
 use Rattle.log_command.proofs.write_checked.Tie as tie
 
-enum-known-outcome : tie.Need-enum-known-outcome
-enum-known-outcome c = search needs
-
-write-refusal-requires : tie.Need-write-refusal-requires
-write-refusal-requires c κs = search needs
-
-enum-told : tie.Need-enum-told
-enum-told c = search needs
-
-slice-aggregate-write-starts : tie.Need-slice-aggregate-write-starts
-slice-aggregate-write-starts c = search needs
-
-write-starts-requires : tie.Need-write-starts-requires
-write-starts-requires c κs = search needs
-
-same-length : tie.Need-same-length
-same-length c = search needs
-
 returns : tie.Need-returns
 returns c =
     let s = c .before .before .before .before .before .before .before .before in
     rw (text-refused (s .args .checked) _ (c .before .before .before .before .before .outcome .given .1)) (c .before .before .write-refusal .ensures)
-
-same-length-2 : tie.Need-same-length-2
-same-length-2 c = search needs
 
 returns-2 : tie.Need-returns-2
 returns-2 c =
@@ -39,12 +18,12 @@ pub write-checked-spec : {M : Type 1} → statement M
 write-checked-spec =
     tie.close
     (tie.spec
-    enum-known-outcome
-    write-refusal-requires
-    enum-told
-    slice-aggregate-write-starts
-    write-starts-requires
-    same-length
+    (λ c. search needs)
+    (λ c κs. search needs)
+    (λ c. search needs)
+    (λ c. search needs)
+    (λ c κs. search needs)
+    (λ c. search needs)
     returns
-    same-length-2
+    (λ c. search needs)
     returns-2)

@@ -3,18 +3,9 @@ use borrow.Author.Needs.{needs}
 use Rattle.log_command.proofs.write_files.Statement.{statement}
 use Rattle.log_command.proofs.write_files.Tie as tie
 
-check-files-requires : tie.Need-check-files-requires
-check-files-requires c κs = search needs
-
-write-checked-requires : tie.Need-write-checked-requires
-write-checked-requires c κs = search needs
-
-same-length : tie.Need-same-length
-same-length c = search needs
-
 returns : tie.Need-returns
 returns c = rw (← c .before .before .before .before .check-files .ensures .1 .1) (c .before .before .write-checked .ensures)
 
 pub write-files-spec : {M : Type 1} → statement M
 write-files-spec =
-    tie.close (tie.spec check-files-requires write-checked-requires same-length returns)
+    tie.close (tie.spec (λ c κs. search needs) (λ c κs. search needs) (λ c. search needs) returns)

@@ -6,33 +6,6 @@ use borrow.Author.Needs.{needs}
 use Rattle.log_command.proofs.write_input.Statement.{statement}
 use Rattle.log_command.proofs.write_input.Tie as tie
 
-lengths-end-requires : tie.Need-lengths-end-requires
-lengths-end-requires c κs = search needs
-
-sub-write-files : tie.Need-sub-write-files
-sub-write-files c = search needs
-
-part-write-files-start : tie.Need-part-write-files-start
-part-write-files-start c = search needs
-
-part-write-files-end : tie.Need-part-write-files-end
-part-write-files-end c = search needs
-
-sub-write-files-2 : tie.Need-sub-write-files-2
-sub-write-files-2 c = search needs
-
-part-write-files-start-2 : tie.Need-part-write-files-start-2
-part-write-files-start-2 c = search needs
-
-part-write-files-end-2 : tie.Need-part-write-files-end-2
-part-write-files-end-2 c = search needs
-
-write-files-requires : tie.Need-write-files-requires
-write-files-requires c κs = search needs
-
-same-length : tie.Need-same-length
-same-length c = search needs
-
 returns : tie.Need-returns
 returns c =
     let e = c .before .before .before .before .before .before in
@@ -43,13 +16,13 @@ pub write-input-spec : {M : Type 1} → statement M
 write-input-spec =
     tie.close
     (tie.spec
-    lengths-end-requires
-    sub-write-files
-    part-write-files-start
-    part-write-files-end
-    sub-write-files-2
-    part-write-files-start-2
-    part-write-files-end-2
-    write-files-requires
-    same-length
+    (λ c κs. search needs)
+    (λ c. search needs)
+    (λ c. search needs)
+    (λ c. search needs)
+    (λ c. search needs)
+    (λ c. search needs)
+    (λ c. search needs)
+    (λ c κs. search needs)
+    (λ c. search needs)
     returns)

@@ -20,40 +20,10 @@ abbrev μ-loop : tie.MeasureT-loop
 loop-holds : tie.Need-loop-holds Inv-loop μ-loop
 loop-holds c = (refl, search needs, refl)
 
-mul-from : tie.Need-mul-from Inv-loop μ-loop
-mul-from c = search needs
-
-add-to : tie.Need-add-to Inv-loop μ-loop
-add-to c = search needs
-
-add-write-line : tie.Need-add-write-line Inv-loop μ-loop
-add-write-line c = search needs
-
-mul-write-line : tie.Need-mul-write-line Inv-loop μ-loop
-mul-write-line c = search needs
-
-shared-slice-read-write-line : tie.Need-shared-slice-read-write-line Inv-loop μ-loop
-shared-slice-read-write-line c = search needs
-
-sub-write-line : tie.Need-sub-write-line Inv-loop μ-loop
-sub-write-line c = search needs
-
-part-write-line-start : tie.Need-part-write-line-start Inv-loop μ-loop
-part-write-line-start c = search needs
-
-part-write-line-end : tie.Need-part-write-line-end Inv-loop μ-loop
-part-write-line-end c = search needs
-
 write-line-requires : tie.Need-write-line-requires Inv-loop μ-loop
 write-line-requires c κs =
     let at-loop = c .before .before .before in
     simp (length-take, length-drop) (omega (arith, at-loop .loop .inv, c .before .before .loop-test .taken, at-loop .before .before .before .pre))
-
-add-i : tie.Need-add-i Inv-loop μ-loop
-add-i c = search needs
-
-loop-less : tie.Need-loop-less Inv-loop μ-loop
-loop-less c = search needs
 
 loop-again : tie.Need-loop-again Inv-loop μ-loop
 unfolding lineOf
@@ -63,9 +33,6 @@ loop-again c =
       search needs,
       search needs,
     )
-
-same-length : tie.Need-same-length Inv-loop μ-loop
-same-length c = search needs
 
 returns : tie.Need-returns Inv-loop μ-loop
 returns c = lines-over (start-lines (c .before .before .before .before .args .starts .now)) _ _ _ _ (c .before .loop .inv .0) (c .before .loop .inv .1) (c .loop-test .left)
@@ -77,17 +44,17 @@ write-lines-spec =
     Inv-loop
     μ-loop
     loop-holds
-    mul-from
-    add-to
-    add-write-line
-    mul-write-line
-    shared-slice-read-write-line
-    sub-write-line
-    part-write-line-start
-    part-write-line-end
+    (λ c. search needs)
+    (λ c. search needs)
+    (λ c. search needs)
+    (λ c. search needs)
+    (λ c. search needs)
+    (λ c. search needs)
+    (λ c. search needs)
+    (λ c. search needs)
     write-line-requires
-    add-i
-    loop-less
+    (λ c. search needs)
+    (λ c. search needs)
     loop-again
-    same-length
+    (λ c. search needs)
     returns)

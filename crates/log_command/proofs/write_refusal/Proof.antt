@@ -3,15 +3,6 @@ use borrow.Author.Needs.{needs}
 use Rattle.log_command.proofs.write_refusal.Statement.{statement}
 use Rattle.log_command.proofs.write_refusal.Tie as tie
 
-number-requires : tie.Need-number-requires
-number-requires c κs = search needs
-
-write-refusal-line-requires : tie.Need-write-refusal-line-requires
-write-refusal-line-requires c κs = search needs
-
-same-length : tie.Need-same-length
-same-length c = search needs
-
 returns : tie.Need-returns
 returns c =
     let at-line = c .before .before in
@@ -20,4 +11,4 @@ returns c =
 
 pub write-refusal-spec : {M : Type 1} → statement M
 write-refusal-spec =
-    tie.close (tie.spec number-requires write-refusal-line-requires same-length returns)
+    tie.close (tie.spec (λ c κs. search needs) (λ c κs. search needs) (λ c. search needs) returns)

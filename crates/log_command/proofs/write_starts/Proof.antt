@@ -8,17 +8,8 @@ use Rattle.log_command.specs.laws.Lines.{length-text}
 use Rattle.log_command.proofs.write_starts.Statement.{statement}
 use Rattle.log_command.proofs.write_starts.Tie as tie
 
-no-room-requires : tie.Need-no-room-requires
-no-room-requires c κs = search needs
-
 returns : tie.Need-returns
 returns c = area-short Passed _ _ _ _ (length-text _) refl (c .before .if1 .taken) (c .no-room .ensures)
-
-write-lines-requires : tie.Need-write-lines-requires
-write-lines-requires c κs = search needs
-
-same-length : tie.Need-same-length
-same-length c = search needs
 
 returns-2 : tie.Need-returns-2
 unfolding startsText
@@ -30,4 +21,4 @@ returns-2 c =
 pub write-starts-spec : {M : Type 1} → statement M
 write-starts-spec =
     tie.close
-    (tie.spec no-room-requires returns write-lines-requires same-length returns-2)
+    (tie.spec (λ c κs. search needs) returns (λ c κs. search needs) (λ c. search needs) returns-2)

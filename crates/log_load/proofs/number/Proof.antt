@@ -4,15 +4,6 @@ use Rattle.log_load.specs.Refusal.{numberOf}
 use Rattle.log_load.proofs.number.Statement.{statement}
 use Rattle.log_load.proofs.number.Tie as tie
 
-enum-known-cause : tie.Need-enum-known-cause
-enum-known-cause c = search needs
-
-number-requires : tie.Need-number-requires
-number-requires c κs = search needs
-
-enum-told : tie.Need-enum-told
-enum-told c = search needs
-
 returns : tie.Need-returns
 unfolding numberOf
 returns c = rw (c .before .before .cause .given .1) (c .number .ensures)
@@ -22,4 +13,4 @@ unfolding numberOf
 returns-2 c = rw (c .enum-told .given .1)
 
 pub number-spec : {M : Type 1} → statement M
-number-spec = tie.close (tie.spec enum-known-cause number-requires enum-told returns returns-2)
+number-spec = tie.close (tie.spec (λ c. search needs) (λ c κs. search needs) (λ c. search needs) returns returns-2)

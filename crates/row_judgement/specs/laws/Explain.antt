@@ -20,7 +20,7 @@ use Rattle.bus_model.specs.Case.{noCase, firstCase, caseOf}
 use Rattle.bus_model.specs.theory.Cases.{Exists, small-just-with-case, case-of-small, case-of-other}
 use Rattle.table_checks.specs.Columns.{columns}
 use Rattle.table_checks.specs.Frames.{framesOf}
-use Rattle.table_checks.specs.Checks.{loadedCheck, Loadable, Accepted}
+use Rattle.table_checks.specs.Checks.{Loadable, Accepted}
 use Rattle.table_checks.specs.Returns.{loadedReturns}
 use Rattle.table_checks.specs.laws.Accepted.{accepted-valid}
 use Rattle.workload.specs.declared.Target.{Target}
@@ -37,7 +37,6 @@ use Rattle.row_judgement.specs.declared.Judged.{Judged}
 use Rattle.row_judgement.specs.declared.Judged.the-variants.{Verdict, NotJudged}
 use Rattle.row_judgement.specs.declared.Explained.{Explained}
 use Rattle.row_judgement.specs.Judge.{claimOf, judgeRow, judgeFaults, certified}
-use Rattle.row_judgement.specs.Returns.{judgedReturns, judgeReturns, judgeFaultsReturns}
 use Rattle.row_judgement.specs.Explain.{caseBeside, beside, explainRow, explainFaults, explainedReturns, explainReturns, explainFaultsReturns}
 use Rattle.row_judgement.specs.Decide.{judgedBy}
 use Rattle.row_judgement.specs.laws.Judged.{row-inside, judged-meets, faults-meets, decided-judge}

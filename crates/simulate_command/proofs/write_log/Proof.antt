@@ -6,27 +6,9 @@ use Rattle.simulate_command.specs.Command.{replyFor, textFor}
 use Rattle.simulate_command.proofs.write_log.Statement.{statement}
 use Rattle.simulate_command.proofs.write_log.Tie as tie
 
-read-requires : tie.Need-read-requires
-read-requires c κs = search needs
-
-enum-known-first : tie.Need-enum-known-first
-enum-known-first c = search needs
-
-enum-told : tie.Need-enum-told
-enum-told c = search needs
-
 returns : tie.Need-returns
 unfolding replyFor
 returns c = rw (← c .before .before .read .ensures, c .enum-told .given .1) (refl, refl)
-
-read-requires-2 : tie.Need-read-requires-2
-read-requires-2 c κs = search needs
-
-enum-known-second : tie.Need-enum-known-second
-enum-known-second c = search needs
-
-enum-told-2 : tie.Need-enum-told-2
-enum-told-2 c = search needs
 
 returns-2 : tie.Need-returns-2
 unfolding replyFor
@@ -42,15 +24,6 @@ returns-3 c =
     let at-lines = at-second .before .before in
     let at-first = at-lines .before .before in
     rw (← at-first .before .before .read .ensures, at-first .first .given .1, ← at-lines .read2 .ensures, at-second .second .given .1, lt-leb _ _ (c .if1 .taken)) (refl, refl)
-
-cast-write-simulated : tie.Need-cast-write-simulated
-cast-write-simulated c = search needs
-
-write-simulated-requires : tie.Need-write-simulated-requires
-write-simulated-requires c κs = search needs
-
-same-length : tie.Need-same-length
-same-length c = search needs
 
 returns-4 : tie.Need-returns-4
 unfolding replyFor textFor
@@ -68,16 +41,16 @@ pub write-log-spec : {M : Type 1} → statement M
 write-log-spec =
     tie.close
     (tie.spec
-    read-requires
-    enum-known-first
-    enum-told
+    (λ c κs. search needs)
+    (λ c. search needs)
+    (λ c. search needs)
     returns
-    read-requires-2
-    enum-known-second
-    enum-told-2
+    (λ c κs. search needs)
+    (λ c. search needs)
+    (λ c. search needs)
     returns-2
     returns-3
-    cast-write-simulated
-    write-simulated-requires
-    same-length
+    (λ c. search needs)
+    (λ c κs. search needs)
+    (λ c. search needs)
     returns-4)

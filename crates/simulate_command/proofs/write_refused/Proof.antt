@@ -9,24 +9,9 @@ use Rattle.simulate_command.specs.laws.Printed.{line-printed}
 use Rattle.simulate_command.proofs.write_refused.Statement.{statement}
 use Rattle.simulate_command.proofs.write_refused.Tie as tie
 
-enum-told : tie.Need-enum-told
-enum-told c = search needs
-
-enum-known-answer : tie.Need-enum-known-answer
-enum-known-answer c = search needs
-
-number-requires : tie.Need-number-requires
-number-requires c κs = search needs
-
-write-refusal-line-requires : tie.Need-write-refusal-line-requires
-write-refusal-line-requires c κs = search needs
-
 returns : tie.Need-returns
 unfolding simulatedReturns answerReturns answerAfter areaPrinted
 returns c = rw (c .enum-told .given .1) (refl, refl)
-
-same-length : tie.Need-same-length
-same-length c = search needs
 
 returns-2 : tie.Need-returns-2
 unfolding simulatedReturns answerReturns
@@ -40,10 +25,10 @@ pub write-refused-spec : {M : Type 1} → statement M
 write-refused-spec =
     tie.close
     (tie.spec
-    enum-told
-    enum-known-answer
-    number-requires
-    write-refusal-line-requires
+    (λ c. search needs)
+    (λ c. search needs)
+    (λ c κs. search needs)
+    (λ c κs. search needs)
     returns
-    same-length
+    (λ c. search needs)
     returns-2)

@@ -4,15 +4,6 @@ use Rattle.simulate_command.specs.laws.Printed.{input-printed}
 use Rattle.simulate_command.proofs.write_simulated.Statement.{statement}
 use Rattle.simulate_command.proofs.write_simulated.Tie as tie
 
-simulate-input-requires : tie.Need-simulate-input-requires
-simulate-input-requires c κs = search needs
-
-write-answer-requires : tie.Need-write-answer-requires
-write-answer-requires c κs = search needs
-
-same-length : tie.Need-same-length
-same-length c = search needs
-
 returns : tie.Need-returns
 returns c =
     let at-answer = c .before .before in
@@ -21,4 +12,4 @@ returns c =
 
 pub write-simulated-spec : {M : Type 1} → statement M
 write-simulated-spec =
-    tie.close (tie.spec simulate-input-requires write-answer-requires same-length returns)
+    tie.close (tie.spec (λ c κs. search needs) (λ c κs. search needs) (λ c. search needs) returns)

@@ -17,22 +17,10 @@ use Rattle.table_checks.proofs.check.Tie as tie
 few : (c : tie.After-enum-told) → length (c .before .before .before .before .args .rows .now) ≤ mostNumbers
 few c = rows-size _ (sym (c .before .before .rows-size .ensures) ∙ c .enum-told .given .1) .most
 
-rows-size-requires : tie.Need-rows-size-requires
-rows-size-requires c κs = search needs
-
-enum-told : tie.Need-enum-told
-enum-told c = search needs
-
-enum-told-2 : tie.Need-enum-told-2
-enum-told-2 c = search needs
-
 returns : tie.Need-returns
 unfolding rowsCheck
 returns c =
     rows-told (c .before .before .before .before .args .rows .now) (rw (← c .before .before .rows-size .ensures, c .enum-told2 .given .1))
-
-slice-aggregate-widen : tie.Need-slice-aggregate-widen
-slice-aggregate-widen c = search needs
 
 widen-requires : tie.Need-widen-requires
 widen-requires c κs = few (c .before)
@@ -60,11 +48,11 @@ pub check-spec : {M : Type 1} → statement M
 check-spec =
     tie.close
     (tie.spec
-    rows-size-requires
-    enum-told
-    enum-told-2
+    (λ c κs. search needs)
+    (λ c. search needs)
+    (λ c. search needs)
     returns
-    slice-aggregate-widen
+    (λ c. search needs)
     widen-requires
     array-share-prefix-fields
     slice-aggregate-table

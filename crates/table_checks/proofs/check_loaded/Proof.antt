@@ -6,23 +6,11 @@ use Rattle.table_checks.specs.laws.Returns.{loaded-told}
 use Rattle.table_checks.proofs.check_loaded.Statement.{statement}
 use Rattle.table_checks.proofs.check_loaded.Tie as tie
 
-check-lengths-requires : tie.Need-check-lengths-requires
-check-lengths-requires c κs = search needs
-
-enum-told : tie.Need-enum-told
-enum-told c = search needs
-
-enum-told-2 : tie.Need-enum-told-2
-enum-told-2 c = search needs
-
 returns : tie.Need-returns
 unfolding loadedCheck
 returns c =
     let a = c .before .before .before .before .args in
     loaded-told (a .lengths) (a .rows .now) (rw (← c .before .before .check-lengths .ensures .0, c .enum-told2 .given .1))
-
-check-requires : tie.Need-check-requires
-check-requires c κs = search needs
 
 returns-2 : tie.Need-returns-2
 unfolding loadedCheck
@@ -31,4 +19,4 @@ returns-2 c =
     loaded-told (a .lengths) (a .rows .now) (simp (sym (c .before .before .before .check-lengths .ensures .0) ∙ c .before .enum-told .given .1) (c .check .ensures .0))
 
 pub check-loaded-spec : {M : Type 1} → statement M
-check-loaded-spec = tie.close (tie.spec check-lengths-requires enum-told enum-told-2 returns check-requires returns-2)
+check-loaded-spec = tie.close (tie.spec (λ c κs. search needs) (λ c. search needs) (λ c. search needs) returns (λ c κs. search needs) returns-2)

@@ -12,9 +12,6 @@ use Rattle.table_checks.specs.laws.Accepted.{accepted-size, accepted-per
 use Rattle.table_checks.proofs.hyperperiod.Statement.{statement}
 use Rattle.table_checks.proofs.hyperperiod.Tie as tie
 
-slice-aggregate-widen : tie.Need-slice-aggregate-widen
-slice-aggregate-widen c = search needs
-
 widen-requires : tie.Need-widen-requires
 widen-requires c κs = accepted-size _ (c .before .before .pre .0) .most
 
@@ -44,7 +41,7 @@ pub hyperperiod-spec : {M : Type 1} → statement M
 hyperperiod-spec =
     tie.close
     (tie.spec
-    slice-aggregate-widen
+    (λ c. search needs)
     widen-requires
     array-share-prefix-fields
     slice-aggregate-bounded-hyperperiod

@@ -7,21 +7,6 @@ use Rattle.test_entries.specs.Encode.{encodeChecked}
 use Rattle.test_entries.proofs.test_check.Statement.{statement}
 use Rattle.test_entries.proofs.test_check.Tie as tie
 
-check-requires : tie.Need-check-requires
-check-requires c κs = search needs
-
-enum-told : tie.Need-enum-told
-enum-told c = search needs
-
-enum-known-checked : tie.Need-enum-known-checked
-enum-known-checked c = search needs
-
-of-table-requires : tie.Need-of-table-requires
-of-table-requires c κs = search needs
-
-encode-refusal-requires : tie.Need-encode-refusal-requires
-encode-refusal-requires c κs = search needs
-
 returns : tie.Need-returns
 unfolding encodeChecked
 returns c = rw (sym (c .before .before .check .ensures .0) ∙ c .enum-told .given .1)
@@ -36,10 +21,10 @@ pub test-check-spec : {M : Type 1} → statement M
 test-check-spec =
     tie.close
     (tie.spec
-    check-requires
-    enum-told
-    enum-known-checked
-    of-table-requires
-    encode-refusal-requires
+    (λ c κs. search needs)
+    (λ c. search needs)
+    (λ c. search needs)
+    (λ c κs. search needs)
+    (λ c κs. search needs)
     returns
     returns-2)

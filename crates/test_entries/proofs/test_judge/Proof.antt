@@ -9,12 +9,6 @@ use Rattle.certifier.specs.Encode.{encodeJudged}
 use Rattle.test_entries.proofs.test_judge.Statement.{statement}
 use Rattle.test_entries.proofs.test_judge.Tie as tie
 
-array-requires : tie.Need-array-requires
-array-requires c κs = search needs
-
-encode-judgement-of-requires : tie.Need-encode-judgement-of-requires
-encode-judgement-of-requires c κs = search needs
-
 returns : tie.Need-returns
 returns c =
     let at-array = c .before in
@@ -23,4 +17,4 @@ returns c =
     ∙ ap (λ (ls : List (List ℕ)). encodeJudged (judgeRow ls (a .rows .now) (a .row))) (at-array .array .ensures)
 
 pub test-judge-spec : {M : Type 1} → statement M
-test-judge-spec = tie.close (tie.spec array-requires encode-judgement-of-requires returns)
+test-judge-spec = tie.close (tie.spec (λ c κs. search needs) (λ c κs. search needs) returns)

@@ -9,15 +9,6 @@ use Rattle.certifier.specs.Encode.{encodeBounded}
 use Rattle.test_entries.proofs.test_precise_bound.Statement.{statement}
 use Rattle.test_entries.proofs.test_precise_bound.Tie as tie
 
-array-requires : tie.Need-array-requires
-array-requires c κs = search needs
-
-precise-bound-requires : tie.Need-precise-bound-requires
-precise-bound-requires c κs = search needs
-
-encode-bounded-requires : tie.Need-encode-bounded-requires
-encode-bounded-requires c κs = search needs
-
 returns : tie.Need-returns
 returns c =
     let at-array = c .before .before in
@@ -27,4 +18,4 @@ returns c =
 
 pub test-precise-bound-spec : {M : Type 1} → statement M
 test-precise-bound-spec =
-    tie.close (tie.spec array-requires precise-bound-requires encode-bounded-requires returns)
+    tie.close (tie.spec (λ c κs. search needs) (λ c κs. search needs) (λ c κs. search needs) returns)

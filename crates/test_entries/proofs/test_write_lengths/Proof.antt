@@ -8,17 +8,8 @@ use Rattle.test_entries.specs.Laws.{lengths-countable}
 use Rattle.test_entries.proofs.test_write_lengths.Statement.{statement}
 use Rattle.test_entries.proofs.test_write_lengths.Tie as tie
 
-array-requires : tie.Need-array-requires
-array-requires c κs = search needs
-
-write-requires : tie.Need-write-requires
-write-requires c κs = search needs
-
 encode-answer-requires : tie.Need-encode-answer-requires
 encode-answer-requires c κs = subst Countable (sym (c .before .before .write .ensures .0)) (lengths-countable _ _)
-
-same-length : tie.Need-same-length
-same-length c = search needs
 
 returns : tie.Need-returns
 returns c =
@@ -29,4 +20,4 @@ returns c =
 
 pub test-write-lengths-spec : {M : Type 1} → statement M
 test-write-lengths-spec =
-    tie.close (tie.spec array-requires write-requires encode-answer-requires same-length returns)
+    tie.close (tie.spec (λ c κs. search needs) (λ c κs. search needs) encode-answer-requires (λ c. search needs) returns)

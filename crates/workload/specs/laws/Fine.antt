@@ -1,5 +1,5 @@
 -- The frames of a table are within the limits that keep the sums small.
-use Prim.Native.Nat.{ℕ, _+_, _≤_, _<_}
+use Prim.Native.Nat.{ℕ, _<_}
 use mathlib.Core.Path.{_≡_, sym, subst}
 use mathlib.Core.List.{List, Memᴰ·map, List·Memᴰ as Mem}
 use native.Mathlib.Omega.{arith}

@@ -3,9 +3,6 @@ use borrow.Author.Needs.{needs}
 use Rattle.worst_case.proofs.turned_back.Statement.{statement}
 use Rattle.worst_case.proofs.turned_back.Tie as tie
 
-no-worst-requires : tie.Need-no-worst-requires
-no-worst-requires c κs = search needs
-
 returns : tie.Need-returns
 returns c = rw (c .no-worst .ensures)
 
@@ -13,5 +10,5 @@ pub turned-back-spec : {M : Type 1} → statement M
 turned-back-spec =
     tie.close
     (tie.spec
-    no-worst-requires
+    (λ c κs. search needs)
     returns)

@@ -10,21 +10,6 @@ use Rattle.worst_case.specs.laws.Answer.{worst-told, worst-refused, wors
 use Rattle.worst_case.proofs.worst.Statement.{statement}
 use Rattle.worst_case.proofs.worst.Tie as tie
 
-check-loaded-requires : tie.Need-check-loaded-requires
-check-loaded-requires c κs = search needs
-
-enum-known-checked : tie.Need-enum-known-checked
-enum-known-checked c = search needs
-
-of-table-requires : tie.Need-of-table-requires
-of-table-requires c κs = search needs
-
-turned-back-requires : tie.Need-turned-back-requires
-turned-back-requires c κs = search needs
-
-enum-told : tie.Need-enum-told
-enum-told c = search needs
-
 -- the table passed
 passed : (c : tie.After-enum-told) → loadedCheck (c .before .before .before .before .args .lengths) (c .before .before .before .before .args .rows .now) ≡ Passed
 passed c = sym (c .before .before .check-loaded .ensures .0) ∙ c .enum-told .given .1
@@ -48,11 +33,11 @@ pub worst-spec : {M : Type 1} → statement M
 worst-spec =
     tie.close
     (tie.spec
-    check-loaded-requires
-    enum-known-checked
-    of-table-requires
-    turned-back-requires
-    enum-told
+    (λ c κs. search needs)
+    (λ c. search needs)
+    (λ c κs. search needs)
+    (λ c κs. search needs)
+    (λ c. search needs)
     worst-of-rows-requires
     returns
     returns-2)

@@ -5,9 +5,6 @@ use Rattle.worst_case.specs.Answer.{judgedLast}
 use Rattle.worst_case.proofs.worst_of_rows.Statement.{statement}
 use Rattle.worst_case.proofs.worst_of_rows.Tie as tie
 
-last-row-requires : tie.Need-last-row-requires
-last-row-requires c κs = search needs
-
 judge-row-requires : tie.Need-judge-row-requires
 judge-row-requires c κs = (c .before .before .pre, (c .last-row .ensures .1, fine-never))
 
@@ -22,7 +19,7 @@ pub worst-of-rows-spec : {M : Type 1} → statement M
 worst-of-rows-spec =
     tie.close
     (tie.spec
-    last-row-requires
+    (λ c κs. search needs)
     judge-row-requires
     worst-row-requires
     returns)

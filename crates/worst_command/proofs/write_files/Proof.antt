@@ -6,18 +6,6 @@ use Rattle.lengths_file.specs.laws.Input.{ReadLengths, lengths-read, lengths-re
 use Rattle.worst_command.proofs.write_files.Statement.{statement}
 use Rattle.worst_command.proofs.write_files.Tie as tie
 
-read-requires : tie.Need-read-requires
-read-requires c κs = search needs
-
-enum-known-checked : tie.Need-enum-known-checked
-enum-known-checked c = search needs
-
-enum-told : tie.Need-enum-told
-enum-told c = search needs
-
-lengths-of-requires : tie.Need-lengths-of-requires
-lengths-of-requires c κs = search needs
-
 -- the lengths of the file
 loaded : (c : tie.After-lengths-of) → ReadLengths (c .before .before .before .before .before .before .before .args .lengths .now) (c .before .before .before .before .before .before .before .args .table .now) (c .lengths-of .result)
 loaded c = lengths-read _ _ (c .before .before .before .read .ensures .0) (c .before .enum-told .given .1) (c .lengths-of .ensures)
@@ -28,9 +16,6 @@ write-table-requires c κs = loaded (c .before) .loadable
 returns : tie.Need-returns
 returns c = area-refused _ _ _ _ _ (lengths-refused _ _ (c .before .before .before .read .ensures .0) (c .before .checked .given .1)) refl
 
-same-length : tie.Need-same-length
-same-length c = search needs
-
 returns-2 : tie.Need-returns-2
 returns-2 c =
     let l = loaded (c .before .before .before .before) in
@@ -40,11 +25,11 @@ pub write-files-spec : {M : Type 1} → statement M
 write-files-spec =
     tie.close
     (tie.spec
-    read-requires
-    enum-known-checked
-    enum-told
-    lengths-of-requires
+    (λ c κs. search needs)
+    (λ c. search needs)
+    (λ c. search needs)
+    (λ c κs. search needs)
     write-table-requires
     returns
-    same-length
+    (λ c. search needs)
     returns-2)

@@ -5,17 +5,11 @@ use Rattle.worst_command.specs.Command.{textOf}
 use Rattle.worst_command.proofs.write_last.Statement.{statement}
 use Rattle.worst_command.proofs.write_last.Tie as tie
 
-last-row-requires : tie.Need-last-row-requires
-last-row-requires c κs = search needs
-
 worst-row-requires : tie.Need-worst-row-requires
 worst-row-requires c κs = (c .before .before .before .pre, c .last-row .ensures .1)
 
 write-with-requires : tie.Need-write-with-requires
 write-with-requires c κs = (c .before .before .before .before .before .pre, rw (length-frames (c .before .before .before .before .before .args .lengths) (c .before .before .before .before .before .args .rows .now)) at (c .before .before .last-row .ensures .1))
-
-same-length : tie.Need-same-length
-same-length c = search needs
 
 returns : tie.Need-returns
 unfolding textOf
@@ -25,8 +19,8 @@ pub write-last-spec : {M : Type 1} → statement M
 write-last-spec =
     tie.close
     (tie.spec
-    last-row-requires
+    (λ c κs. search needs)
     worst-row-requires
     write-with-requires
-    same-length
+    (λ c. search needs)
     returns)

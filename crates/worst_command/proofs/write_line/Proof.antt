@@ -12,28 +12,13 @@ use Rattle.worst_command.specs.laws.Text.{length-alone, alone-written}
 use Rattle.worst_command.proofs.write_line.Statement.{statement}
 use Rattle.worst_command.proofs.write_line.Tie as tie
 
-no-room-requires : tie.Need-no-room-requires
-no-room-requires c κs = search needs
-
 returns : tie.Need-returns
 returns c =
     let a = c .before .before .before .before .args in
     area-short Passed (lineOf Never (a .lengths) (a .rows .now) (a .i)) (a .out .now) _ _ (length-alone (a .lengths) (a .rows .now) (a .i)) refl (c .before .if1 .taken) (c .no-room .ensures)
 
-sub-write-row : tie.Need-sub-write-row
-sub-write-row c = search needs
-
-part-write-row-start : tie.Need-part-write-row-start
-part-write-row-start c = search needs
-
-part-write-row-end : tie.Need-part-write-row-end
-part-write-row-end c = search needs
-
 write-row-requires : tie.Need-write-row-requires
 write-row-requires c κs = let p = c .before .before .before .before .pre in (p .0, (fine-never, (p .1, simp (length-take, length-drop) (omega (arith, c .before .if1 .left)))))
-
-same-length : tie.Need-same-length
-same-length c = search needs
 
 returns-2 : tie.Need-returns-2
 returns-2 c =
@@ -44,11 +29,11 @@ pub write-line-spec : {M : Type 1} → statement M
 write-line-spec =
     tie.close
     (tie.spec
-    no-room-requires
+    (λ c κs. search needs)
     returns
-    sub-write-row
-    part-write-row-start
-    part-write-row-end
+    (λ c. search needs)
+    (λ c. search needs)
+    (λ c. search needs)
     write-row-requires
-    same-length
+    (λ c. search needs)
     returns-2)

@@ -6,18 +6,6 @@ use Rattle.frame_table.specs.laws.Reading.{ReadRows, read-rows, read-refused}
 use Rattle.worst_command.proofs.write_table.Statement.{statement}
 use Rattle.worst_command.proofs.write_table.Tie as tie
 
-slice-aggregate-read : tie.Need-slice-aggregate-read
-slice-aggregate-read c = search needs
-
-read-requires : tie.Need-read-requires
-read-requires c κs = search needs
-
-enum-told : tie.Need-enum-told
-enum-told c = search needs
-
-enum-known-answer : tie.Need-enum-known-answer
-enum-known-answer c = search needs
-
 -- the table of the file
 read : (c : tie.After-known-told) → ReadRows (c .before .before .before .before .before .before .before .before .args .table .now) (c .before .before .before .before .read .last .1 .0) (c .before .answer .given .0 .0)
 read c = read-rows _ _ _ refl (c .before .before .before .before .read .ensures .0) _ _ (c .before .before .before .before .read .ensures .1 .0) (c .before .answer .given .1)
@@ -34,9 +22,6 @@ write-last-requires c κs = (c .before .before .before .before .before .before .
 returns : tie.Need-returns
 returns c = area-refused _ _ _ _ _ (read-refused _ _ _ refl (c .before .before .before .read .ensures .0) _ (c .enum-told .given .1)) (c .enum-told .given .1)
 
-same-length : tie.Need-same-length
-same-length c = search needs
-
 returns-2 : tie.Need-returns-2
 returns-2 c =
     let table = read (c .before .before .before .before .before) in
@@ -46,13 +31,13 @@ pub write-table-spec : {M : Type 1} → statement M
 write-table-spec =
     tie.close
     (tie.spec
-    slice-aggregate-read
-    read-requires
-    enum-told
-    enum-known-answer
+    (λ c. search needs)
+    (λ c κs. search needs)
+    (λ c. search needs)
+    (λ c. search needs)
     array-share-prefix-rows
     slice-aggregate-write-last
     write-last-requires
     returns
-    same-length
+    (λ c. search needs)
     returns-2)

@@ -16,12 +16,6 @@ add-next-of c =
 next-of-requires : tie.Need-next-of-requires
 next-of-requires c κs = let p = c .before .before .pre in (p .0, (p .1 .0, p .1 .1, omega (arith, p .1 .2)))
 
-enum-told : tie.Need-enum-told
-enum-told c = search needs
-
-enum-told-2 : tie.Need-enum-told-2
-enum-told-2 c = search needs
-
 returns : tie.Need-returns
 unfolding isNone
 returns c = ap isNone (sym (c .enum-told .given .1) ∙ c .before .before .next-of .ensures)
@@ -36,7 +30,7 @@ is-last-spec =
     (tie.spec
     add-next-of
     next-of-requires
-    enum-told
-    enum-told-2
+    (λ c. search needs)
+    (λ c. search needs)
     returns
     returns-2)

@@ -1,5 +1,5 @@
 -- The rows handed on are those of the group, whose instants are its alignments and whose cycle is the end.
-use Prim.Native.Nat.{ℕ, _+_, _-_, _≤_, _<_}
+use Prim.Native.Nat.{ℕ, _+_, _-_, _<_}
 use mathlib.Core.Path.{_≡_, ap, _∙_}
 use native.Mathlib.Omega.{arith}
 use borrow.Author.Needs.{needs}
@@ -11,9 +11,6 @@ use Rattle.workload.specs.laws.Fine.{group-fine}
 use Rattle.workload.specs.laws.Groups.{cycle-small, read-cycle, read-search}
 use Rattle.bounds.proofs.alignments.next_of.Statement.{statement}
 use Rattle.bounds.proofs.alignments.next_of.Tie as tie
-
-sub-at : tie.Need-sub-at
-sub-at c = search needs
 
 -- the group's place
 less : (s : tie.Start) → s .args .group - 1 < 16
@@ -46,7 +43,7 @@ pub next-of-spec : {M : Type 1} → statement M
 next-of-spec =
     tie.close
     (tie.spec
-    sub-at
+    (λ c. search needs)
     part-of-requires
     cycle-of-requires
     next-alignment-requires

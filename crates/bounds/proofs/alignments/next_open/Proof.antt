@@ -1,15 +1,10 @@
 -- Where k's own group is fixed, the loop looks for the least open one.
-use Prim.Native.Nat.{ℕ, _+_, _-_, _<_}
+use Prim.Native.Nat.{_+_, _-_}
 use mathlib.Core.Path.{_≡_, refl, sym, ap, _∙_}
-use mathlib.Core.Bool.{true, false}
 use native.Mathlib.Omega.{arith}
-use native.Mathlib.Numerals.{add-one}
 use borrow.Author.Needs.{needs}
-use lib.ListN.{length, getD}
 use Rattle.arith.specs.Least.{least}
-use Rattle.arith.specs.declared.Found.the-variants.{At, Nothing}
 use Rattle.arith.specs.laws.Least.{least-here, least-end, least-skip}
-use Rattle.bus_model.specs.Bounds.{choiceOf}
 use Rattle.bus_model.specs.theory.OpenGroups.{isAny, isOpen, nextOpen}
 use Rattle.workload.specs.laws.Groups.{read-choice}
 use Rattle.bounds.proofs.alignments.next_open.Statement.{statement}
@@ -24,17 +19,8 @@ abbrev μ-loop : tie.MeasureT-loop
 sub-at : tie.Need-sub-at Inv-loop μ-loop
 sub-at c = omega (arith, c .before .pre .group-low)
 
-cast-at : tie.Need-cast-at Inv-loop μ-loop
-cast-at c = search needs
-
-mul-own : tie.Need-mul-own Inv-loop μ-loop
-mul-own c = search needs
-
 array-copy-out-own : tie.Need-array-copy-out-own Inv-loop μ-loop
 array-copy-out-own c = omega (arith, c .before .pre .group-low, c .before .pre .group-high)
-
-is-open-requires : tie.Need-is-open-requires Inv-loop μ-loop
-is-open-requires c κs = search needs
 
 -- what is asked of k's own group
 own-is : (c : tie.After-is-open Inv-loop μ-loop) → c .is-open .result ≡ isOpen (c .before .before .before .args .t2) (c .before .before .before .args .k .group)
@@ -47,21 +33,6 @@ returns c = rw (sym (own-is (c .before)) ∙ c .if1 .taken)
 loop-holds : tie.Need-loop-holds Inv-loop μ-loop
 loop-holds c = refl
 
-mul-choice : tie.Need-mul-choice Inv-loop μ-loop
-mul-choice c = search needs
-
-array-copy-out-choice : tie.Need-array-copy-out-choice Inv-loop μ-loop
-array-copy-out-choice c = search needs
-
-is-open-requires-2 : tie.Need-is-open-requires-2 Inv-loop μ-loop
-is-open-requires-2 c κs = search needs
-
-add-t20 : tie.Need-add-t20 Inv-loop μ-loop
-add-t20 c = search needs
-
-cast-t21 : tie.Need-cast-t21 Inv-loop μ-loop
-cast-t21 c = search needs
-
 -- what is asked of the group that the loop stands at
 group-is : (c : tie.After-is-open2 Inv-loop μ-loop) → c .is-open2 .result ≡ isOpen (c .before .before .before .before .before .before .before .before .args .t2) (c .before .before .before .loop .j + 1)
 group-is c =
@@ -73,12 +44,6 @@ unfolding nextOpen
 returns-2 c =
     let l = c .before .before .before .before .loop in
     rw (sym (own-is (c .before .before .before .before .before .before)) ∙ c .before .before .before .before .before .if1 .left) (sym (least-here (isOpen (c .before .before .before .before .before .before .before .before .before .args .t2)) 17 (l .j + 1) (omega (arith, c .before .before .before .loop-test .taken)) (rw (← group-is (c .before), c .if2 .taken) tt)) ∙ l .inv)
-
-add-j : tie.Need-add-j Inv-loop μ-loop
-add-j c = search needs
-
-loop-less : tie.Need-loop-less Inv-loop μ-loop
-loop-less c = search needs
 
 loop-again : tie.Need-loop-again Inv-loop μ-loop
 loop-again c =
@@ -98,19 +63,19 @@ next-open-spec =
     Inv-loop
     μ-loop
     sub-at
-    cast-at
-    mul-own
+    (λ c. search needs)
+    (λ c. search needs)
     array-copy-out-own
-    is-open-requires
+    (λ c κs. search needs)
     returns
     loop-holds
-    mul-choice
-    array-copy-out-choice
-    is-open-requires-2
-    add-t20
-    cast-t21
+    (λ c. search needs)
+    (λ c. search needs)
+    (λ c κs. search needs)
+    (λ c. search needs)
+    (λ c. search needs)
     returns-2
-    add-j
-    loop-less
+    (λ c. search needs)
+    (λ c. search needs)
     loop-again
     returns-3)

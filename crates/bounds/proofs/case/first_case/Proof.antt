@@ -1,6 +1,6 @@
 -- The loop fixes the groups one after the other, each at the alignment that leads to the first case.
-use Prim.Native.Nat.{ℕ, _+_, _-_, _≤_}
-use mathlib.Core.Path.{_≡_, refl, sym, subst, _∙_}
+use Prim.Native.Nat.{_+_, _-_, _≤_}
+use mathlib.Core.Path.{_≡_, sym, _∙_}
 use mathlib.Core.List.{map}
 use native.Mathlib.Omega.{arith}
 use borrow.Author.Needs.{needs}
@@ -21,29 +21,8 @@ abbrev μ-loop : tie.MeasureT-loop
 loop-holds : tie.Need-loop-holds Inv-loop μ-loop
 loop-holds c = (leads-start _ _ _ _, shown-free, omega arith, c .before .before .before .pre .0)
 
-add-first-exceeding : tie.Need-add-first-exceeding Inv-loop μ-loop
-add-first-exceeding c = search needs
-
 first-exceeding-requires : tie.Need-first-exceeding-requires Inv-loop μ-loop
 first-exceeding-requires c κs = (c .before .before .loop .inv .3, (c .before .before .loop .inv .0, (omega arith, omega (arith, c .before .loop-test .taken), c .before .before .before .before .before .before .pre .1)))
-
-mul-choices : tie.Need-mul-choices Inv-loop μ-loop
-mul-choices c = search needs
-
-array-set-from-choices : tie.Need-array-set-from-choices Inv-loop μ-loop
-array-set-from-choices c = search needs
-
-mul-alignments : tie.Need-mul-alignments Inv-loop μ-loop
-mul-alignments c = search needs
-
-array-write-alignments : tie.Need-array-write-alignments Inv-loop μ-loop
-array-write-alignments c = search needs
-
-add-i : tie.Need-add-i Inv-loop μ-loop
-add-i c = search needs
-
-loop-less : tie.Need-loop-less Inv-loop μ-loop
-loop-less c = search needs
 
 loop-again : tie.Need-loop-again Inv-loop μ-loop
 loop-again c =
@@ -51,9 +30,6 @@ loop-again c =
 
 busy-window-requires : tie.Need-busy-window-requires Inv-loop μ-loop
 busy-window-requires c κs = c .before .before .loop .inv .3
-
-or-zero-requires : tie.Need-or-zero-requires Inv-loop μ-loop
-or-zero-requires c κs = search needs
 
 -- all groups are fixed
 leads : (c : tie.After-loop Inv-loop μ-loop) → LeadsTo (c .before .before .before .before .before .args .target .faults) (tableOf (c .before .before .before .before .before .args .rows .now) (c .before .before .before .before .before .args .prepared .now)) (c .before .before .before .before .before .args .target .frame) (c .before .before .before .before .before .args .claim) 17 (c .before .loop .choices)
@@ -66,9 +42,6 @@ exceeding-instance-requires c κs =
     let l = leads (c .before .before .before .before .before .before) in
     let p = c .before .before .before .before .before .before .before .before .before .before .before .pre .0 in
     (c .before .before .before .before .busy-window .ensures .1, (leads-own (p .prepared .filled .table) (p .listed) l, leads-window (p .prepared .filled .table) (p .listed) l (c .before .before .before .before .before .before .before .before .before .before .before .pre .1) (c .before .before .before .before .busy-window .ensures .0) (c .before .or-zero .ensures)))
-
-case-of-requires : tie.Need-case-of-requires Inv-loop μ-loop
-case-of-requires c κs = search needs
 
 same-length : tie.Need-same-length Inv-loop μ-loop
 same-length c = c .before .before .before .exceeding-instance .ensures .1 .remembered .size ∙ sym (c .before .before .before .before .before .before .before .before .before .before .before .before .before .before .before .pre .0 .remembered .size)
@@ -84,18 +57,18 @@ first-case-spec =
     Inv-loop
     μ-loop
     loop-holds
-    add-first-exceeding
+    (λ c. search needs)
     first-exceeding-requires
-    mul-choices
-    array-set-from-choices
-    mul-alignments
-    array-write-alignments
-    add-i
-    loop-less
+    (λ c. search needs)
+    (λ c. search needs)
+    (λ c. search needs)
+    (λ c. search needs)
+    (λ c. search needs)
+    (λ c. search needs)
     loop-again
     busy-window-requires
-    or-zero-requires
+    (λ c κs. search needs)
     exceeding-instance-requires
-    case-of-requires
+    (λ c κs. search needs)
     same-length
     returns)

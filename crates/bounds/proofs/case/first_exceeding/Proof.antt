@@ -24,9 +24,6 @@ abbrev μ-loop : tie.MeasureT-loop
 next-of-requires : tie.Need-next-of-requires Inv-loop μ-loop
 next-of-requires c κs = let p = c .before .before .before .pre in (p .0 .prepared, (p .1 .1 .0, p .1 .1 .1, omega arith))
 
-or-zero-requires : tie.Need-or-zero-requires Inv-loop μ-loop
-or-zero-requires c κs = search needs
-
 loop-holds : tie.Need-loop-holds Inv-loop μ-loop
 loop-holds c = let p = c .before .before .before .before .before .pre in (tries-first (p .1 .0) (p .1 .1 .0, p .1 .1 .1) (c .before .next-of .result) (c .before .next-of .ensures) (c .or-zero .ensures), p .0)
 
@@ -44,12 +41,6 @@ add-next-of c =
 
 next-of-requires-2 : tie.Need-next-of-requires-2 Inv-loop μ-loop
 next-of-requires-2 c κs = let p = c .before .before .before .before .before .before .pre in (p .0 .prepared, (p .1 .1 .0, p .1 .1 .1, inside (c)))
-
-enum-known-next : tie.Need-enum-known-next Inv-loop μ-loop
-enum-known-next c = search needs
-
-enum-told : tie.Need-enum-told Inv-loop μ-loop
-enum-told c = search needs
 
 same-length : tie.Need-same-length Inv-loop μ-loop
 same-length c = c .before .before .before .loop .inv .1 .remembered .size ∙ sym (c .before .before .before .before .before .before .before .before .before .pre .0 .remembered .size)
@@ -91,12 +82,12 @@ first-exceeding-spec =
     Inv-loop
     μ-loop
     next-of-requires
-    or-zero-requires
+    (λ c κs. search needs)
     loop-holds
     add-next-of
     next-of-requires-2
-    enum-known-next
-    enum-told
+    (λ c. search needs)
+    (λ c. search needs)
     same-length
     returns
     with-choice-requires

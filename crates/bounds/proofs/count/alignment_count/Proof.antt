@@ -11,9 +11,6 @@ use Rattle.bounds.specs.laws.Search.{counted}
 use Rattle.bounds.proofs.count.alignment_count.Statement.{statement}
 use Rattle.bounds.proofs.count.alignment_count.Tie as tie
 
-sub-at : tie.Need-sub-at
-sub-at c = search needs
-
 -- the group's place
 less : (s : tie.Start) → s .args .group - 1 < 16
 less s = omega (arith, s .pre .1)
@@ -23,9 +20,6 @@ same s = omega (arith, s .pre .1 .0)
 
 part-of-requires : tie.Need-part-of-requires
 part-of-requires c κs = let s = c .before .before in (s .pre .0 .filled .size, less s, s .pre .0 .by-group .inside (s .args .group - 1) (less s))
-
-hyperperiod-of-requires : tie.Need-hyperperiod-of-requires
-hyperperiod-of-requires c κs = search needs
 
 count-alignments-requires : tie.Need-count-alignments-requires
 count-alignments-requires c κs =
@@ -45,8 +39,8 @@ pub alignment-count-spec : {M : Type 1} → statement M
 alignment-count-spec =
     tie.close
     (tie.spec
-    sub-at
+    (λ c. search needs)
     part-of-requires
-    hyperperiod-of-requires
+    (λ c κs. search needs)
     count-alignments-requires
     returns)

@@ -19,9 +19,6 @@ Inv-loop rows prepared target k own product₀ level₀ done level = AtLevel (ta
 abbrev μ-loop : tie.MeasureT-loop
 μ-loop rows prepared target k own product₀ level₀ done level = 15 - level
 
-cast-own : tie.Need-cast-own Inv-loop μ-loop
-cast-own c = search needs
-
 -- k is a frame that the definitions ask for
 valid : (s : tie.Start Inv-loop μ-loop) → ValidFrame (s .args .target .frame)
 valid s = of-fine (s .pre .1)
@@ -29,23 +26,11 @@ valid s = of-fine (s .pre .1)
 alignment-count-requires : tie.Need-alignment-count-requires Inv-loop μ-loop
 alignment-count-requires c κs = let s = c .before .before .before .before in (s .pre .0, (s .pre .1 .group-low, s .pre .1 .group-high))
 
-cut-product-requires : tie.Need-cut-product-requires Inv-loop μ-loop
-cut-product-requires c κs = search needs
-
 loop-holds : tie.Need-loop-holds Inv-loop μ-loop
 loop-holds c = let s = c .before .before .before .before .before .before in level-start _ (valid s) (c .cut-product .ensures ∙ ap (min 65537) (omega (arith, c .before .alignment-count .ensures)))
 
-add-group-at : tie.Need-add-group-at Inv-loop μ-loop
-add-group-at c = search needs
-
-group-at-requires : tie.Need-group-at-requires Inv-loop μ-loop
-group-at-requires c κs = search needs
-
 alignment-count-requires-2 : tie.Need-alignment-count-requires-2 Inv-loop μ-loop
 alignment-count-requires-2 c κs = (c .before .before .before .before .before .before .before .before .before .pre .0, c .group-at .ensures .1)
-
-cut-product-requires-2 : tie.Need-cut-product-requires-2 Inv-loop μ-loop
-cut-product-requires-2 c κs = search needs
 
 -- the product with the next group's alignments
 factor : (c : tie.After-cut-product2 Inv-loop μ-loop) → let a = c .before .before .before .before .before .before .before .before .before .before .before .args in
@@ -59,12 +44,6 @@ factor c =
 returns : tie.Need-returns Inv-loop μ-loop
 returns c = let s = c .before .before .before .before .before .before .before .before .before .before .before .before in level-over _ (valid s) (c .before .before .before .before .before .loop .inv) (c .before .before .before .before .loop-test .taken) (factor (c .before)) (c .if1 .taken)
 
-add-level : tie.Need-add-level Inv-loop μ-loop
-add-level c = search needs
-
-loop-less : tie.Need-loop-less Inv-loop μ-loop
-loop-less c = search needs
-
 loop-again : tie.Need-loop-again Inv-loop μ-loop
 loop-again c = let s = c .before .before .before .before .before .before .before .before .before .before .before .before in level-next _ (valid s) (c .before .before .before .before .before .loop .inv) (c .before .before .before .before .loop-test .taken) (factor (c .before)) (c .if1 .left)
 
@@ -77,16 +56,16 @@ deepest-level-spec =
     (tie.spec
     Inv-loop
     μ-loop
-    cast-own
+    (λ c. search needs)
     alignment-count-requires
-    cut-product-requires
+    (λ c κs. search needs)
     loop-holds
-    add-group-at
-    group-at-requires
+    (λ c. search needs)
+    (λ c κs. search needs)
     alignment-count-requires-2
-    cut-product-requires-2
+    (λ c κs. search needs)
     returns
-    add-level
-    loop-less
+    (λ c. search needs)
+    (λ c. search needs)
     loop-again
     returns-2)

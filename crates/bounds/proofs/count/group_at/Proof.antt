@@ -4,12 +4,6 @@ use borrow.Author.Tests.{lt-ltb, le-ltb}
 use Rattle.bounds.proofs.count.group_at.Statement.{statement}
 use Rattle.bounds.proofs.count.group_at.Tie as tie
 
-cast-if1 : tie.Need-cast-if1
-cast-if1 c = search needs
-
-add-result : tie.Need-add-result
-add-result c = search needs
-
 returns : tie.Need-returns
 returns c = (rw (lt-ltb _ _ (c .if1 .taken)), (search needs))
 
@@ -20,7 +14,7 @@ pub group-at-spec : {M : Type 1} → statement M
 group-at-spec =
     tie.close
     (tie.spec
-    cast-if1
-    add-result
+    (λ c. search needs)
+    (λ c. search needs)
     returns
     returns-2)

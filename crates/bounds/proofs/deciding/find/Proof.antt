@@ -13,14 +13,8 @@ use Rattle.bounds.specs.laws.Search.{found-limits, by-deepest, free-star
 use Rattle.bounds.proofs.deciding.find.Statement.{statement}
 use Rattle.bounds.proofs.deciding.find.Tie as tie
 
-busy-window-requires : tie.Need-busy-window-requires
-busy-window-requires c κs = search needs
-
 lacks-window-requires : tie.Need-lacks-window-requires
 lacks-window-requires c κs = (c .before .before .before .busy-window .ensures .1, c .before .before .before .busy-window .ensures .0)
-
-same-length : tie.Need-same-length
-same-length c = search needs
 
 returns : tie.Need-returns
 unfolding boundFor
@@ -40,12 +34,6 @@ refine-own-requires c κs =
 rough : (c : tie.After-refine-own) → let a = c .before .before .before .before .before .before .before .before .before .before .before .before .before .before .args in c .refine-own .result ≡ approximateBound (a .target .faults) (tableOf (a .rows .now) (a .prepared .now)) (a .target .frame)
 rough c = let p = c .before .before .before .before .before .before .before .before .before .before .before .before .before .before .pre in one-fixed (p .prepared .filled .table) (p .listed) _ (omega (arith, c .refine-own .ensures .0, c .refine-own .ok))
 
-is-met-requires : tie.Need-is-met-requires
-is-met-requires c κs = search needs
-
-same-length-2 : tie.Need-same-length-2
-same-length-2 c = search needs
-
 returns-2 : tie.Need-returns-2
 unfolding boundFor
 returns-2 c =
@@ -61,9 +49,6 @@ by-level-requires c κs =
     let a = c .before .before .before .before .before .before .before .before .before .before .before .before .before .before .before .before .before .before .before .before .args in
     (c .before .before .before .before .before .before .refine-own .ensures .1, (has (c .before .before .before .before .before .before .before .before), omega (arith, c .before .deepest-level .ensures, deepest-le (tableOf (a .rows .now) (a .prepared .now)) (a .target .frame))))
 
-same-length-3 : tie.Need-same-length-3
-same-length-3 c = search needs
-
 returns-3 : tie.Need-returns-3
 unfolding boundFor
 returns-3 c =
@@ -75,15 +60,15 @@ pub find-spec : {M : Type 1} → statement M
 find-spec =
     tie.close
     (tie.spec
-    busy-window-requires
+    (λ c κs. search needs)
     lacks-window-requires
-    same-length
+    (λ c. search needs)
     returns
     refine-own-requires
-    is-met-requires
-    same-length-2
+    (λ c κs. search needs)
+    (λ c. search needs)
     returns-2
     deepest-level-requires
     by-level-requires
-    same-length-3
+    (λ c. search needs)
     returns-3)

@@ -3,12 +3,6 @@ use borrow.Author.Needs.{needs}
 use Rattle.bounds.proofs.deciding.is_met.Statement.{statement}
 use Rattle.bounds.proofs.deciding.is_met.Tie as tie
 
-enum-known-claim : tie.Need-enum-known-claim
-enum-known-claim c = search needs
-
-enum-told : tie.Need-enum-told
-enum-told c = search needs
-
 returns : tie.Need-returns
 returns c = rw (c .before .claim .given .1)
 
@@ -19,7 +13,7 @@ pub is-met-spec : {M : Type 1} → statement M
 is-met-spec =
     tie.close
     (tie.spec
-    enum-known-claim
-    enum-told
+    (λ c. search needs)
+    (λ c. search needs)
     returns
     returns-2)

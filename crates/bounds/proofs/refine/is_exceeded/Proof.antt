@@ -21,12 +21,6 @@ use Rattle.bounds.proofs.refine.is_exceeded.Tie as tie
 own-choice-requires : tie.Need-own-choice-requires
 own-choice-requires c κs = let p = c .before .before .before .pre .0 in in-table-fine _ (p .prepared .filled .table) (p .listed)
 
-enum-known-own : tie.Need-enum-known-own
-enum-known-own c = search needs
-
-enum-told : tie.Need-enum-told
-enum-told c = search needs
-
 refine-own-requires : tie.Need-refine-own-requires
 refine-own-requires c κs =
     let p = c .before .before .before .before .before .before .before .pre in
@@ -63,9 +57,6 @@ limit-of-requires c κs =
 reach-before-requires : tie.Need-reach-before-requires
 reach-before-requires c κs = (c .before .before .before .limit-of .ensures .1, c .before .before .before .limit-of .ensures .0)
 
-cast-t23 : tie.Need-cast-t23
-cast-t23 c = search needs
-
 refine-requires : tie.Need-refine-requires
 refine-requires c κs =
     let o = c .before .before .before .before .before .before .before .before .before .before in
@@ -85,14 +76,14 @@ is-exceeded-spec =
     tie.close
     (tie.spec
     own-choice-requires
-    enum-known-own
-    enum-told
+    (λ c. search needs)
+    (λ c. search needs)
     refine-own-requires
     same-length
     returns
     limit-of-requires
     reach-before-requires
-    cast-t23
+    (λ c. search needs)
     refine-requires
     same-length-2
     returns-2)

@@ -1,5 +1,5 @@
 -- By the limit: the one given, or the window that is found.
-use mathlib.Core.Path.{_≡_, sym, ap, _∙_}
+use mathlib.Core.Path.{_≡_, ap, _∙_}
 use native.Mathlib.Omega.{arith}
 use borrow.Author.Needs.{needs}
 use Rattle.arith.specs.Least.{orZero}
@@ -7,23 +7,8 @@ use Rattle.response_time.specs.laws.Searches.{window-small}
 use Rattle.bounds.proofs.refine.limit_of.Statement.{statement}
 use Rattle.bounds.proofs.refine.limit_of.Tie as tie
 
-enum-known-limit : tie.Need-enum-known-limit
-enum-known-limit c = search needs
-
-enum-told : tie.Need-enum-told
-enum-told c = search needs
-
-busy-window-requires : tie.Need-busy-window-requires
-busy-window-requires c κs = search needs
-
-or-zero-requires : tie.Need-or-zero-requires
-or-zero-requires c κs = search needs
-
 returns : tie.Need-returns
 returns c = (rw (c .before .limit .given .1) at (c .before .before .before .before .before .before .pre .1 .0), c .before .before .before .before .before .before .pre .0)
-
-same-length : tie.Need-same-length
-same-length c = search needs
 
 returns-2 : tie.Need-returns-2
 unfolding orZero
@@ -36,10 +21,10 @@ pub limit-of-spec : {M : Type 1} → statement M
 limit-of-spec =
     tie.close
     (tie.spec
-    enum-known-limit
-    enum-told
-    busy-window-requires
-    or-zero-requires
+    (λ c. search needs)
+    (λ c. search needs)
+    (λ c κs. search needs)
+    (λ c κs. search needs)
     returns
-    same-length
+    (λ c. search needs)
     returns-2)

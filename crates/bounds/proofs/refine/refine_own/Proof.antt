@@ -23,12 +23,6 @@ Inv-loop rows prepared target choices left best enough limit memory₀ own fewer
 abbrev μ-loop : tie.MeasureT-loop
 μ-loop rows prepared target choices left best enough limit memory₀ own fewer most₀ a₀ memory most a = turn (tableOf rows prepared) (target .frame) (target .frame .group) - a
 
-cast-own : tie.Need-cast-own Inv-loop μ-loop
-cast-own c = search needs
-
-sub-fewer : tie.Need-sub-fewer Inv-loop μ-loop
-sub-fewer c = search needs
-
 -- k's group is one of the groups
 group : (s : tie.Start Inv-loop μ-loop) → (1 ≤ s .args .target .frame .group) × (s .args .target .frame .group ≤ 16)
 group s = own-group (s .pre .0 .prepared .filled .table) (s .pre .0 .listed)
@@ -39,9 +33,6 @@ long s = search needs
 
 next-of-requires : tie.Need-next-of-requires Inv-loop μ-loop
 next-of-requires c κs = let n = group (c .before .before .before .before .before) in (c .before .before .before .before .before .pre .0 .prepared, (n .0, n .1, omega arith))
-
-or-zero-requires : tie.Need-or-zero-requires Inv-loop μ-loop
-or-zero-requires c κs = search needs
 
 loop-holds : tie.Need-loop-holds Inv-loop μ-loop
 loop-holds c = let p = c .before .before .before .before .before .before .before .pre .0 in (best-first _ _ _ _ (p .prepared .filled .table .valid) (c .before .next-of .result) (c .before .next-of .ensures) (c .or-zero .ensures), p)
@@ -94,12 +85,6 @@ add-next-of c =
 next-of-requires-2 : tie.Need-next-of-requires-2 Inv-loop μ-loop
 next-of-requires-2 c κs = let n = group (c .before .before .before .before .before .before .before .before .before .before .before .before .before .before .before .before .before .before .before .before) in (c .before .before .before .before .before .before .before .before .before .before .before .before .before .before .before .before .before .before .before .before .pre .0 .prepared, (n .0, n .1, omega (arith, c .before .before .before .before .before .before .before .before .before .before .before .before .loop .inv .0 .walk .inside)))
 
-enum-known-found : tie.Need-enum-known-found Inv-loop μ-loop
-enum-known-found c = search needs
-
-enum-told : tie.Need-enum-told Inv-loop μ-loop
-enum-told c = search needs
-
 same-length-2 : tie.Need-same-length-2 Inv-loop μ-loop
 same-length-2 c = c .before .before .before .before .before .before .refine .ensures .1 .remembered .size ∙ sym (c .before .before .before .before .before .before .before .before .before .before .before .before .before .before .before .before .before .before .before .before .before .before .before .pre .0 .remembered .size)
 
@@ -121,10 +106,10 @@ refine-own-spec =
     (tie.spec
     Inv-loop
     μ-loop
-    cast-own
-    sub-fewer
+    (λ c. search needs)
+    (λ c. search needs)
     next-of-requires
-    or-zero-requires
+    (λ c κs. search needs)
     loop-holds
     with-choice-requires
     limit-of-requires
@@ -134,8 +119,8 @@ refine-own-spec =
     returns
     add-next-of
     next-of-requires-2
-    enum-known-found
-    enum-told
+    (λ c. search needs)
+    (λ c. search needs)
     same-length-2
     returns-2
     loop-less

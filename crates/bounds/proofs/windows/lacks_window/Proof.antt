@@ -1,6 +1,6 @@
 -- The loop goes through the alignments of the own group until one has no window.
 use Prim.Native.Nat.{_-_, _≤_}
-use mathlib.Core.Path.{_≡_, sym, _∙_}
+use mathlib.Core.Path.{sym, _∙_}
 use native.Mathlib.Omega.{arith}
 use borrow.Author.Needs.{needs}
 use Rattle.arith.specs.laws.Walks.{walk-less}
@@ -17,17 +17,8 @@ Inv-loop rows prepared target memory₀ own a₀ memory a = Missing (target .fau
 abbrev μ-loop : tie.MeasureT-loop
 μ-loop rows prepared target memory₀ own a₀ memory a = turn (tableOf rows prepared) (target .frame) (target .frame .group) - a
 
-enum-told : tie.Need-enum-told Inv-loop μ-loop
-enum-told c = search needs
-
 returns : tie.Need-returns Inv-loop μ-loop
 returns c = let p = c .before .before .before .before .before .pre .0 in (sym (lacks-none (p .prepared .filled .table) (p .listed) _ (sym (c .before .before .before .before .before .pre .1) ∙ c .enum-told .given .1)), p)
-
-enum-told-2 : tie.Need-enum-told-2 Inv-loop μ-loop
-enum-told-2 c = search needs
-
-cast-own : tie.Need-cast-own Inv-loop μ-loop
-cast-own c = search needs
 
 -- k's group is one of the groups
 group : (s : tie.Start Inv-loop μ-loop) → (1 ≤ s .args .target .frame .group) × (s .args .target .frame .group ≤ 16)
@@ -35,9 +26,6 @@ group s = own-group (s .pre .0 .prepared .filled .table) (s .pre .0 .listed)
 
 next-of-requires : tie.Need-next-of-requires Inv-loop μ-loop
 next-of-requires c κs = let n = group (c .before .before .before .before .before .before .before) in (c .before .before .before .before .before .before .before .pre .0 .prepared, (n .0, n .1, omega arith))
-
-or-zero-requires : tie.Need-or-zero-requires Inv-loop μ-loop
-or-zero-requires c κs = search needs
 
 loop-holds : tie.Need-loop-holds Inv-loop μ-loop
 loop-holds c = let p = c .before .before .before .before .before .before .before .before .before .pre .0 in (missing-first (p .prepared .filled .table) (p .listed) (c .before .next-of .result) (c .before .next-of .ensures) (c .or-zero .ensures), p)
@@ -47,12 +35,6 @@ with-choice-requires c κs = group (c .before .before .before .before .before .b
 
 busy-window-requires : tie.Need-busy-window-requires Inv-loop μ-loop
 busy-window-requires c κs = c .before .before .loop .inv .1
-
-enum-told-3 : tie.Need-enum-told-3 Inv-loop μ-loop
-enum-told-3 c = search needs
-
-enum-told-4 : tie.Need-enum-told-4 Inv-loop μ-loop
-enum-told-4 c = search needs
 
 same-length : tie.Need-same-length Inv-loop μ-loop
 same-length c = c .before .before .before .before .busy-window .ensures .1 .remembered .size ∙ sym (c .before .before .before .before .before .before .before .before .before .before .before .before .before .before .before .before .before .pre .0 .remembered .size)
@@ -70,12 +52,6 @@ add-next-of c =
 
 next-of-requires-2 : tie.Need-next-of-requires-2 Inv-loop μ-loop
 next-of-requires-2 c κs = let n = group (c .before .before .before .before .before .before .before .before .before .before .before .before .before .before .before .before .before) in (c .before .before .before .before .before .before .before .before .before .before .before .before .before .before .before .before .before .pre .0 .prepared, (n .0, n .1, omega (arith, c .before .before .before .before .before .before .before .loop .inv .0 .walk .inside)))
-
-enum-known-next : tie.Need-enum-known-next Inv-loop μ-loop
-enum-known-next c = search needs
-
-enum-told-5 : tie.Need-enum-told-5 Inv-loop μ-loop
-enum-told-5 c = search needs
 
 same-length-2 : tie.Need-same-length-2 Inv-loop μ-loop
 same-length-2 c = c .before .before .before .before .before .before .before .busy-window .ensures .1 .remembered .size ∙ sym (c .before .before .before .before .before .before .before .before .before .before .before .before .before .before .before .before .before .before .before .before .pre .0 .remembered .size)
@@ -97,23 +73,23 @@ lacks-window-spec =
     (tie.spec
     Inv-loop
     μ-loop
-    enum-told
+    (λ c. search needs)
     returns
-    enum-told-2
-    cast-own
+    (λ c. search needs)
+    (λ c. search needs)
     next-of-requires
-    or-zero-requires
+    (λ c κs. search needs)
     loop-holds
     with-choice-requires
     busy-window-requires
-    enum-told-3
-    enum-told-4
+    (λ c. search needs)
+    (λ c. search needs)
     same-length
     returns-2
     add-next-of
     next-of-requires-2
-    enum-known-next
-    enum-told-5
+    (λ c. search needs)
+    (λ c. search needs)
     same-length-2
     returns-3
     loop-less

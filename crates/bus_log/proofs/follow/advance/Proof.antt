@@ -5,12 +5,6 @@ use Rattle.bus_log.specs.Follow.{advance}
 use Rattle.bus_log.proofs.follow.advance.Statement.{statement}
 use Rattle.bus_log.proofs.follow.advance.Tie as tie
 
-frame-requires : tie.Need-frame-requires
-frame-requires c κs = search needs
-
-add-t6 : tie.Need-add-t6
-add-t6 c = search needs
-
 seen-after-requires : tie.Need-seen-after-requires
 seen-after-requires c κs = rw (c .before .frame .ensures) (any-group _ _ (c .before .before .before .pre .0) _)
 
@@ -28,8 +22,8 @@ pub advance-spec : {M : Type 1} → statement M
 advance-spec =
     tie.close
     (tie.spec
-    frame-requires
-    add-t6
+    (λ c κs. search needs)
+    (λ c. search needs)
     seen-after-requires
     starts-after-requires
     dues-after-requires

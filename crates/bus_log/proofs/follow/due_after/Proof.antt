@@ -6,18 +6,9 @@ use Rattle.bus_log.specs.theory.Table.{any-group}
 use Rattle.bus_log.proofs.follow.due_after.Statement.{statement}
 use Rattle.bus_log.proofs.follow.due_after.Tie as tie
 
-cast-result : tie.Need-cast-result
-cast-result c = search needs
-
-add-result : tie.Need-add-result
-add-result c = search needs
-
 returns : tie.Need-returns
 unfolding dueAfter
 returns c = rw (eq-eqb _ _ (c .before .before .if1 .taken), ← c .before .before .before .before .before .pre .1 .1)
-
-frame-requires : tie.Need-frame-requires
-frame-requires c κs = search needs
 
 due-next-requires : tie.Need-due-next-requires
 due-next-requires c κs =
@@ -34,9 +25,9 @@ pub due-after-spec : {M : Type 1} → statement M
 due-after-spec =
     tie.close
     (tie.spec
-    cast-result
-    add-result
+    (λ c. search needs)
+    (λ c. search needs)
     returns
-    frame-requires
+    (λ c κs. search needs)
     due-next-requires
     returns-2)

@@ -3,7 +3,6 @@ use borrow.Author.Needs.{needs}
 use Prim.Native.Nat.{_-_, _≤_}
 use mathlib.Core.Path.{_≡_, refl, _∙_}
 use mathlib.Core.List.{map}
-use native.Mathlib.Omega.{arith}
 use lib.ListN.{length, length-set}
 use Rattle.bus_log.specs.theory.Filled.{fill-more, fill-all}
 use Rattle.arith.specs.Lists.{range}
@@ -22,29 +21,11 @@ abbrev μ-loop : tie.MeasureT-loop
 loop-holds : tie.Need-loop-holds Inv-loop μ-loop
 loop-holds c = (refl, search needs, refl, refl)
 
-mul-due-after : tie.Need-mul-due-after Inv-loop μ-loop
-mul-due-after c = search needs
-
-array-read-due-after : tie.Need-array-read-due-after Inv-loop μ-loop
-array-read-due-after c = search needs
-
 due-after-requires : tie.Need-due-after-requires Inv-loop μ-loop
 unfolding dueOf
 due-after-requires c κs =
     let s = c .before .before .before .before in
     (s .pre .0, (refl, s .pre .1 .0, s .pre .1 .1, s .pre .1 .2, s .pre .1 .3))
-
-mul-due : tie.Need-mul-due Inv-loop μ-loop
-mul-due c = search needs
-
-array-write-due : tie.Need-array-write-due Inv-loop μ-loop
-array-write-due c = search needs
-
-add-i : tie.Need-add-i Inv-loop μ-loop
-add-i c = search needs
-
-loop-less : tie.Need-loop-less Inv-loop μ-loop
-loop-less c = search needs
 
 loop-again : tie.Need-loop-again Inv-loop μ-loop
 loop-again c = let l = c .before .before .loop in (fill-more _ 64 _ _ refl _ _ (l .inv .0) (c .before .loop-test .taken) (c .due-after .ensures), search needs, length-set (l .due) _ _ ∙ l .inv .2, refl)
@@ -59,12 +40,12 @@ dues-after-spec =
     Inv-loop
     μ-loop
     loop-holds
-    mul-due-after
-    array-read-due-after
+    (λ c. search needs)
+    (λ c. search needs)
     due-after-requires
-    mul-due
-    array-write-due
-    add-i
-    loop-less
+    (λ c. search needs)
+    (λ c. search needs)
+    (λ c. search needs)
+    (λ c. search needs)
     loop-again
     returns)

@@ -6,14 +6,8 @@ use Rattle.bus_log.specs.theory.Lines.{allowed-frame}
 use Rattle.bus_log.proofs.follow.follow_line.Statement.{statement}
 use Rattle.bus_log.proofs.follow.follow_line.Tie as tie
 
-is-allowed-requires : tie.Need-is-allowed-requires
-is-allowed-requires c κs = search needs
-
 advance-requires : tie.Need-advance-requires
 advance-requires c κs = let s = c .before .before .before in (s .pre .0, (allowed-frame _ _ _ (sym (c .before .is-allowed .ensures) ∙ c .if1 .taken), s .pre .1 .1, s .pre .1 .2, s .pre .1 .3))
-
-add-t9 : tie.Need-add-t9
-add-t9 c = search needs
 
 returns : tie.Need-returns
 unfolding followLine
@@ -25,4 +19,4 @@ returns-2 c = rw (← c .before .is-allowed .ensures, c .if1 .left)
 
 pub follow-line-spec : {M : Type 1} → statement M
 follow-line-spec =
-    tie.close (tie.spec is-allowed-requires advance-requires add-t9 returns returns-2)
+    tie.close (tie.spec (λ c κs. search needs) advance-requires (λ c. search needs) returns returns-2)

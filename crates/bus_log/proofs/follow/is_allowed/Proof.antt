@@ -12,9 +12,6 @@ returns : tie.Need-returns
 unfolding isAllowed
 returns c = simp (length-frames, le-ltb _ _ (c .if1 .taken))
 
-frame-requires : tie.Need-frame-requires
-frame-requires c κs = search needs
-
 is-due-requires : tie.Need-is-due-requires
 is-due-requires c κs =
     let s = c .before .before .before .before in
@@ -41,4 +38,4 @@ returns-3 c = simp (length-frames, lt-ltb _ _ (c .before .before .before .if1 .l
 pub is-allowed-spec : {M : Type 1} → statement M
 is-allowed-spec =
     tie.close
-    (tie.spec returns frame-requires is-due-requires some-hinders-requires returns-2 returns-3)
+    (tie.spec returns (λ c κs. search needs) is-due-requires some-hinders-requires returns-2 returns-3)

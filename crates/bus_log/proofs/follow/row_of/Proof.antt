@@ -19,18 +19,9 @@ abbrev μ-loop : tie.MeasureT-loop
 loop-holds : tie.Need-loop-holds Inv-loop μ-loop
 loop-holds c = (rw sub-zero, search needs)
 
-is-named-requires : tie.Need-is-named-requires Inv-loop μ-loop
-is-named-requires c κs = search needs
-
 returns : tie.Need-returns Inv-loop μ-loop
 unfolding rowOf foundOr
 returns c = let e = c .before .before .before .loop .inv .0 in rw (← e, search-stop _ _ _ _ (c .before .before .loop-test .taken) (c .before .is-named .ensures) (c .if1 .taken))
-
-add-i : tie.Need-add-i Inv-loop μ-loop
-add-i c = search needs
-
-loop-less : tie.Need-loop-less Inv-loop μ-loop
-loop-less c = search needs
 
 loop-again : tie.Need-loop-again Inv-loop μ-loop
 loop-again c = (search-go _ _ _ _ (c .before .before .loop-test .taken) (c .before .is-named .ensures) (c .if1 .left) ∙ c .before .before .before .loop .inv .0, search needs)
@@ -46,9 +37,9 @@ row-of-spec =
     Inv-loop
     μ-loop
     loop-holds
-    is-named-requires
+    (λ c κs. search needs)
     returns
-    add-i
-    loop-less
+    (λ c. search needs)
+    (λ c. search needs)
     loop-again
     returns-2)

@@ -25,9 +25,6 @@ loop-holds : tie.Need-loop-holds Inv-loop μ-loop
 unfolding rowHinders
 loop-holds c = (rw (sub-zero, c .before .before .pre .1 .0, length-frames), search needs)
 
-mul-row-hinders : tie.Need-mul-row-hinders Inv-loop μ-loop
-mul-row-hinders c = search needs
-
 array-read-row-hinders : tie.Need-array-read-row-hinders Inv-loop μ-loop
 array-read-row-hinders c =
     let s = c .before .before .before .before in
@@ -43,12 +40,6 @@ returns : tie.Need-returns Inv-loop μ-loop
 unfolding dueOf
 returns c = exists-stop _ _ _ _ (c .before .before .loop-test .taken) (c .before .row-hinders .ensures) (c .if1 .taken) ∙ c .before .before .before .loop .inv .0
 
-add-i : tie.Need-add-i Inv-loop μ-loop
-add-i c = search needs
-
-loop-less : tie.Need-loop-less Inv-loop μ-loop
-loop-less c = search needs
-
 loop-again : tie.Need-loop-again Inv-loop μ-loop
 unfolding dueOf
 loop-again c = (exists-go _ _ _ _ (c .before .before .loop-test .taken) (c .before .row-hinders .ensures) (c .if1 .left) ∙ c .before .before .before .loop .inv .0, search needs)
@@ -63,11 +54,11 @@ some-hinders-spec =
     Inv-loop
     μ-loop
     loop-holds
-    mul-row-hinders
+    (λ c. search needs)
     array-read-row-hinders
     row-hinders-requires
     returns
-    add-i
-    loop-less
+    (λ c. search needs)
+    (λ c. search needs)
     loop-again
     returns-2)

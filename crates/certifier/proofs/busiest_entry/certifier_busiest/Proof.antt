@@ -5,14 +5,8 @@ use Rattle.arith.specs.laws.Signed.{kept}
 use Rattle.certifier.proofs.busiest_entry.certifier_busiest.Statement.{statement}
 use Rattle.certifier.proofs.busiest_entry.certifier_busiest.Tie as tie
 
-busiest-file-requires : tie.Need-busiest-file-requires
-busiest-file-requires c κs = search needs
-
 encode-sheet-requires : tie.Need-encode-sheet-requires
 encode-sheet-requires c κs = λ n d. c .before .before .busiest-file .ensures .1 .1 .0 n d .most
-
-same-length : tie.Need-same-length
-same-length c = search needs
 
 returns : tie.Need-returns
 returns c =
@@ -23,7 +17,7 @@ pub certifier-busiest-spec : {M : Type 1} → statement M
 certifier-busiest-spec =
     tie.close
     (tie.spec
-    busiest-file-requires
+    (λ c κs. search needs)
     encode-sheet-requires
-    same-length
+    (λ c. search needs)
     returns)

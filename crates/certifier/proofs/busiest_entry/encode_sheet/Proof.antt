@@ -11,21 +11,12 @@ use Rattle.certifier.specs.LogEntry.{encodeAnswered}
 use Rattle.certifier.proofs.busiest_entry.encode_sheet.Statement.{statement}
 use Rattle.certifier.proofs.busiest_entry.encode_sheet.Tie as tie
 
-enum-known-answer : tie.Need-enum-known-answer
-enum-known-answer c = search needs
-
 -- the count is small
 small : (c : tie.After-known-told) → c .before .answer .given .0 .0 ≤ 2711
 small c = c .before .before .before .pre _ (c .before .answer .given .1)
 
 cast-result : tie.Need-cast-result
 cast-result c = record { sfits = omega (arith, small c) }
-
-enum-known-answer-2 : tie.Need-enum-known-answer-2
-enum-known-answer-2 c = search needs
-
-encode-sheet-refusal-requires : tie.Need-encode-sheet-refusal-requires
-encode-sheet-refusal-requires c κs = search needs
 
 returns : tie.Need-returns
 unfolding encodeAnswered answerReturns
@@ -39,9 +30,9 @@ pub encode-sheet-spec : {M : Type 1} → statement M
 encode-sheet-spec =
     tie.close
     (tie.spec
-    enum-known-answer
+    (λ c. search needs)
     cast-result
-    enum-known-answer-2
-    encode-sheet-refusal-requires
+    (λ c. search needs)
+    (λ c κs. search needs)
     returns
     returns-2)

@@ -7,21 +7,6 @@ use Rattle.arith.specs.laws.Signed.{neg-sfits, neg-kept}
 use Rattle.certifier.proofs.busiest_entry.encode_sheet_refusal.Statement.{statement}
 use Rattle.certifier.proofs.busiest_entry.encode_sheet_refusal.Tie as tie
 
-number-requires : tie.Need-number-requires
-number-requires c κs = search needs
-
-cast-n : tie.Need-cast-n
-cast-n c = search needs
-
-mul-n : tie.Need-mul-n
-mul-n c = search needs
-
-cast-n-2 : tie.Need-cast-n-2
-cast-n-2 c = search needs
-
-add-n : tie.Need-add-n
-add-n c = search needs
-
 cast-result : tie.Need-cast-result
 cast-result c = search needs
 
@@ -35,11 +20,11 @@ pub encode-sheet-refusal-spec : {M : Type 1} → statement M
 encode-sheet-refusal-spec =
     tie.close
     (tie.spec
-    number-requires
-    cast-n
-    mul-n
-    cast-n-2
-    add-n
+    (λ c κs. search needs)
+    (λ c. search needs)
+    (λ c. search needs)
+    (λ c. search needs)
+    (λ c. search needs)
     cast-result
     sub-result
     returns)

@@ -10,24 +10,6 @@ use Rattle.frame_table.specs.laws.Reading.{ReadRows, read-refused, read-rows}
 use Rattle.certifier.proofs.encode.bound_table.Statement.{statement}
 use Rattle.certifier.proofs.encode.bound_table.Tie as tie
 
-slice-aggregate-read : tie.Need-slice-aggregate-read
-slice-aggregate-read c = search needs
-
-read-requires : tie.Need-read-requires
-read-requires c κs = search needs
-
-enum-known-answer : tie.Need-enum-known-answer
-enum-known-answer c = search needs
-
-of-table-requires : tie.Need-of-table-requires
-of-table-requires c κs = search needs
-
-encode-refusal-requires : tie.Need-encode-refusal-requires
-encode-refusal-requires c κs = search needs
-
-enum-known-answer-2 : tie.Need-enum-known-answer-2
-enum-known-answer-2 c = search needs
-
 -- what was read is the table
 table : (c : tie.After-known-told2) → ReadRows (c .before .before .before .before .before .before .before .args .table .now) (c .before .before .before .before .read .last .1 .0) (c .before .answer2 .given .0 .0)
 table c = let r = c .before .before .before .before .read in read-rows _ _ _ refl (r .ensures .0) _ _ (r .ensures .1 .0) (c .before .answer2 .given .1)
@@ -40,9 +22,6 @@ slice-aggregate-bound-accepted c = table (c .before) .size
 
 bound-accepted-requires : tie.Need-bound-accepted-requires
 bound-accepted-requires c κs = (c .before .before .before .before .before .before .before .before .pre, table (c .before) .accepted)
-
-encode-bounded-requires : tie.Need-encode-bounded-requires
-encode-bounded-requires c κs = search needs
 
 returns : tie.Need-returns
 unfolding encodeBounded boundRead
@@ -63,15 +42,15 @@ pub bound-table-spec : {M : Type 1} → statement M
 bound-table-spec =
     tie.close
     (tie.spec
-    slice-aggregate-read
-    read-requires
-    enum-known-answer
-    of-table-requires
-    encode-refusal-requires
-    enum-known-answer-2
+    (λ c. search needs)
+    (λ c κs. search needs)
+    (λ c. search needs)
+    (λ c κs. search needs)
+    (λ c κs. search needs)
+    (λ c. search needs)
     array-share-prefix-rows
     slice-aggregate-bound-accepted
     bound-accepted-requires
-    encode-bounded-requires
+    (λ c κs. search needs)
     returns
     returns-2)

@@ -7,14 +7,8 @@ use Rattle.certifier.specs.laws.Answers.{list-countable, named}
 use Rattle.certifier.proofs.encode.certifier_list.Statement.{statement}
 use Rattle.certifier.proofs.encode.certifier_list.Tie as tie
 
-list-requires : tie.Need-list-requires
-list-requires c κs = search needs
-
 encode-answer-requires : tie.Need-encode-answer-requires
 encode-answer-requires c κs = subst Countable (sym (c .before .before .list .ensures .0)) (list-countable _ _ _)
-
-same-length : tie.Need-same-length
-same-length c = search needs
 
 returns : tie.Need-returns
 returns c =
@@ -22,4 +16,4 @@ returns c =
     named _ _ (both .0) (kept _ (c .encode-answer .ok) ∙ c .encode-answer .ensures) (both .1 .0)
 
 pub certifier-list-spec : {M : Type 1} → statement M
-certifier-list-spec = tie.close (tie.spec list-requires encode-answer-requires same-length returns)
+certifier-list-spec = tie.close (tie.spec (λ c κs. search needs) encode-answer-requires (λ c. search needs) returns)

@@ -7,14 +7,8 @@ use Rattle.certifier.specs.laws.Answers.{sheet-countable, named}
 use Rattle.certifier.proofs.encode.certifier_load_sheet.Statement.{statement}
 use Rattle.certifier.proofs.encode.certifier_load_sheet.Tie as tie
 
-write-requires : tie.Need-write-requires
-write-requires c κs = search needs
-
 encode-answer-requires : tie.Need-encode-answer-requires
 encode-answer-requires c κs = subst Countable (sym (c .before .before .write .ensures .0)) (sheet-countable _ _ _)
-
-same-length : tie.Need-same-length
-same-length c = search needs
 
 returns : tie.Need-returns
 returns c =
@@ -22,4 +16,4 @@ returns c =
     named _ _ (both .0) (kept _ (c .encode-answer .ok) ∙ c .encode-answer .ensures) (both .1 .0)
 
 pub certifier-load-sheet-spec : {M : Type 1} → statement M
-certifier-load-sheet-spec = tie.close (tie.spec write-requires encode-answer-requires same-length returns)
+certifier-load-sheet-spec = tie.close (tie.spec (λ c κs. search needs) encode-answer-requires (λ c. search needs) returns)

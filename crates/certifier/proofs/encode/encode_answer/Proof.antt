@@ -9,24 +9,12 @@ use Rattle.certifier.specs.Steps.{Countable}
 use Rattle.certifier.proofs.encode.encode_answer.Statement.{statement}
 use Rattle.certifier.proofs.encode.encode_answer.Tie as tie
 
-enum-known-answer : tie.Need-enum-known-answer
-enum-known-answer c = search needs
-
 -- the count is small
 small : (c : tie.After-known-told) → c .before .answer .given .0 .0 < 2 ^ 63
 small c = subst Countable (c .before .answer .given .1) (c .before .before .before .pre)
 
 cast-result : tie.Need-cast-result
 cast-result c = record { sfits = omega (arith, small c) }
-
-enum-known-answer-2 : tie.Need-enum-known-answer-2
-enum-known-answer-2 c = search needs
-
-of-table-requires : tie.Need-of-table-requires
-of-table-requires c κs = search needs
-
-encode-refusal-requires : tie.Need-encode-refusal-requires
-encode-refusal-requires c κs = search needs
 
 returns : tie.Need-returns
 unfolding encodeAnswer
@@ -40,10 +28,10 @@ pub encode-answer-spec : {M : Type 1} → statement M
 encode-answer-spec =
     tie.close
     (tie.spec
-    enum-known-answer
+    (λ c. search needs)
     cast-result
-    enum-known-answer-2
-    of-table-requires
-    encode-refusal-requires
+    (λ c. search needs)
+    (λ c κs. search needs)
+    (λ c κs. search needs)
     returns
     returns-2)

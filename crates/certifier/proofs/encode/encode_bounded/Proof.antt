@@ -7,18 +7,6 @@ use Rattle.certifier.specs.Encode.{encodeBounded}
 use Rattle.certifier.proofs.encode.encode_bounded.Statement.{statement}
 use Rattle.certifier.proofs.encode.encode_bounded.Tie as tie
 
-enum-known-bounded : tie.Need-enum-known-bounded
-enum-known-bounded c = search needs
-
-cast-result : tie.Need-cast-result
-cast-result c = search needs
-
-enum-known-bounded-2 : tie.Need-enum-known-bounded-2
-enum-known-bounded-2 c = search needs
-
-encode-refusal-requires : tie.Need-encode-refusal-requires
-encode-refusal-requires c κs = search needs
-
 returns : tie.Need-returns
 unfolding encodeBounded
 returns c = rw (c .before .bounded .given .1) (toZ-pos _ (omega (arith, c .known-told .given)))
@@ -31,9 +19,9 @@ pub encode-bounded-spec : {M : Type 1} → statement M
 encode-bounded-spec =
     tie.close
     (tie.spec
-    enum-known-bounded
-    cast-result
-    enum-known-bounded-2
-    encode-refusal-requires
+    (λ c. search needs)
+    (λ c. search needs)
+    (λ c. search needs)
+    (λ c κs. search needs)
     returns
     returns-2)

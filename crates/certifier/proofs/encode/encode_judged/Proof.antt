@@ -7,17 +7,8 @@ use Rattle.certifier.specs.Encode.{encodeJudged}
 use Rattle.certifier.proofs.encode.encode_judged.Statement.{statement}
 use Rattle.certifier.proofs.encode.encode_judged.Tie as tie
 
-enum-known-judged : tie.Need-enum-known-judged
-enum-known-judged c = search needs
-
 encode-judgement-requires : tie.Need-encode-judgement-requires
 encode-judgement-requires c κs = subst Encodable (c .before .judged .given .1) (c .before .before .before .pre)
-
-enum-known-judged-2 : tie.Need-enum-known-judged-2
-enum-known-judged-2 c = search needs
-
-encode-refusal-requires : tie.Need-encode-refusal-requires
-encode-refusal-requires c κs = search needs
 
 returns : tie.Need-returns
 unfolding encodeJudged
@@ -31,9 +22,9 @@ pub encode-judged-spec : {M : Type 1} → statement M
 encode-judged-spec =
     tie.close
     (tie.spec
-    enum-known-judged
+    (λ c. search needs)
     encode-judgement-requires
-    enum-known-judged-2
-    encode-refusal-requires
+    (λ c. search needs)
+    (λ c κs. search needs)
     returns
     returns-2)

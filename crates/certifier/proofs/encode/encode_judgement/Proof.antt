@@ -11,26 +11,11 @@ use Rattle.certifier.specs.laws.Encoding.{verdict-max, judgement-number}
 use Rattle.certifier.proofs.encode.encode_judgement.Statement.{statement}
 use Rattle.certifier.proofs.encode.encode_judgement.Tie as tie
 
-verdict-requires : tie.Need-verdict-requires
-verdict-requires c κs = search needs
-
-cast-high : tie.Need-cast-high
-cast-high c = search needs
-
 mul-high : tie.Need-mul-high
 mul-high c = record { fits = omega (arith, c .verdict .ensures, verdict-max (c .before .args .judgement .outcome)) }
 
-cast-high-2 : tie.Need-cast-high-2
-cast-high-2 c = search needs
-
-mul-high-2 : tie.Need-mul-high-2
-mul-high-2 c = search needs
-
 add-high : tie.Need-add-high
 add-high c = record { fits = omega (arith, c .before .verdict .ensures, verdict-max (c .before .before .args .judgement .outcome), c .before .before .pre .0) }
-
-shifted-requires : tie.Need-shifted-requires
-shifted-requires c κs = search needs
 
 -- the parts are small
 limits : (c : tie.After-shifted) → (c .before .before .before .verdict .result ≤ 12) × (c .before .before .before .before .args .judgement .bound ≤ 1000000) × (c .shifted .result ≤ 2000000)
@@ -55,13 +40,13 @@ pub encode-judgement-spec : {M : Type 1} → statement M
 encode-judgement-spec =
     tie.close
     (tie.spec
-    verdict-requires
-    cast-high
+    (λ c κs. search needs)
+    (λ c. search needs)
     mul-high
-    cast-high-2
-    mul-high-2
+    (λ c. search needs)
+    (λ c. search needs)
     add-high
-    shifted-requires
+    (λ c κs. search needs)
     add-result
     cast-result
     returns)

@@ -8,9 +8,6 @@ use Rattle.certifier.specs.laws.Small.{judged-encodable}
 use Rattle.certifier.proofs.encode.encode_judgement_of.Statement.{statement}
 use Rattle.certifier.proofs.encode.encode_judgement_of.Tie as tie
 
-judge-requires : tie.Need-judge-requires
-judge-requires c κs = search needs
-
 encode-judged-requires : tie.Need-encode-judged-requires
 encode-judged-requires c κs = subst Encodable (sym (c .judge .ensures .0)) (judged-encodable _ _ _)
 
@@ -18,4 +15,4 @@ returns : tie.Need-returns
 returns c = kept _ (c .encode-judged .ok) ∙ c .encode-judged .ensures ∙ ap encodeJudged (c .before .judge .ensures .0)
 
 pub encode-judgement-of-spec : {M : Type 1} → statement M
-encode-judgement-of-spec = tie.close (tie.spec judge-requires encode-judged-requires returns)
+encode-judgement-of-spec = tie.close (tie.spec (λ c κs. search needs) encode-judged-requires returns)

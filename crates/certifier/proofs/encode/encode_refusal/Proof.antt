@@ -8,21 +8,6 @@ use Rattle.certifier.specs.Encode.{encodeRefusal}
 use Rattle.certifier.proofs.encode.encode_refusal.Statement.{statement}
 use Rattle.certifier.proofs.encode.encode_refusal.Tie as tie
 
-number-requires : tie.Need-number-requires
-number-requires c κs = search needs
-
-cast-n : tie.Need-cast-n
-cast-n c = search needs
-
-mul-n : tie.Need-mul-n
-mul-n c = search needs
-
-cast-n-2 : tie.Need-cast-n-2
-cast-n-2 c = search needs
-
-add-n : tie.Need-add-n
-add-n c = search needs
-
 cast-result : tie.Need-cast-result
 cast-result c = search needs
 
@@ -37,4 +22,4 @@ returns c =
 
 pub encode-refusal-spec : {M : Type 1} → statement M
 encode-refusal-spec =
-    tie.close (tie.spec number-requires cast-n mul-n cast-n-2 add-n cast-result sub-result returns)
+    tie.close (tie.spec (λ c κs. search needs) (λ c. search needs) (λ c. search needs) (λ c. search needs) (λ c. search needs) cast-result sub-result returns)

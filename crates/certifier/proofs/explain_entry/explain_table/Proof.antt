@@ -13,24 +13,6 @@ use Rattle.certifier.specs.laws.ExplainEntry.{shown-refused}
 use Rattle.certifier.proofs.explain_entry.explain_table.Statement.{statement}
 use Rattle.certifier.proofs.explain_entry.explain_table.Tie as tie
 
-slice-aggregate-read : tie.Need-slice-aggregate-read
-slice-aggregate-read c = search needs
-
-read-requires : tie.Need-read-requires
-read-requires c κs = search needs
-
-enum-known-answer : tie.Need-enum-known-answer
-enum-known-answer c = search needs
-
-of-table-requires : tie.Need-of-table-requires
-of-table-requires c κs = search needs
-
-encode-refusal-requires : tie.Need-encode-refusal-requires
-encode-refusal-requires c κs = search needs
-
-enum-known-answer-2 : tie.Need-enum-known-answer-2
-enum-known-answer-2 c = search needs
-
 -- what was read is the table
 table : (c : tie.After-known-told2) → ReadRows (c .before .before .before .before .before .before .before .before .args .table .now) (c .before .before .before .before .read .last .1 .0) (c .before .answer2 .given .0 .0)
 table c = read-rows _ _ _ refl (c .before .before .before .before .read .ensures .0) _ _ (c .before .before .before .before .read .ensures .1 .0) (c .before .answer2 .given .1)
@@ -40,9 +22,6 @@ array-share-prefix-rows c = table (c) .room
 
 slice-aggregate-explain : tie.Need-slice-aggregate-explain
 slice-aggregate-explain c = table (c .before) .size
-
-explain-requires : tie.Need-explain-requires
-explain-requires c κs = search needs
 
 show-requires : tie.Need-show-requires
 unfolding explainRow
@@ -56,9 +35,6 @@ returns c =
     (rw (read-refused (s .args .table .now) _ _ refl (c .before .before .before .before .before .before .read .ensures .0) _ (c .before .before .before .answer .given .1), c .before .of-table .ensures)) in
     (kept _ (c .encode-refusal .ok) ∙ c .encode-refusal .ensures ∙ a, b)
 
-same-length : tie.Need-same-length
-same-length c = search needs
-
 returns-2 : tie.Need-returns-2
 unfolding explainRead
 returns-2 c =
@@ -70,16 +46,16 @@ pub explain-table-spec : {M : Type 1} → statement M
 explain-table-spec =
     tie.close
     (tie.spec
-    slice-aggregate-read
-    read-requires
-    enum-known-answer
-    of-table-requires
-    encode-refusal-requires
-    enum-known-answer-2
+    (λ c. search needs)
+    (λ c κs. search needs)
+    (λ c. search needs)
+    (λ c κs. search needs)
+    (λ c κs. search needs)
+    (λ c. search needs)
     array-share-prefix-rows
     slice-aggregate-explain
-    explain-requires
+    (λ c κs. search needs)
     show-requires
     returns
-    same-length
+    (λ c. search needs)
     returns-2)

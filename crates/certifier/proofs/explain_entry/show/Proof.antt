@@ -6,20 +6,11 @@ use Rattle.certifier.specs.laws.ExplainEntry.{shown-none, shown-short, s
 use Rattle.certifier.proofs.explain_entry.show.Statement.{statement}
 use Rattle.certifier.proofs.explain_entry.show.Tie as tie
 
-enum-told : tie.Need-enum-told
-enum-told c = search needs
-
 encode-judged-requires : tie.Need-encode-judged-requires
 encode-judged-requires c κs = c .before .before .before .before .pre
 
-enum-known-instance : tie.Need-enum-known-instance
-enum-known-instance c = search needs
-
 returns : tie.Need-returns
 returns c = let s = c .before .before .before .before .before .before in shown-short (s .args .explained) (s .args .shown .now) _ (c .before .before .instance .given .1) (c .if1 .taken)
-
-write-case-requires : tie.Need-write-case-requires
-write-case-requires c κs = search needs
 
 encode-judged-requires-2 : tie.Need-encode-judged-requires-2
 encode-judged-requires-2 c κs = c .before .before .before .before .before .before .before .before .before .before .before .pre
@@ -29,9 +20,6 @@ returns-2 c =
     let s = c .before .before .before .before .before in
     let (a, b) = shown-none (s .args .explained) (s .args .shown .now) (c .before .enum-told .given .1) in
     (kept _ (c .encode-judged .ok) ∙ c .encode-judged .ensures ∙ a, b)
-
-same-length : tie.Need-same-length
-same-length c = search needs
 
 returns-3 : tie.Need-returns-3
 returns-3 c =
@@ -43,12 +31,12 @@ pub show-spec : {M : Type 1} → statement M
 show-spec =
     tie.close
     (tie.spec
-    enum-told
+    (λ c. search needs)
     encode-judged-requires
-    enum-known-instance
+    (λ c. search needs)
     returns
-    write-case-requires
+    (λ c κs. search needs)
     encode-judged-requires-2
     returns-2
-    same-length
+    (λ c. search needs)
     returns-3)

@@ -17,33 +17,12 @@ abbrev μ-loop : tie.MeasureT-loop
 loop-holds : tie.Need-loop-holds Inv-loop μ-loop
 loop-holds c = (refl, search needs, refl)
 
-mul-shown : tie.Need-mul-shown Inv-loop μ-loop
-mul-shown c = search needs
-
-array-read-shown : tie.Need-array-read-shown Inv-loop μ-loop
-array-read-shown c = search needs
-
-mul-shown-2 : tie.Need-mul-shown-2 Inv-loop μ-loop
-mul-shown-2 c = search needs
-
-slice-write-shown : tie.Need-slice-write-shown Inv-loop μ-loop
-slice-write-shown c = search needs
-
-add-i : tie.Need-add-i Inv-loop μ-loop
-add-i c = search needs
-
-loop-less : tie.Need-loop-less Inv-loop μ-loop
-loop-less c = search needs
-
 -- the alignments are as many as the groups
 long : (s : tie.Start Inv-loop μ-loop) → length (s .args .t1) ≡ 16
 long s = search needs
 
 loop-again : tie.Need-loop-again Inv-loop μ-loop
 loop-again c = (over-element _ _ _ 16 (long (c .before .before)) _ _ (c .before .loop .inv .0) (c .loop-test .taken) (search needs) refl, search needs, search needs)
-
-slice-write-shown-2 : tie.Need-slice-write-shown-2 Inv-loop μ-loop
-slice-write-shown-2 c = search needs
 
 same-length : tie.Need-same-length Inv-loop μ-loop
 same-length c = simp length-set (search needs)
@@ -60,13 +39,13 @@ write-case-spec =
     Inv-loop
     μ-loop
     loop-holds
-    mul-shown
-    array-read-shown
-    mul-shown-2
-    slice-write-shown
-    add-i
-    loop-less
+    (λ c. search needs)
+    (λ c. search needs)
+    (λ c. search needs)
+    (λ c. search needs)
+    (λ c. search needs)
+    (λ c. search needs)
     loop-again
-    slice-write-shown-2
+    (λ c. search needs)
     same-length
     returns)

@@ -8,27 +8,6 @@ use Rattle.certifier.specs.laws.ExplainEntry.{shown-refused}
 use Rattle.certifier.proofs.faults_entry.certifier_explain_faults.Statement.{statement}
 use Rattle.certifier.proofs.faults_entry.certifier_explain_faults.Tie as tie
 
-read-requires : tie.Need-read-requires
-read-requires c κs = search needs
-
-enum-known-checked : tie.Need-enum-known-checked
-enum-known-checked c = search needs
-
-of-table-requires : tie.Need-of-table-requires
-of-table-requires c κs = search needs
-
-encode-refusal-requires : tie.Need-encode-refusal-requires
-encode-refusal-requires c κs = search needs
-
-enum-told : tie.Need-enum-told
-enum-told c = search needs
-
-lengths-of-requires : tie.Need-lengths-of-requires
-lengths-of-requires c κs = search needs
-
-explain-faults-table-requires : tie.Need-explain-faults-table-requires
-explain-faults-table-requires c κs = search needs
-
 returns : tie.Need-returns
 unfolding explainFaultsFile explainFaultsRead
 returns c =
@@ -36,9 +15,6 @@ returns c =
     let (a, b) = shown-refused (explainFaultsFile (s .args .lengths .now) (s .args .table .now) (s .args .row) (s .args .gap)) (c .before .of-table .result) (s .args .shown .now)
     (rw (lengths-refused _ (s .args .table .now) (c .before .before .before .before .before .read .ensures .0) (c .before .before .before .checked .given .1), c .before .of-table .ensures)) in
     (kept _ (c .encode-refusal .ok) ∙ c .encode-refusal .ensures ∙ a, b)
-
-same-length : tie.Need-same-length
-same-length c = search needs
 
 -- the lengths of the file
 loaded : (c : tie.After-lengths-of) → ReadLengths (c .before .before .before .before .before .before .before .args .lengths .now) (c .before .before .before .before .before .before .before .args .table .now) (c .lengths-of .result)
@@ -55,13 +31,13 @@ pub certifier-explain-faults-spec : {M : Type 1} → statement M
 certifier-explain-faults-spec =
     tie.close
     (tie.spec
-    read-requires
-    enum-known-checked
-    of-table-requires
-    encode-refusal-requires
-    enum-told
-    lengths-of-requires
-    explain-faults-table-requires
+    (λ c κs. search needs)
+    (λ c. search needs)
+    (λ c κs. search needs)
+    (λ c κs. search needs)
+    (λ c. search needs)
+    (λ c κs. search needs)
+    (λ c κs. search needs)
     returns
-    same-length
+    (λ c. search needs)
     returns-2)

@@ -18,24 +18,6 @@ start c = c .before .before .before
 loaded : (c : tie.After-lengths-of) → let s = start (c .before .before .before) in ReadLengths (s .args .lengths .now) (s .args .table .now) (c .lengths-of .result)
 loaded c = lengths-read _ _ (c .before .before .before .read .ensures .0) (c .before .enum-told .given .1) (c .lengths-of .ensures)
 
-read-requires : tie.Need-read-requires
-read-requires c κs = search needs
-
-enum-known-checked : tie.Need-enum-known-checked
-enum-known-checked c = search needs
-
-of-table-requires : tie.Need-of-table-requires
-of-table-requires c κs = search needs
-
-encode-refusal-requires : tie.Need-encode-refusal-requires
-encode-refusal-requires c κs = search needs
-
-enum-told : tie.Need-enum-told
-enum-told c = search needs
-
-lengths-of-requires : tie.Need-lengths-of-requires
-lengths-of-requires c κs = search needs
-
 judge-faults-table-requires : tie.Need-judge-faults-table-requires
 judge-faults-table-requires c κs = loaded c .loadable
 
@@ -58,12 +40,12 @@ pub certifier-judge-faults-spec : {M : Type 1} → statement M
 certifier-judge-faults-spec =
     tie.close
     (tie.spec
-    read-requires
-    enum-known-checked
-    of-table-requires
-    encode-refusal-requires
-    enum-told
-    lengths-of-requires
+    (λ c κs. search needs)
+    (λ c. search needs)
+    (λ c κs. search needs)
+    (λ c κs. search needs)
+    (λ c. search needs)
+    (λ c κs. search needs)
     judge-faults-table-requires
     returns
     returns-2)

@@ -8,16 +8,10 @@ use Rattle.certifier.specs.laws.Answers.{faults-countable}
 use Rattle.certifier.proofs.faults_entry.certifier_list_faults.Statement.{statement}
 use Rattle.certifier.proofs.faults_entry.certifier_list_faults.Tie as tie
 
-list-faults-requires : tie.Need-list-faults-requires
-list-faults-requires c κs = search needs
-
 encode-listed-requires : tie.Need-encode-listed-requires
 encode-listed-requires c κs =
     let a = c .before .before .before .before .before .before .before .args in
     subst CountableListing (sym (c .before .before .list-faults .ensures .0)) (faults-countable (a .lengths .now) (a .table .now) (a .gap) (a .out .now))
-
-same-length : tie.Need-same-length
-same-length c = search needs
 
 returns : tie.Need-returns
 returns c =
@@ -25,4 +19,4 @@ returns c =
     (kept _ (c .encode-listed .ok) ∙ c .encode-listed .ensures ∙ ap encodeListed (both .0), both .1)
 
 pub certifier-list-faults-spec : {M : Type 1} → statement M
-certifier-list-faults-spec = tie.close (tie.spec list-faults-requires encode-listed-requires same-length returns)
+certifier-list-faults-spec = tie.close (tie.spec (λ c κs. search needs) encode-listed-requires (λ c. search needs) returns)

@@ -9,21 +9,12 @@ use Rattle.certifier.specs.Steps.{CountableListing}
 use Rattle.certifier.proofs.faults_entry.encode_listed.Statement.{statement}
 use Rattle.certifier.proofs.faults_entry.encode_listed.Tie as tie
 
-enum-known-listed : tie.Need-enum-known-listed
-enum-known-listed c = search needs
-
 -- the count is small
 small : (c : tie.After-known-told) → c .before .listed .given .0 .0 < 2 ^ 63
 small c = subst CountableListing (c .before .listed .given .1) (c .before .before .before .pre)
 
 cast-result : tie.Need-cast-result
 cast-result c = record { sfits = omega (arith, small c) }
-
-enum-known-listed-2 : tie.Need-enum-known-listed-2
-enum-known-listed-2 c = search needs
-
-encode-refusal-requires : tie.Need-encode-refusal-requires
-encode-refusal-requires c κs = search needs
 
 returns : tie.Need-returns
 unfolding encodeListed
@@ -37,9 +28,9 @@ pub encode-listed-spec : {M : Type 1} → statement M
 encode-listed-spec =
     tie.close
     (tie.spec
-    enum-known-listed
+    (λ c. search needs)
     cast-result
-    enum-known-listed-2
-    encode-refusal-requires
+    (λ c. search needs)
+    (λ c κs. search needs)
     returns
     returns-2)

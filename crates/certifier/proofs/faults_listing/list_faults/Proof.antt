@@ -7,21 +7,6 @@ use Rattle.certifier.specs.FaultsListing.{listFaultsRead, listedRead}
 use Rattle.certifier.proofs.faults_listing.list_faults.Statement.{statement}
 use Rattle.certifier.proofs.faults_listing.list_faults.Tie as tie
 
-read-requires : tie.Need-read-requires
-read-requires c κs = search needs
-
-enum-known-checked : tie.Need-enum-known-checked
-enum-known-checked c = search needs
-
-of-table-requires : tie.Need-of-table-requires
-of-table-requires c κs = search needs
-
-enum-told : tie.Need-enum-told
-enum-told c = search needs
-
-lengths-of-requires : tie.Need-lengths-of-requires
-lengths-of-requires c κs = search needs
-
 -- the lengths of the file
 loaded : (c : tie.After-lengths-of) → ReadLengths (c .before .before .before .before .before .before .before .args .lengths .now) (c .before .before .before .before .before .before .before .args .table .now) (c .lengths-of .result)
 loaded c = lengths-read _ _ (c .before .before .before .read .ensures .0) (c .before .enum-told .given .1) (c .lengths-of .ensures)
@@ -35,9 +20,6 @@ returns c =
     let s = c .before .before .before .before .before .before .before .before in
     rw (lengths-refused _ (s .args .table .now) (c .before .before .before .before .read .ensures .0) (c .before .before .checked .given .1)) (ap NotListed (c .of-table .ensures), refl)
 
-same-length : tie.Need-same-length
-same-length c = search needs
-
 returns-2 : tie.Need-returns-2
 returns-2 c =
     let l = loaded (c .before .before .before .before) in
@@ -47,12 +29,12 @@ pub list-faults-spec : {M : Type 1} → statement M
 list-faults-spec =
     tie.close
     (tie.spec
-    read-requires
-    enum-known-checked
-    of-table-requires
-    enum-told
-    lengths-of-requires
+    (λ c κs. search needs)
+    (λ c. search needs)
+    (λ c κs. search needs)
+    (λ c. search needs)
+    (λ c κs. search needs)
     list-faults-table-requires
     returns
-    same-length
+    (λ c. search needs)
     returns-2)

@@ -13,9 +13,6 @@ use Rattle.certifier.specs.FaultsListing.{listedBy, listFaultsRows, list
 use Rattle.certifier.proofs.faults_listing.list_faults_rows.Statement.{statement}
 use Rattle.certifier.proofs.faults_listing.list_faults_rows.Tie as tie
 
-is-gap-requires : tie.Need-is-gap-requires
-is-gap-requires c κs = search needs
-
 -- the gap is one
 gap : (c : tie.Then1) → isGap (c .before .before .before .before .args .gap) ≡ true
 gap c = sym (c .before .is-gap .ensures) ∙ c .if1 .taken
@@ -25,12 +22,6 @@ cast-ticks c = omega (arith, gap-within (c .before .before .before .before .args
 
 list-rows-requires : tie.Need-list-rows-requires
 list-rows-requires c κs = (c .before .before .before .before .before .pre, gap-fine (c .before .before .before .before .before .args .gap) (gap (c .before)))
-
-listed-by-requires : tie.Need-listed-by-requires
-listed-by-requires c κs = search needs
-
-same-length : tie.Need-same-length
-same-length c = search needs
 
 returns : tie.Need-returns
 unfolding listFaultsRows listedRows
@@ -48,10 +39,10 @@ pub list-faults-rows-spec : {M : Type 1} → statement M
 list-faults-rows-spec =
     tie.close
     (tie.spec
-    is-gap-requires
+    (λ c κs. search needs)
     cast-ticks
     list-rows-requires
-    listed-by-requires
-    same-length
+    (λ c κs. search needs)
+    (λ c. search needs)
     returns
     returns-2)

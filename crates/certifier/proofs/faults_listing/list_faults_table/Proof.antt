@@ -7,21 +7,6 @@ use Rattle.certifier.specs.FaultsListing.{listFaultsRead, listedRead}
 use Rattle.certifier.proofs.faults_listing.list_faults_table.Statement.{statement}
 use Rattle.certifier.proofs.faults_listing.list_faults_table.Tie as tie
 
-slice-aggregate-read : tie.Need-slice-aggregate-read
-slice-aggregate-read c = search needs
-
-read-requires : tie.Need-read-requires
-read-requires c κs = search needs
-
-enum-known-answer : tie.Need-enum-known-answer
-enum-known-answer c = search needs
-
-of-table-requires : tie.Need-of-table-requires
-of-table-requires c κs = search needs
-
-enum-known-answer-2 : tie.Need-enum-known-answer-2
-enum-known-answer-2 c = search needs
-
 -- what was read is the table
 table : (c : tie.After-known-told2) → ReadRows (c .before .before .before .before .before .before .before .before .args .table .now) (c .before .before .before .before .read .last .1 .0) (c .before .answer2 .given .0 .0)
 table c = read-rows _ _ _ refl (c .before .before .before .before .read .ensures .0) _ _ (c .before .before .before .before .read .ensures .1 .0) (c .before .answer2 .given .1)
@@ -41,9 +26,6 @@ returns c =
     let s = c .before .before .before .before .before .before .before .before .before in
     rw (read-refused (s .args .table .now) _ _ refl (c .before .before .before .before .before .read .ensures .0) _ (c .before .before .answer .given .1)) (ap NotListed (c .of-table .ensures), refl)
 
-same-length : tie.Need-same-length
-same-length c = search needs
-
 returns-2 : tie.Need-returns-2
 unfolding listFaultsRead listedRead
 returns-2 c =
@@ -54,14 +36,14 @@ pub list-faults-table-spec : {M : Type 1} → statement M
 list-faults-table-spec =
     tie.close
     (tie.spec
-    slice-aggregate-read
-    read-requires
-    enum-known-answer
-    of-table-requires
-    enum-known-answer-2
+    (λ c. search needs)
+    (λ c κs. search needs)
+    (λ c. search needs)
+    (λ c κs. search needs)
+    (λ c. search needs)
     array-share-prefix-rows
     slice-aggregate-list-faults-rows
     list-faults-rows-requires
     returns
-    same-length
+    (λ c. search needs)
     returns-2)

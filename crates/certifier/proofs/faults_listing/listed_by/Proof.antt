@@ -5,15 +5,6 @@ use Rattle.certifier.specs.declared.Listed.the-variants.{NotListed}
 use Rattle.certifier.proofs.faults_listing.listed_by.Statement.{statement}
 use Rattle.certifier.proofs.faults_listing.listed_by.Tie as tie
 
-enum-known-answer : tie.Need-enum-known-answer
-enum-known-answer c = search needs
-
-enum-known-answer-2 : tie.Need-enum-known-answer-2
-enum-known-answer-2 c = search needs
-
-of-table-requires : tie.Need-of-table-requires
-of-table-requires c κs = search needs
-
 returns : tie.Need-returns
 returns c = rw (c .before .answer .given .1) refl
 
@@ -22,4 +13,4 @@ returns-2 c = rw (c .before .before .answer2 .given .1) (ap NotListed (c .of-tab
 
 pub listed-by-spec : {M : Type 1} → statement M
 listed-by-spec =
-    tie.close (tie.spec enum-known-answer enum-known-answer-2 of-table-requires returns returns-2)
+    tie.close (tie.spec (λ c. search needs) (λ c. search needs) (λ c κs. search needs) returns returns-2)

@@ -7,18 +7,6 @@ use Rattle.certifier.specs.FrameEntry.{encodeFrame}
 use Rattle.certifier.proofs.frame_entry.certifier_frame_length.Statement.{statement}
 use Rattle.certifier.proofs.frame_entry.certifier_frame_length.Tie as tie
 
-measure-requires : tie.Need-measure-requires
-measure-requires c κs = search needs
-
-enum-known-measured : tie.Need-enum-known-measured
-enum-known-measured c = search needs
-
-cast-result : tie.Need-cast-result
-cast-result c = search needs
-
-enum-told : tie.Need-enum-told
-enum-told c = search needs
-
 returns : tie.Need-returns
 unfolding measuredReturns encodeFrame
 returns c = rw (← c .before .before .before .measure .ensures, c .before .measured .given .1) (toZ-pos _ (omega (arith, c .known-told .given)))
@@ -30,4 +18,4 @@ returns-2 c = rw (← c .before .before .measure .ensures, c .enum-told .given .
 pub certifier-frame-length-spec : {M : Type 1} → statement M
 certifier-frame-length-spec =
     tie.close
-    (tie.spec measure-requires enum-known-measured cast-result enum-told returns returns-2)
+    (tie.spec (λ c κs. search needs) (λ c. search needs) (λ c. search needs) (λ c. search needs) returns returns-2)

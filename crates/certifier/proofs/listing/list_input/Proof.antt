@@ -6,33 +6,6 @@ use borrow.Author.Needs.{needs}
 use Rattle.certifier.proofs.listing.list_input.Statement.{statement}
 use Rattle.certifier.proofs.listing.list_input.Tie as tie
 
-lengths-end-requires : tie.Need-lengths-end-requires
-lengths-end-requires c κs = search needs
-
-sub-list : tie.Need-sub-list
-sub-list c = search needs
-
-part-list-start : tie.Need-part-list-start
-part-list-start c = search needs
-
-part-list-end : tie.Need-part-list-end
-part-list-end c = search needs
-
-sub-list-2 : tie.Need-sub-list-2
-sub-list-2 c = search needs
-
-part-list-start-2 : tie.Need-part-list-start-2
-part-list-start-2 c = search needs
-
-part-list-end-2 : tie.Need-part-list-end-2
-part-list-end-2 c = search needs
-
-list-requires : tie.Need-list-requires
-list-requires c κs = search needs
-
-same-length : tie.Need-same-length
-same-length c = search needs
-
 returns : tie.Need-returns
 returns c =
     let e = c .before .before .before .before .before .before in
@@ -43,13 +16,13 @@ pub list-input-spec : {M : Type 1} → statement M
 list-input-spec =
     tie.close
     (tie.spec
-    lengths-end-requires
-    sub-list
-    part-list-start
-    part-list-end
-    sub-list-2
-    part-list-start-2
-    part-list-end-2
-    list-requires
-    same-length
+    (λ c κs. search needs)
+    (λ c. search needs)
+    (λ c. search needs)
+    (λ c. search needs)
+    (λ c. search needs)
+    (λ c. search needs)
+    (λ c. search needs)
+    (λ c κs. search needs)
+    (λ c. search needs)
     returns)

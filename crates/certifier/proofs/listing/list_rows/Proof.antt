@@ -9,25 +9,10 @@ use Rattle.certifier.specs.laws.Listing.{length-listing}
 use Rattle.certifier.proofs.listing.list_rows.Statement.{statement}
 use Rattle.certifier.proofs.listing.list_rows.Tie as tie
 
-mul-if1 : tie.Need-mul-if1
-mul-if1 c = search needs
-
-no-room-requires : tie.Need-no-room-requires
-no-room-requires c κs = search needs
-
 returns : tie.Need-returns
 returns c =
     let start = c .before .before .before .before in
     area-short Passed (listingOf (start .args .faults) (start .args .lengths) (start .args .rows .now)) (start .args .out .now) _ _ (length-listing (start .args .faults) (start .args .lengths) (start .args .rows .now)) refl (c .before .if1 .taken) (c .no-room .ensures)
-
-write-lines-requires : tie.Need-write-lines-requires
-write-lines-requires c κs = search needs
-
-mul-t6 : tie.Need-mul-t6
-mul-t6 c = search needs
-
-same-length : tie.Need-same-length
-same-length c = search needs
 
 returns-2 : tie.Need-returns-2
 unfolding listingOf
@@ -38,4 +23,4 @@ returns-2 c =
 
 pub list-rows-spec : {M : Type 1} → statement M
 list-rows-spec =
-    tie.close (tie.spec mul-if1 no-room-requires returns write-lines-requires mul-t6 same-length returns-2)
+    tie.close (tie.spec (λ c. search needs) (λ c κs. search needs) returns (λ c κs. search needs) (λ c. search needs) (λ c. search needs) returns-2)

@@ -6,15 +6,6 @@ use Rattle.frame_table.specs.laws.Returns.{answer-told}
 use Rattle.certifier.proofs.listing.write_refusal.Statement.{statement}
 use Rattle.certifier.proofs.listing.write_refusal.Tie as tie
 
-number-requires : tie.Need-number-requires
-number-requires c κs = search needs
-
-write-refusal-line-requires : tie.Need-write-refusal-line-requires
-write-refusal-line-requires c κs = search needs
-
-same-length : tie.Need-same-length
-same-length c = search needs
-
 returns : tie.Need-returns
 unfolding checkReturns
 returns c =
@@ -24,4 +15,4 @@ returns c =
 
 pub write-refusal-spec : {M : Type 1} → statement M
 write-refusal-spec =
-    tie.close (tie.spec number-requires write-refusal-line-requires same-length returns)
+    tie.close (tie.spec (λ c κs. search needs) (λ c κs. search needs) (λ c. search needs) returns)

@@ -12,24 +12,6 @@ judge-row-requires c κs =
     let start = c .before .before in
     (start .pre .0, (omega (arith, length-frames (start .args .lengths) (start .args .rows .now), start .pre .1 .1 .0), start .pre .1 .0))
 
-mul-write-line : tie.Need-mul-write-line
-mul-write-line c = search needs
-
-add-write-line : tie.Need-add-write-line
-add-write-line c = search needs
-
-mul-write-line-2 : tie.Need-mul-write-line-2
-mul-write-line-2 c = search needs
-
-shared-slice-read-write-line : tie.Need-shared-slice-read-write-line
-shared-slice-read-write-line c = search needs
-
-write-line-requires : tie.Need-write-line-requires
-write-line-requires c κs = search needs
-
-same-length : tie.Need-same-length
-same-length c = search needs
-
 returns : tie.Need-returns
 unfolding lineOf
 returns c =
@@ -41,10 +23,10 @@ write-row-spec =
     tie.close
     (tie.spec
     judge-row-requires
-    mul-write-line
-    add-write-line
-    mul-write-line-2
-    shared-slice-read-write-line
-    write-line-requires
-    same-length
+    (λ c. search needs)
+    (λ c. search needs)
+    (λ c. search needs)
+    (λ c. search needs)
+    (λ c κs. search needs)
+    (λ c. search needs)
     returns)

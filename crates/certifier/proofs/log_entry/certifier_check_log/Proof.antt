@@ -5,15 +5,6 @@ use Rattle.arith.specs.laws.Signed.{kept}
 use Rattle.certifier.proofs.log_entry.certifier_check_log.Statement.{statement}
 use Rattle.certifier.proofs.log_entry.certifier_check_log.Tie as tie
 
-check-files-requires : tie.Need-check-files-requires
-check-files-requires c κs = search needs
-
-store-requires : tie.Need-store-requires
-store-requires c κs = search needs
-
-same-length : tie.Need-same-length
-same-length c = search needs
-
 returns : tie.Need-returns
 returns c =
     let e = c .before .before .store .ensures in
@@ -22,4 +13,4 @@ returns c =
 
 pub certifier-check-log-spec : {M : Type 1} → statement M
 certifier-check-log-spec =
-    tie.close (tie.spec check-files-requires store-requires same-length returns)
+    tie.close (tie.spec (λ c κs. search needs) (λ c κs. search needs) (λ c. search needs) returns)

@@ -7,21 +7,6 @@ use Rattle.arith.specs.laws.Signed.{neg-sfits, neg-kept}
 use Rattle.certifier.proofs.log_entry.encode_log_refusal.Statement.{statement}
 use Rattle.certifier.proofs.log_entry.encode_log_refusal.Tie as tie
 
-number-requires : tie.Need-number-requires
-number-requires c κs = search needs
-
-cast-n : tie.Need-cast-n
-cast-n c = search needs
-
-mul-n : tie.Need-mul-n
-mul-n c = search needs
-
-cast-n-2 : tie.Need-cast-n-2
-cast-n-2 c = search needs
-
-add-n : tie.Need-add-n
-add-n c = search needs
-
 cast-result : tie.Need-cast-result
 cast-result c = search needs
 
@@ -35,4 +20,4 @@ returns c =
 
 pub encode-log-refusal-spec : {M : Type 1} → statement M
 encode-log-refusal-spec =
-    tie.close (tie.spec number-requires cast-n mul-n cast-n-2 add-n cast-result sub-result returns)
+    tie.close (tie.spec (λ c κs. search needs) (λ c. search needs) (λ c. search needs) (λ c. search needs) (λ c. search needs) cast-result sub-result returns)

@@ -8,24 +8,12 @@ use Rattle.certifier.specs.laws.LogEntry.{stored-short, stored-all}
 use Rattle.certifier.proofs.log_entry.store_starts.Statement.{statement}
 use Rattle.certifier.proofs.log_entry.store_starts.Tie as tie
 
-encode-log-refusal-requires : tie.Need-encode-log-refusal-requires
-encode-log-refusal-requires c κs = search needs
-
 returns : tie.Need-returns
 unfolding numberOf tableNumberOf
 returns c =
     let s = c .before .before .before .before in
     let (a, b) = stored-short (s .args .starts .now) (s .args .area .now) (s .pre) (c .before .if1 .taken) in
     (kept _ (c .encode-log-refusal .ok) ∙ c .encode-log-refusal .ensures ∙ a, b)
-
-copy-requires : tie.Need-copy-requires
-copy-requires c κs = search needs
-
-cast-result : tie.Need-cast-result
-cast-result c = search needs
-
-same-length : tie.Need-same-length
-same-length c = search needs
 
 returns-2 : tie.Need-returns-2
 returns-2 c =
@@ -36,4 +24,4 @@ returns-2 c =
 pub store-starts-spec : {M : Type 1} → statement M
 store-starts-spec =
     tie.close
-    (tie.spec encode-log-refusal-requires returns copy-requires cast-result same-length returns-2)
+    (tie.spec (λ c κs. search needs) returns (λ c κs. search needs) (λ c. search needs) (λ c. search needs) returns-2)

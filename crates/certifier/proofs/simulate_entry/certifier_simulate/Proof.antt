@@ -7,14 +7,8 @@ use Rattle.certifier.specs.laws.SimulateEntry.{answer-countable, log-nam
 use Rattle.certifier.proofs.simulate_entry.certifier_simulate.Statement.{statement}
 use Rattle.certifier.proofs.simulate_entry.certifier_simulate.Tie as tie
 
-simulate-files-requires : tie.Need-simulate-files-requires
-simulate-files-requires c κs = search needs
-
 encode-simulated-requires : tie.Need-encode-simulated-requires
 encode-simulated-requires c κs = subst CountableLog (sym (c .before .before .simulate-files .ensures .0)) (answer-countable _ _ _ _ _)
-
-same-length : tie.Need-same-length
-same-length c = search needs
 
 returns : tie.Need-returns
 returns c =
@@ -23,4 +17,4 @@ returns c =
 
 pub certifier-simulate-spec : {M : Type 1} → statement M
 certifier-simulate-spec =
-    tie.close (tie.spec simulate-files-requires encode-simulated-requires same-length returns)
+    tie.close (tie.spec (λ c κs. search needs) encode-simulated-requires (λ c. search needs) returns)

@@ -9,17 +9,8 @@ use Rattle.certifier.specs.laws.SimulateEntry.{answer-encoded}
 use Rattle.certifier.proofs.simulate_entry.encode_simulated.Statement.{statement}
 use Rattle.certifier.proofs.simulate_entry.encode_simulated.Tie as tie
 
-enum-known-simulated : tie.Need-enum-known-simulated
-enum-known-simulated c = search needs
-
 encode-answer-requires : tie.Need-encode-answer-requires
 encode-answer-requires c κs = subst CountableLog (c .before .simulated .given .1) (c .before .before .before .pre)
-
-enum-told : tie.Need-enum-told
-enum-told c = search needs
-
-enum-told-2 : tie.Need-enum-told-2
-enum-told-2 c = search needs
 
 returns : tie.Need-returns
 unfolding simulatedReturns
@@ -37,10 +28,10 @@ pub encode-simulated-spec : {M : Type 1} → statement M
 encode-simulated-spec =
     tie.close
     (tie.spec
-    enum-known-simulated
+    (λ c. search needs)
     encode-answer-requires
-    enum-told
-    enum-told-2
+    (λ c. search needs)
+    (λ c. search needs)
     returns
     returns-2
     returns-3)

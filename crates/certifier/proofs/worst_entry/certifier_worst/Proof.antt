@@ -8,27 +8,6 @@ use Rattle.certifier.specs.laws.WorstEntry.{last-refused}
 use Rattle.certifier.proofs.worst_entry.certifier_worst.Statement.{statement}
 use Rattle.certifier.proofs.worst_entry.certifier_worst.Tie as tie
 
-read-requires : tie.Need-read-requires
-read-requires c κs = search needs
-
-enum-known-checked : tie.Need-enum-known-checked
-enum-known-checked c = search needs
-
-of-table-requires : tie.Need-of-table-requires
-of-table-requires c κs = search needs
-
-encode-refusal-requires : tie.Need-encode-refusal-requires
-encode-refusal-requires c κs = search needs
-
-enum-told : tie.Need-enum-told
-enum-told c = search needs
-
-lengths-of-requires : tie.Need-lengths-of-requires
-lengths-of-requires c κs = search needs
-
-worst-table-requires : tie.Need-worst-table-requires
-worst-table-requires c κs = search needs
-
 returns : tie.Need-returns
 unfolding worstFile worstRead
 returns c =
@@ -36,9 +15,6 @@ returns c =
     let (a, b) = last-refused (worstFile (s .args .lengths .now) (s .args .table .now)) (c .before .of-table .result) (s .args .shown .now)
     (rw (lengths-refused _ (s .args .table .now) (c .before .before .before .before .before .read .ensures .0) (c .before .before .before .checked .given .1), c .before .of-table .ensures)) in
     (kept _ (c .encode-refusal .ok) ∙ c .encode-refusal .ensures ∙ a, b)
-
-same-length : tie.Need-same-length
-same-length c = search needs
 
 -- the lengths of the file
 loaded : (c : tie.After-lengths-of) → ReadLengths (c .before .before .before .before .before .before .before .args .lengths .now) (c .before .before .before .before .before .before .before .args .table .now) (c .lengths-of .result)
@@ -55,13 +31,13 @@ pub certifier-worst-spec : {M : Type 1} → statement M
 certifier-worst-spec =
     tie.close
     (tie.spec
-    read-requires
-    enum-known-checked
-    of-table-requires
-    encode-refusal-requires
-    enum-told
-    lengths-of-requires
-    worst-table-requires
+    (λ c κs. search needs)
+    (λ c. search needs)
+    (λ c κs. search needs)
+    (λ c κs. search needs)
+    (λ c. search needs)
+    (λ c κs. search needs)
+    (λ c κs. search needs)
     returns
-    same-length
+    (λ c. search needs)
     returns-2)

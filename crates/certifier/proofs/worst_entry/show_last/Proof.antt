@@ -6,20 +6,11 @@ use Rattle.certifier.specs.laws.WorstEntry.{last-none, last-short, last-
 use Rattle.certifier.proofs.worst_entry.show_last.Statement.{statement}
 use Rattle.certifier.proofs.worst_entry.show_last.Tie as tie
 
-enum-told : tie.Need-enum-told
-enum-told c = search needs
-
 encode-judged-requires : tie.Need-encode-judged-requires
 encode-judged-requires c κs = c .before .before .before .before .pre
 
-enum-known-response : tie.Need-enum-known-response
-enum-known-response c = search needs
-
 returns : tie.Need-returns
 returns c = let s = c .before .before .before .before .before .before in last-short (s .args .last) (s .args .shown .now) _ (c .before .before .response .given .1) (c .if1 .taken)
-
-write-worst-requires : tie.Need-write-worst-requires
-write-worst-requires c κs = search needs
 
 encode-judged-requires-2 : tie.Need-encode-judged-requires-2
 encode-judged-requires-2 c κs = c .before .before .before .before .before .before .before .before .before .before .before .pre
@@ -29,9 +20,6 @@ returns-2 c =
     let s = c .before .before .before .before .before in
     let (a, b) = last-none (s .args .last) (s .args .shown .now) (c .before .enum-told .given .1) in
     (kept _ (c .encode-judged .ok) ∙ c .encode-judged .ensures ∙ a, b)
-
-same-length : tie.Need-same-length
-same-length c = search needs
 
 returns-3 : tie.Need-returns-3
 returns-3 c =
@@ -43,12 +31,12 @@ pub show-last-spec : {M : Type 1} → statement M
 show-last-spec =
     tie.close
     (tie.spec
-    enum-told
+    (λ c. search needs)
     encode-judged-requires
-    enum-known-response
+    (λ c. search needs)
     returns
-    write-worst-requires
+    (λ c κs. search needs)
     encode-judged-requires-2
     returns-2
-    same-length
+    (λ c. search needs)
     returns-3)

@@ -8,18 +8,6 @@ use Rattle.certifier.specs.laws.WorstEntry.{response-behind}
 use Rattle.certifier.proofs.worst_entry.write_worst.Statement.{statement}
 use Rattle.certifier.proofs.worst_entry.write_worst.Tie as tie
 
-write-case-requires : tie.Need-write-case-requires
-write-case-requires c κs = search needs
-
-sub-shown : tie.Need-sub-shown
-sub-shown c = search needs
-
-mul-shown : tie.Need-mul-shown
-mul-shown c = search needs
-
-slice-write-shown : tie.Need-slice-write-shown
-slice-write-shown c = search needs
-
 same-length : tie.Need-same-length
 same-length c = simp length-set (search needs)
 
@@ -36,9 +24,9 @@ pub write-worst-spec : {M : Type 1} → statement M
 write-worst-spec =
     tie.close
     (tie.spec
-    write-case-requires
-    sub-shown
-    mul-shown
-    slice-write-shown
+    (λ c κs. search needs)
+    (λ c. search needs)
+    (λ c. search needs)
+    (λ c. search needs)
     same-length
     returns)

@@ -23,23 +23,8 @@ found c =
     let w : lineLength * i + at .start2 .result - (lineLength * i + at .before .start .result) ≡ widthOf (at .before .before .before .args .j) = omega (arith, place at) in
     rw (← w, ← at .before .start .ensures) (c .read .ensures)
 
-mul-from : tie.Need-mul-from
-mul-from c = search needs
-
-start-requires : tie.Need-start-requires
-start-requires c κs = search needs
-
 add-from : tie.Need-add-from
 add-from c = let start = c .before .before in omega (arith, c .start .ensures, start-next _ (start .pre .1), end-most _ (start .pre .1))
-
-mul-to : tie.Need-mul-to
-mul-to c = search needs
-
-add-start : tie.Need-add-start
-add-start c = search needs
-
-start-requires-2 : tie.Need-start-requires-2
-start-requires-2 c κs = search needs
 
 add-to : tie.Need-add-to
 add-to c = omega (arith, place c)
@@ -53,15 +38,6 @@ part-read-start c = omega (arith, place c)
 part-read-end : tie.Need-part-read-end
 part-read-end c = omega (arith, place c)
 
-read-requires : tie.Need-read-requires
-read-requires c κs = search needs
-
-enum-known-column : tie.Need-enum-known-column
-enum-known-column c = search needs
-
-enum-told : tie.Need-enum-told
-enum-told c = search needs
-
 returns : tie.Need-returns
 unfolding fieldOf
 returns c = ap fieldOf (sym (c .before .column .given .1) ∙ found (c .before .before .before))
@@ -74,18 +50,18 @@ pub column-spec : {M : Type 1} → statement M
 column-spec =
     tie.close
     (tie.spec
-    mul-from
-    start-requires
+    (λ c. search needs)
+    (λ c κs. search needs)
     add-from
-    mul-to
-    add-start
-    start-requires-2
+    (λ c. search needs)
+    (λ c. search needs)
+    (λ c κs. search needs)
     add-to
     sub-read
     part-read-start
     part-read-end
-    read-requires
-    enum-known-column
-    enum-told
+    (λ c κs. search needs)
+    (λ c. search needs)
+    (λ c. search needs)
     returns
     returns-2)

@@ -13,24 +13,6 @@ use Rattle.frame_table.proofs.text.field.Tie as tie
 last : (i : ℕ) → lineLength * i + lineLength - 1 ≡ lineLength * i + feedAt
 last i = omega arith
 
-mul-if2 : tie.Need-mul-if2
-mul-if2 c = search needs
-
-add-if2 : tie.Need-add-if2
-add-if2 c = search needs
-
-sub-if2 : tie.Need-sub-if2
-sub-if2 c = search needs
-
-shared-slice-read-if2 : tie.Need-shared-slice-read-if2
-shared-slice-read-if2 c = search needs
-
-column-requires : tie.Need-column-requires
-column-requires c κs = search needs
-
-column-requires-2 : tie.Need-column-requires-2
-column-requires-2 c κs = search needs
-
 returns : tie.Need-returns
 unfolding fieldAt terminated
 returns c =
@@ -48,12 +30,12 @@ pub field-spec : {M : Type 1} → statement M
 field-spec =
     tie.close
     (tie.spec
-    mul-if2
-    add-if2
-    sub-if2
-    shared-slice-read-if2
-    column-requires
-    column-requires-2
+    (λ c. search needs)
+    (λ c. search needs)
+    (λ c. search needs)
+    (λ c. search needs)
+    (λ c κs. search needs)
+    (λ c κs. search needs)
     returns
     returns-2
     returns-3)

@@ -19,14 +19,8 @@ start-at : (j : ℕ) → j ≤ columns → getD starts j 0 ≡ startOf j
 unfolding startOf
 start-at j l = eqb→eq _ _ (below (λ j. eqb (getD starts j 0) (startOf j)) (columns + 1) tt j (omega arith))
 
-mul-result : tie.Need-mul-result
-mul-result c = search needs
-
-array-read-result : tie.Need-array-read-result
-array-read-result c = search needs
-
 returns : tie.Need-returns
 returns c = start-at (c .args .j) (c .pre)
 
 pub start-spec : {M : Type 1} → statement M
-start-spec = tie.close (tie.spec mul-result array-read-result returns)
+start-spec = tie.close (tie.spec (λ c. search needs) (λ c. search needs) returns)

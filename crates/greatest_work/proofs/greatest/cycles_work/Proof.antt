@@ -3,7 +3,6 @@ use Prim.Native.Nat.{_*_, _≤_}
 use mathlib.Core.Path.{sym}
 use native.Mathlib.Omega.{arith}
 use native.Mathlib.Nat.{mul-le-mul, zero-mul}
-use borrow.Author.Needs.{needs}
 use Rattle.workload.specs.laws.Fine.{group-fine}
 use Rattle.workload.specs.laws.Groups.{cycle-small, read-frames, read-cycle}
 use Rattle.greatest_work.proofs.greatest.cycles_work.Statement.{statement}

@@ -1,5 +1,4 @@
 -- By the choice: a fixed alignment has its work at once, and else it is the greatest that is remembered or looked for.
-use native.Mathlib.Omega.{arith}
 use borrow.Author.Needs.{needs}
 use Rattle.bus_model.specs.declared.Choice.the-variants.{Fixed}
 use Rattle.bus_model.specs.Bounds.{groupWork}
@@ -8,20 +7,11 @@ use Rattle.workload.specs.laws.Groups.{read-group}
 use Rattle.greatest_work.proofs.greatest.group_work.Statement.{statement}
 use Rattle.greatest_work.proofs.greatest.group_work.Tie as tie
 
-enum-known-choice : tie.Need-enum-known-choice
-enum-known-choice c = search needs
-
 part-of-requires : tie.Need-part-of-requires
 part-of-requires c κs = let s = c .before .before .before .before .before .before in (s .pre .0 .prepared .filled .size, s .pre .1 .0, s .pre .0 .prepared .by-group .inside (s .args .j) (s .pre .1 .0))
 
 work-in-requires : tie.Need-work-in-requires
 work-in-requires c κs = let s = c .before .before .before .before .before .before .before in (rw (c .part-of .ensures) (group-fine (s .pre .0 .prepared) (s .args .j) (s .pre .1 .0)), s .pre .1 .1)
-
-enum-told : tie.Need-enum-told
-enum-told c = search needs
-
-open-work-requires : tie.Need-open-work-requires
-open-work-requires c κs = search needs
 
 returns : tie.Need-returns
 unfolding groupWork
@@ -30,9 +20,6 @@ returns c =
     let is = read-group (s .pre .0 .prepared) (s .args .j) (s .pre .1 .0) (Fixed (c .before .before .before .choice .given .0 .0)) (s .args .n) (rw (c .before .part-of .ensures) at (c .work-in .ensures .0)) in
     rw (c .before .before .before .choice .given .1) (is, (c .work-in .ensures .1, s .pre .0))
 
-same-length : tie.Need-same-length
-same-length c = search needs
-
 returns-2 : tie.Need-returns-2
 returns-2 c = rw (c .before .before .before .before .enum-told .given .1) (c .before .before .open-work .ensures)
 
@@ -40,11 +27,11 @@ pub group-work-spec : {M : Type 1} → statement M
 group-work-spec =
     tie.close
     (tie.spec
-    enum-known-choice
+    (λ c. search needs)
     part-of-requires
     work-in-requires
-    enum-told
-    open-work-requires
+    (λ c. search needs)
+    (λ c κs. search needs)
     returns
-    same-length
+    (λ c. search needs)
     returns-2)

@@ -1,5 +1,5 @@
 -- The cycle is not 0; the rest has no work where it has no ticks.
-use Prim.Native.Nat.{_+_, _/_, _%_}
+use Prim.Native.Nat.{_+_}
 use mathlib.Core.Path.{sym, _∙_}
 use native.Mathlib.Omega.{arith}
 use native.Mathlib.Nat.{div-le-self, mod-le, add-zero}
@@ -21,9 +21,6 @@ rem-rest c = let s = c .before .before .before .before in omega (arith, c .cycle
 cycles-work-requires : tie.Need-cycles-work-requires
 cycles-work-requires c κs = let s = c .before .before .before .before .before in (s .pre .0, (s .pre .1 .0, omega (arith, div-le-self (s .args .n) (c .before .cycle-of .result), s .pre .1 .1)))
 
-same-length : tie.Need-same-length
-same-length c = search needs
-
 returns : tie.Need-returns
 returns c =
     let s = c .before .before .before .before .before .before .before in
@@ -39,9 +36,6 @@ add-result c =
     let r = most-rest (s .pre .0 .prepared) (s .args .j) (s .pre .1 .0) (s .args .n) (s .pre .1 .1) (rw (c .before .before .before .before .before .before .before .cycle-of .ensures) at (c .before .before .before .before .before .cycles-work .ensures)) (rw (c .before .before .before .before .before .before .before .cycle-of .ensures) at (c .before .before .stair-work .ensures .0)) in
     omega (arith, r .1)
 
-same-length-2 : tie.Need-same-length-2
-same-length-2 c = search needs
-
 returns-2 : tie.Need-returns-2
 returns-2 c =
     let s = c .before .before .before .before .before .before .before .before .before .before .before in
@@ -56,9 +50,9 @@ open-work-spec =
     div-cycles
     rem-rest
     cycles-work-requires
-    same-length
+    (λ c. search needs)
     returns
     stair-work-requires
     add-result
-    same-length-2
+    (λ c. search needs)
     returns-2)

@@ -2,7 +2,6 @@
 use mathlib.Core.Path.{sym}
 use native.Mathlib.Omega.{arith}
 use borrow.Author.Needs.{needs}
-use lib.ListN.{length-set}
 use Rattle.bus_model.specs.declared.Choice.the-variants.{Any}
 use Rattle.bus_model.specs.Bounds.{groupWork}
 use Rattle.bus_model.specs.theory.Turns.{first-aligned}
@@ -30,20 +29,8 @@ set-of-requires c κs =
 lookup-requires : tie.Need-lookup-requires
 lookup-requires c κs = let s = c .before .before .before .before .before .before .before .before in (s .pre .0 .remembered .size, c .before .set-of .ensures)
 
-enum-known-found : tie.Need-enum-known-found
-enum-known-found c = search needs
-
-cast-result : tie.Need-cast-result
-cast-result c = search needs
-
-same-length : tie.Need-same-length
-same-length c = search needs
-
 returns : tie.Need-returns
 returns c = let s = c .before .before .before .before .before .before .before .before .before .before .before .before in (told-is (s .pre .0 .remembered) (c .before .before .before .lookup .ensures _ (c .before .found .given .1)), s .pre .0)
-
-enum-told : tie.Need-enum-told
-enum-told c = search needs
 
 part-of-requires : tie.Need-part-of-requires
 part-of-requires c κs = let s = c .before .before .before .before .before .before .before .before .before .before .before in (s .pre .0 .prepared .filled .size, s .pre .1 .0, s .pre .0 .prepared .by-group .inside (s .args .j) (s .pre .1 .0))
@@ -56,12 +43,6 @@ best-alignment-requires c κs =
 insert-requires : tie.Need-insert-requires
 insert-requires c κs = let s = c .before .before .before .before .before .before .before .before .before .before .before .before .before .before in (s .pre .0 .remembered .size, c .before .before .before .before .before .before .before .set-of .ensures, s .pre .1 .0, omega (arith, s .pre .1 .1))
 
-cast-memory : tie.Need-cast-memory
-cast-memory c = search needs
-
-add-memory : tie.Need-add-memory
-add-memory c = search needs
-
 add-memory-2 : tie.Need-add-memory-2
 add-memory-2 c = omega (arith, c .before .before .before .before .before .before .before .before .before .before .before .before .before .before .before .before .before .before .pre .1 .0)
 
@@ -70,9 +51,6 @@ mul-memory c = omega (arith, c .before .before .before .before .before .before .
 
 slice-write-memory : tie.Need-slice-write-memory
 slice-write-memory c = omega (arith, c .before .before .before .before .before .before .before .before .before .before .before .before .before .before .before .before .before .before .pre .1 .0, c .before .before .before .insert .kept .0, c .before .before .before .before .before .before .before .before .before .before .before .before .before .before .before .before .before .before .pre .0 .remembered .size)
-
-same-length-2 : tie.Need-same-length-2
-same-length-2 c = search needs
 
 returns-2 : tie.Need-returns-2
 unfolding groupWork
@@ -94,18 +72,18 @@ stair-work-spec =
     count-of-requires
     set-of-requires
     lookup-requires
-    enum-known-found
-    cast-result
-    same-length
+    (λ c. search needs)
+    (λ c. search needs)
+    (λ c. search needs)
     returns
-    enum-told
+    (λ c. search needs)
     part-of-requires
     best-alignment-requires
     insert-requires
-    cast-memory
-    add-memory
+    (λ c. search needs)
+    (λ c. search needs)
     add-memory-2
     mul-memory
     slice-write-memory
-    same-length-2
+    (λ c. search needs)
     returns-2)

@@ -27,23 +27,8 @@ loop-holds : tie.Need-loop-holds Inv-loop μ-loop
 unfolding work
 loop-holds c = (record { inside = omega arith; is = zero-add _ }, omega arith, c .before .before .before .pre .0)
 
-mul-choice : tie.Need-mul-choice Inv-loop μ-loop
-mul-choice c = search needs
-
-array-copy-out-choice : tie.Need-array-copy-out-choice Inv-loop μ-loop
-array-copy-out-choice c = search needs
-
 group-work-requires : tie.Need-group-work-requires Inv-loop μ-loop
 group-work-requires c κs = (c .before .before .before .loop .inv .2, (c .before .before .loop-test .taken, c .before .before .before .before .before .before .before .pre .1))
-
-add-sum : tie.Need-add-sum Inv-loop μ-loop
-add-sum c = search needs
-
-add-j : tie.Need-add-j Inv-loop μ-loop
-add-j c = search needs
-
-loop-less : tie.Need-loop-less Inv-loop μ-loop
-loop-less c = search needs
 
 loop-again : tie.Need-loop-again Inv-loop μ-loop
 loop-again c =
@@ -76,12 +61,12 @@ whole-work-spec =
     Inv-loop
     μ-loop
     loop-holds
-    mul-choice
-    array-copy-out-choice
+    (λ c. search needs)
+    (λ c. search needs)
     group-work-requires
-    add-sum
-    add-j
-    loop-less
+    (λ c. search needs)
+    (λ c. search needs)
+    (λ c. search needs)
     loop-again
     same-length
     returns)

@@ -1,6 +1,6 @@
 -- What is remembered is one more than an alignment of the group; else the first that is found, or the empty one.
 use Prim.Native.Nat.{_+_}
-use mathlib.Core.Path.{refl, _∙_}
+use mathlib.Core.Path.{_∙_}
 use native.Mathlib.Omega.{arith}
 use borrow.Author.Needs.{needs}
 use Rattle.arith.specs.Least.{orZero}
@@ -10,17 +10,8 @@ use Rattle.workload.specs.laws.Groups.{cycle-small, read-search}
 use Rattle.greatest_work.proofs.guesses.guess.Statement.{statement}
 use Rattle.greatest_work.proofs.guesses.guess.Tie as tie
 
-add-last : tie.Need-add-last
-add-last c = search needs
-
-mul-last : tie.Need-mul-last
-mul-last c = search needs
-
 shared-slice-read-last : tie.Need-shared-slice-read-last
 shared-slice-read-last c = let s = c .before .before .before .before in omega (arith, s .pre .0 .remembered .size, s .pre .1)
-
-sub-result : tie.Need-sub-result
-sub-result c = search needs
 
 cast-result : tie.Need-cast-result
 cast-result c = let s = c .before .before .before .before .before in omega (arith, s .pre .0 .remembered .guess-small (s .args .j) (s .pre .1))
@@ -38,12 +29,6 @@ next-alignment-requires : tie.Need-next-alignment-requires
 next-alignment-requires c κs =
     let s = c .before .before .before .before .before .before .before in
     (rw (c .before .part-of .ensures) (group-fine (s .pre .0 .prepared) (s .args .j) (s .pre .1)), (omega arith, rw (c .cycle-of .ensures) (cycle-small (s .pre .0 .prepared) (s .args .j) (s .pre .1))))
-
-enum-known-found : tie.Need-enum-known-found
-enum-known-found c = search needs
-
-enum-told : tie.Need-enum-told
-enum-told c = search needs
 
 returns-2 : tie.Need-returns-2
 unfolding orZero
@@ -63,16 +48,16 @@ pub guess-spec : {M : Type 1} → statement M
 guess-spec =
     tie.close
     (tie.spec
-    add-last
-    mul-last
+    (λ c. search needs)
+    (λ c. search needs)
     shared-slice-read-last
-    sub-result
+    (λ c. search needs)
     cast-result
     returns
     part-of-requires
     cycle-of-requires
     next-alignment-requires
-    enum-known-found
-    enum-told
+    (λ c. search needs)
+    (λ c. search needs)
     returns-2
     returns-3)

@@ -16,27 +16,6 @@ abbrev μ-loop : tie.MeasureT-loop
 loop-holds : tie.Need-loop-holds Inv-loop μ-loop
 loop-holds c = record { size = search needs; each = λ i l. absurd (omega arith); fixed = λ i l. absurd (omega arith) }
 
-mul-choice : tie.Need-mul-choice Inv-loop μ-loop
-mul-choice c = search needs
-
-array-copy-out-choice : tie.Need-array-copy-out-choice Inv-loop μ-loop
-array-copy-out-choice c = search needs
-
-guessed-choice-requires : tie.Need-guessed-choice-requires Inv-loop μ-loop
-guessed-choice-requires c κs = search needs
-
-mul-fixed : tie.Need-mul-fixed Inv-loop μ-loop
-mul-fixed c = search needs
-
-array-set-from-fixed : tie.Need-array-set-from-fixed Inv-loop μ-loop
-array-set-from-fixed c = search needs
-
-add-j : tie.Need-add-j Inv-loop μ-loop
-add-j c = search needs
-
-loop-less : tie.Need-loop-less Inv-loop μ-loop
-loop-less c = search needs
-
 loop-again : tie.Need-loop-again Inv-loop μ-loop
 loop-again c = allowed-put (c .before .before .before .loop .inv) (c .before .before .loop-test .taken) _ (c .guessed-choice .ensures .0) (c .guessed-choice .ensures .1)
 
@@ -50,12 +29,12 @@ guessed-spec =
     Inv-loop
     μ-loop
     loop-holds
-    mul-choice
-    array-copy-out-choice
-    guessed-choice-requires
-    mul-fixed
-    array-set-from-fixed
-    add-j
-    loop-less
+    (λ c. search needs)
+    (λ c. search needs)
+    (λ c κs. search needs)
+    (λ c. search needs)
+    (λ c. search needs)
+    (λ c. search needs)
+    (λ c. search needs)
     loop-again
     returns)

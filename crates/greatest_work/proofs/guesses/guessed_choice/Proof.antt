@@ -5,15 +5,6 @@ use Rattle.bus_model.specs.theory.Work.{Allows}
 use Rattle.greatest_work.proofs.guesses.guessed_choice.Statement.{statement}
 use Rattle.greatest_work.proofs.guesses.guessed_choice.Tie as tie
 
-enum-known-choice : tie.Need-enum-known-choice
-enum-known-choice c = search needs
-
-enum-told : tie.Need-enum-told
-enum-told c = search needs
-
-guess-requires : tie.Need-guess-requires
-guess-requires c κs = search needs
-
 returns : tie.Need-returns
 unfolding Allows
 returns c = (rw (c .before .choice .given .1) refl, (_, refl))
@@ -26,8 +17,8 @@ pub guessed-choice-spec : {M : Type 1} → statement M
 guessed-choice-spec =
     tie.close
     (tie.spec
-    enum-known-choice
-    enum-told
-    guess-requires
+    (λ c. search needs)
+    (λ c. search needs)
+    (λ c κs. search needs)
     returns
     returns-2)

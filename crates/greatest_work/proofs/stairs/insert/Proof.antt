@@ -11,39 +11,6 @@ use Rattle.greatest_work.proofs.stairs.insert.Tie as tie
 returns : tie.Need-returns
 returns c = λ fs k valid is kept. kept
 
-place-for-requires : tie.Need-place-for-requires
-place-for-requires c κs = search needs
-
-mul-v : tie.Need-mul-v
-mul-v c = search needs
-
-slice-read-v : tie.Need-slice-read-v
-slice-read-v c = search needs
-
-is-of-requires : tie.Need-is-of-requires
-is-of-requires c κs = search needs
-
-widen-requires : tie.Need-widen-requires
-widen-requires c κs = search needs
-
-mul-memory : tie.Need-mul-memory
-mul-memory c = search needs
-
-slice-write-memory : tie.Need-slice-write-memory
-slice-write-memory c = search needs
-
-pack-requires : tie.Need-pack-requires
-pack-requires c κs = search needs
-
-mul-memory-2 : tie.Need-mul-memory-2
-mul-memory-2 c = search needs
-
-slice-write-memory-2 : tie.Need-slice-write-memory-2
-slice-write-memory-2 c = search needs
-
-same-length : tie.Need-same-length
-same-length c = search needs
-
 returns-2 : tie.Need-returns-2
 returns-2 c =
     let s = c .before .before .before .before .before .before .before .before in
@@ -52,9 +19,6 @@ returns-2 c =
     λ fs k valid is kept.
     put-stair kept p _ inside
     (rw (c .widen .ensures) (holds-widened valid (getD (s .args .memory .now) p 0) (s .args .j) (s .args .n) (s .args .work) (kept .stairs p inside) (sym (c .before .before .is-of .ensures) ∙ c .before .if2 .taken) (s .pre .3) is))
-
-same-length-2 : tie.Need-same-length-2
-same-length-2 c = search needs
 
 returns-3 : tie.Need-returns-3
 returns-3 c =
@@ -69,17 +33,17 @@ insert-spec =
     tie.close
     (tie.spec
     returns
-    place-for-requires
-    mul-v
-    slice-read-v
-    is-of-requires
-    widen-requires
-    mul-memory
-    slice-write-memory
-    pack-requires
-    mul-memory-2
-    slice-write-memory-2
-    same-length
+    (λ c κs. search needs)
+    (λ c. search needs)
+    (λ c. search needs)
+    (λ c κs. search needs)
+    (λ c κs. search needs)
+    (λ c. search needs)
+    (λ c. search needs)
+    (λ c κs. search needs)
+    (λ c. search needs)
+    (λ c. search needs)
+    (λ c. search needs)
     returns-2
-    same-length-2
+    (λ c. search needs)
     returns-3)

@@ -16,41 +16,11 @@ checked : (c : tie.After-read) → lengthsFileCheck (lengthsPart (c .before .bef
 checked c =
     sym (ap (λ x. x .checked) (c .read .ensures .0) ∙ loaded-checked _ ∙ ap lengthsFileCheck (first-part _ _ (c .before .before .lengths-end .ensures)))
 
-lengths-end-requires : tie.Need-lengths-end-requires
-lengths-end-requires c κs = search needs
-
-sub-read : tie.Need-sub-read
-sub-read c = search needs
-
-part-read-start : tie.Need-part-read-start
-part-read-start c = search needs
-
-part-read-end : tie.Need-part-read-end
-part-read-end c = search needs
-
-read-requires : tie.Need-read-requires
-read-requires c κs = search needs
-
-enum-told : tie.Need-enum-told
-enum-told c = search needs
-
-enum-told-2 : tie.Need-enum-told-2
-enum-told-2 c = search needs
-
 returns : tie.Need-returns
 unfolding sizeCheck
 returns c =
     let a = c .before .before .before .before .before .before .args in
     size-told (a .start .now) (a .size) (rw (checked (c .before .before), c .enum-told2 .given .1))
-
-lengths-end-requires-2 : tie.Need-lengths-end-requires-2
-lengths-end-requires-2 c κs = search needs
-
-sub-check-length : tie.Need-sub-check-length
-sub-check-length c = search needs
-
-check-length-requires : tie.Need-check-length-requires
-check-length-requires c κs = search needs
 
 returns-2 : tie.Need-returns-2
 unfolding sizeCheck
@@ -65,15 +35,15 @@ pub check-size-spec : {M : Type 1} → statement M
 check-size-spec =
     tie.close
     (tie.spec
-    lengths-end-requires
-    sub-read
-    part-read-start
-    part-read-end
-    read-requires
-    enum-told
-    enum-told-2
+    (λ c κs. search needs)
+    (λ c. search needs)
+    (λ c. search needs)
+    (λ c. search needs)
+    (λ c κs. search needs)
+    (λ c. search needs)
+    (λ c. search needs)
     returns
-    lengths-end-requires-2
-    sub-check-length
-    check-length-requires
+    (λ c κs. search needs)
+    (λ c. search needs)
+    (λ c κs. search needs)
     returns-2)

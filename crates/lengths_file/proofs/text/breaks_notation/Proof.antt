@@ -17,17 +17,8 @@ abbrev μ-loop : tie.MeasureT-loop
 loop-holds : tie.Need-loop-holds Inv-loop μ-loop
 loop-holds c = (refl, search needs)
 
-is-broken-requires : tie.Need-is-broken-requires Inv-loop μ-loop
-is-broken-requires c κs = search needs
-
 returns : tie.Need-returns Inv-loop μ-loop
 returns c = exists-stop _ _ _ _ (c .before .before .loop-test .taken) (c .before .is-broken .ensures) (c .if1 .taken) ∙ c .before .before .before .loop .inv .0
-
-add-s : tie.Need-add-s Inv-loop μ-loop
-add-s c = search needs
-
-loop-less : tie.Need-loop-less Inv-loop μ-loop
-loop-less c = search needs
 
 loop-again : tie.Need-loop-again Inv-loop μ-loop
 loop-again c = (exists-go _ _ _ _ (c .before .before .loop-test .taken) (c .before .is-broken .ensures) (c .if1 .left) ∙ c .before .before .before .loop .inv .0, search needs)
@@ -42,9 +33,9 @@ breaks-notation-spec =
     Inv-loop
     μ-loop
     loop-holds
-    is-broken-requires
+    (λ c κs. search needs)
     returns
-    add-s
-    loop-less
+    (λ c. search needs)
+    (λ c. search needs)
     loop-again
     returns-2)

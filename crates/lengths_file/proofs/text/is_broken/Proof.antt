@@ -5,15 +5,6 @@ use Rattle.lengths_file.specs.Lengths.{isUnreadable, isBroken}
 use Rattle.lengths_file.proofs.text.is_broken.Statement.{statement}
 use Rattle.lengths_file.proofs.text.is_broken.Tie as tie
 
-column-requires : tie.Need-column-requires
-column-requires c κs = search needs
-
-enum-told : tie.Need-enum-told
-enum-told c = search needs
-
-enum-told-2 : tie.Need-enum-told-2
-enum-told-2 c = search needs
-
 returns : tie.Need-returns
 unfolding isBroken isUnreadable
 returns c = ap isUnreadable (sym (c .enum-told .given .1) ∙ c .before .before .column .ensures)
@@ -23,4 +14,4 @@ unfolding isBroken isUnreadable
 returns-2 c = ap isUnreadable (sym (c .enum-told2 .given .1) ∙ c .before .before .column .ensures)
 
 pub is-broken-spec : {M : Type 1} → statement M
-is-broken-spec = tie.close (tie.spec column-requires enum-told enum-told-2 returns returns-2)
+is-broken-spec = tie.close (tie.spec (λ c κs. search needs) (λ c. search needs) (λ c. search needs) returns returns-2)

@@ -7,21 +7,6 @@ use borrow.Author.Needs.{needs}
 use Rattle.lengths_file.proofs.text.is_line.Statement.{statement}
 use Rattle.lengths_file.proofs.text.is_line.Tie as tie
 
-mul-if1 : tie.Need-mul-if1
-mul-if1 c = search needs
-
-mul-if1-2 : tie.Need-mul-if1-2
-mul-if1-2 c = search needs
-
-add-if1 : tie.Need-add-if1
-add-if1 c = search needs
-
-shared-slice-read-if1 : tie.Need-shared-slice-read-if1
-shared-slice-read-if1 c = search needs
-
-breaks-notation-requires : tie.Need-breaks-notation-requires
-breaks-notation-requires c κs = search needs
-
 returns : tie.Need-returns
 unfolding isLine
 returns c = rw (eq-eqb _ _ (c .before .if1 .taken)) (ap not (c .breaks-notation .ensures))
@@ -34,10 +19,10 @@ pub is-line-spec : {M : Type 1} → statement M
 is-line-spec =
     tie.close
     (tie.spec
-    mul-if1
-    mul-if1-2
-    add-if1
-    shared-slice-read-if1
-    breaks-notation-requires
+    (λ c. search needs)
+    (λ c. search needs)
+    (λ c. search needs)
+    (λ c. search needs)
+    (λ c κs. search needs)
     returns
     returns-2)

@@ -11,12 +11,6 @@ returns : tie.Need-returns
 unfolding isText
 returns c = rw (ne-eqb _ _ (c .if1 .taken))
 
-is-line-requires : tie.Need-is-line-requires
-is-line-requires c κs = search needs
-
-is-line-requires-2 : tie.Need-is-line-requires-2
-is-line-requires-2 c κs = search needs
-
 returns-2 : tie.Need-returns-2
 unfolding isText
 returns-2 c =
@@ -28,4 +22,4 @@ unfolding isText
 returns-3 c = rw (eq-eqb _ _ (c .before .before .if1 .left), sym (c .before .is-line .ensures) ∙ c .if2 .left) (c .if2 .left)
 
 pub is-text-spec : {M : Type 1} → statement M
-is-text-spec = tie.close (tie.spec returns is-line-requires is-line-requires-2 returns-2 returns-3)
+is-text-spec = tie.close (tie.spec returns (λ c κs. search needs) (λ c κs. search needs) returns-2 returns-3)

@@ -7,17 +7,8 @@ use borrow.Author.Needs.{needs}
 use Rattle.lengths_file.proofs.text.number.Statement.{statement}
 use Rattle.lengths_file.proofs.text.number.Tie as tie
 
-column-requires : tie.Need-column-requires
-column-requires c κs = search needs
-
-enum-known-found : tie.Need-enum-known-found
-enum-known-found c = search needs
-
 cast-result : tie.Need-cast-result
 cast-result c = record { fits = omega (arith, column-below _ _ _ (c .before .before .before .before .before .pre .0) (c .before .before .before .before .before .pre .1) (sym (c .before .before .before .column .ensures) ∙ c .before .found .given .1)) }
-
-enum-told : tie.Need-enum-told
-enum-told c = search needs
 
 returns : tie.Need-returns
 unfolding numberIn
@@ -29,4 +20,4 @@ returns-2 c = ap numberIn (sym (c .enum-told .given .1) ∙ c .before .before .c
 
 pub number-spec : {M : Type 1} → statement M
 number-spec =
-    tie.close (tie.spec column-requires enum-known-found cast-result enum-told returns returns-2)
+    tie.close (tie.spec (λ c κs. search needs) (λ c. search needs) cast-result (λ c. search needs) returns returns-2)

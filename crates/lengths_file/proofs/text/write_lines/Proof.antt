@@ -20,31 +20,10 @@ abbrev μ-loop : tie.MeasureT-loop
 loop-holds : tie.Need-loop-holds Inv-loop μ-loop
 loop-holds c = (refl, search needs, refl)
 
-mul-from : tie.Need-mul-from Inv-loop μ-loop
-mul-from c = search needs
-
-add-to : tie.Need-add-to Inv-loop μ-loop
-add-to c = search needs
-
-sub-write-line : tie.Need-sub-write-line Inv-loop μ-loop
-sub-write-line c = search needs
-
-part-write-line-start : tie.Need-part-write-line-start Inv-loop μ-loop
-part-write-line-start c = search needs
-
-part-write-line-end : tie.Need-part-write-line-end Inv-loop μ-loop
-part-write-line-end c = search needs
-
 write-line-requires : tie.Need-write-line-requires Inv-loop μ-loop
 write-line-requires c κs =
     let at-loop = c .before .before in
     (search needs, simp (length-take, length-drop) (omega (arith, at-loop .loop .inv, c .before .loop-test .taken, at-loop .before .before .pre)))
-
-add-k : tie.Need-add-k Inv-loop μ-loop
-add-k c = search needs
-
-loop-less : tie.Need-loop-less Inv-loop μ-loop
-loop-less c = search needs
 
 loop-again : tie.Need-loop-again Inv-loop μ-loop
 loop-again c =
@@ -55,9 +34,6 @@ loop-again c =
       search needs,
       search needs,
     )
-
-same-length : tie.Need-same-length Inv-loop μ-loop
-same-length c = search needs
 
 returns : tie.Need-returns Inv-loop μ-loop
 unfolding textOf
@@ -72,14 +48,14 @@ write-lines-spec =
     Inv-loop
     μ-loop
     loop-holds
-    mul-from
-    add-to
-    sub-write-line
-    part-write-line-start
-    part-write-line-end
+    (λ c. search needs)
+    (λ c. search needs)
+    (λ c. search needs)
+    (λ c. search needs)
+    (λ c. search needs)
     write-line-requires
-    add-k
-    loop-less
+    (λ c. search needs)
+    (λ c. search needs)
     loop-again
-    same-length
+    (λ c. search needs)
     returns)

@@ -7,15 +7,6 @@ use borrow.Author.Needs.{needs}
 use Rattle.load_sheet.proofs.loads.frame_work.Statement.{statement}
 use Rattle.load_sheet.proofs.loads.frame_work.Tie as tie
 
-cast-result : tie.Need-cast-result
-cast-result c = search needs
-
-cast-result-2 : tie.Need-cast-result-2
-cast-result-2 c = search needs
-
-div-result : tie.Need-div-result
-div-result c = search needs
-
 -- the work is small
 small : (c : tie.After-struct-known2) → c .before .before .before .args .g .length * (c .before .before .before .args .h / c .before .before .before .args .g .period) ≤ 400000000
 small c =
@@ -34,4 +25,4 @@ returns-2 c = (simp (ne-eqb _ _ (c .if1 .left)), omega arith)
 
 pub frame-work-spec : {M : Type 1} → statement M
 frame-work-spec =
-    tie.close (tie.spec cast-result cast-result-2 div-result mul-result returns returns-2)
+    tie.close (tie.spec (λ c. search needs) (λ c. search needs) (λ c. search needs) mul-result returns returns-2)

@@ -22,12 +22,6 @@ limits c =
     let pre = c .before .before .before .pre in
     rw (divisor c) (divisor-limits _ (pre .0 .1) _ (pre .0 .0) _ (pre .1))
 
-group-of-requires : tie.Need-group-of-requires
-group-of-requires c κs = search needs
-
-cast-hyperperiod : tie.Need-cast-hyperperiod
-cast-hyperperiod c = search needs
-
 hyperperiod-requires : tie.Need-hyperperiod-requires
 hyperperiod-requires c κs =
     let pre = c .before .before .pre in
@@ -35,9 +29,6 @@ hyperperiod-requires c κs =
 
 work-requires : tie.Need-work-requires
 work-requires c κs = (c .before .before .before .pre .0, limits c .1)
-
-mul-dividend : tie.Need-mul-dividend
-mul-dividend c = search needs
 
 div-t7 : tie.Need-div-t7
 div-t7 c = omega (arith, limits (c .before) .0)
@@ -53,11 +44,11 @@ pub node-load-spec : {M : Type 1} → statement M
 node-load-spec =
     tie.close
     (tie.spec
-    group-of-requires
-    cast-hyperperiod
+    (λ c κs. search needs)
+    (λ c. search needs)
     hyperperiod-requires
     work-requires
-    mul-dividend
+    (λ c. search needs)
     div-t7
     rem-t8
     returns)

@@ -22,24 +22,6 @@ abbrev μ-loop : tie.MeasureT-loop
 loop-holds : tie.Need-loop-holds Inv-loop μ-loop
 loop-holds c = (work-none _ _ _ _, search needs, search needs)
 
-sub-i : tie.Need-sub-i Inv-loop μ-loop
-sub-i c = search needs
-
-frame-requires : tie.Need-frame-requires Inv-loop μ-loop
-frame-requires c κs = search needs
-
-mul-frame-work : tie.Need-mul-frame-work Inv-loop μ-loop
-mul-frame-work c = search needs
-
-add-frame-work : tie.Need-add-frame-work Inv-loop μ-loop
-add-frame-work c = search needs
-
-mul-frame-work-2 : tie.Need-mul-frame-work-2 Inv-loop μ-loop
-mul-frame-work-2 c = search needs
-
-shared-slice-read-frame-work : tie.Need-shared-slice-read-frame-work Inv-loop μ-loop
-shared-slice-read-frame-work c = search needs
-
 frame-work-requires : tie.Need-frame-work-requires Inv-loop μ-loop
 frame-work-requires c κs =
     let at-frame = c .before in
@@ -54,9 +36,6 @@ add-sum : tie.Need-add-sum Inv-loop μ-loop
 add-sum c =
     let at-loop = c .before .before .before .before in
     omega (arith, accepted-size _ (at-loop .before .before .pre .0 .1) .most, at-loop .loop .inv .1, c .frame-work .ensures .1)
-
-loop-less : tie.Need-loop-less Inv-loop μ-loop
-loop-less c = search needs
 
 loop-again : tie.Need-loop-again Inv-loop μ-loop
 loop-again c =
@@ -81,14 +60,14 @@ work-spec =
     Inv-loop
     μ-loop
     loop-holds
-    sub-i
-    frame-requires
-    mul-frame-work
-    add-frame-work
-    mul-frame-work-2
-    shared-slice-read-frame-work
+    (λ c. search needs)
+    (λ c κs. search needs)
+    (λ c. search needs)
+    (λ c. search needs)
+    (λ c. search needs)
+    (λ c. search needs)
     frame-work-requires
     add-sum
-    loop-less
+    (λ c. search needs)
     loop-again
     returns)

@@ -18,23 +18,8 @@ abbrev μ-loop : tie.MeasureT-loop
 loop-holds : tie.Need-loop-holds Inv-loop μ-loop
 loop-holds c = gathered-none (c .before .before .pre) (omega arith) (range-room (hasFrames (c .before .before .args .rows .now)) 1 17 (omega arith))
 
-has-frames-requires : tie.Need-has-frames-requires Inv-loop μ-loop
-has-frames-requires c κs = search needs
-
-mul-nodes : tie.Need-mul-nodes Inv-loop μ-loop
-mul-nodes c = search needs
-
 slice-write-nodes : tie.Need-slice-write-nodes Inv-loop μ-loop
 slice-write-nodes c = let g = c .before .before .before .loop .inv in omega (arith, g .whole, gathered-room g (omega (arith, c .before .before .loop-test .taken)) (sym (c .before .has-frames .ensures) ∙ c .if1 .taken))
-
-add-found : tie.Need-add-found Inv-loop μ-loop
-add-found c = search needs
-
-add-node : tie.Need-add-node Inv-loop μ-loop
-add-node c = search needs
-
-loop-less : tie.Need-loop-less Inv-loop μ-loop
-loop-less c = search needs
 
 loop-again : tie.Need-loop-again Inv-loop μ-loop
 loop-again c =
@@ -44,9 +29,6 @@ loop-again c =
     (λ w. gathered-put g (omega (arith, b .before .loop-test .taken)) _ (b .has-frames .ensures) (w .0 .taken) (w .1) (w .2))
     (λ w. gathered-skip g (omega (arith, b .before .loop-test .taken)) _ (b .has-frames .ensures) (w .0 .left) (w .1) (w .2))
     (c .if1 .came)
-
-same-length : tie.Need-same-length Inv-loop μ-loop
-same-length c = search needs
 
 returns : tie.Need-returns Inv-loop μ-loop
 unfolding nodesOf
@@ -61,12 +43,12 @@ find-nodes-spec =
     Inv-loop
     μ-loop
     loop-holds
-    has-frames-requires
-    mul-nodes
+    (λ c κs. search needs)
+    (λ c. search needs)
     slice-write-nodes
-    add-found
-    add-node
-    loop-less
+    (λ c. search needs)
+    (λ c. search needs)
+    (λ c. search needs)
     loop-again
-    same-length
+    (λ c. search needs)
     returns)

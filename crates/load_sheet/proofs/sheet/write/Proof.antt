@@ -13,27 +13,12 @@ start c = c .before .before .before .before
 loaded : (c : tie.After-lengths-of) → let s = start (c .before .before .before) in ReadLengths (s .args .lengths .now) (s .args .file .now) (c .lengths-of .result)
 loaded c = lengths-read _ _ (c .before .before .before .read .ensures .0) (c .before .enum-told .given .1) (c .lengths-of .ensures)
 
-read-requires : tie.Need-read-requires
-read-requires c κs = search needs
-
-enum-known-checked : tie.Need-enum-known-checked
-enum-known-checked c = search needs
-
-enum-told : tie.Need-enum-told
-enum-told c = search needs
-
-lengths-of-requires : tie.Need-lengths-of-requires
-lengths-of-requires c κs = search needs
-
 write-table-requires : tie.Need-write-table-requires
 write-table-requires c κs = loaded (c .before) .loadable
 
 returns : tie.Need-returns
 returns c =
     input-told _ _ _ _ (area-refused _ _ _ _ _ (lengths-refused _ _ (c .before .before .before .read .ensures .0) (c .before .checked .given .1)) refl)
-
-same-length : tie.Need-same-length
-same-length c = search needs
 
 returns-2 : tie.Need-returns-2
 returns-2 c =
@@ -44,11 +29,11 @@ pub write-spec : {M : Type 1} → statement M
 write-spec =
     tie.close
     (tie.spec
-    read-requires
-    enum-known-checked
-    enum-told
-    lengths-of-requires
+    (λ c κs. search needs)
+    (λ c. search needs)
+    (λ c. search needs)
+    (λ c κs. search needs)
     write-table-requires
     returns
-    same-length
+    (λ c. search needs)
     returns-2)

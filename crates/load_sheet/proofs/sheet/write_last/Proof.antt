@@ -5,36 +5,6 @@ use Rattle.load_sheet.specs.laws.Lines.{last-written}
 use Rattle.load_sheet.proofs.sheet.write_last.Statement.{statement}
 use Rattle.load_sheet.proofs.sheet.write_last.Tie as tie
 
-sub-write : tie.Need-sub-write
-sub-write c = search needs
-
-part-write-start : tie.Need-part-write-start
-part-write-start c = search needs
-
-part-write-end : tie.Need-part-write-end
-part-write-end c = search needs
-
-write-requires : tie.Need-write-requires
-write-requires c κs = search needs
-
-sub-write-2 : tie.Need-sub-write-2
-sub-write-2 c = search needs
-
-part-write-start-2 : tie.Need-part-write-start-2
-part-write-start-2 c = search needs
-
-part-write-end-2 : tie.Need-part-write-end-2
-part-write-end-2 c = search needs
-
-write-requires-2 : tie.Need-write-requires-2
-write-requires-2 c κs = search needs
-
-sub-line : tie.Need-sub-line
-sub-line c = search needs
-
-slice-write-line : tie.Need-slice-write-line
-slice-write-line c = search needs
-
 same-length : tie.Need-same-length
 same-length c = simp length-set (search needs)
 
@@ -49,15 +19,15 @@ pub write-last-spec : {M : Type 1} → statement M
 write-last-spec =
     tie.close
     (tie.spec
-    sub-write
-    part-write-start
-    part-write-end
-    write-requires
-    sub-write-2
-    part-write-start-2
-    part-write-end-2
-    write-requires-2
-    sub-line
-    slice-write-line
+    (λ c. search needs)
+    (λ c. search needs)
+    (λ c. search needs)
+    (λ c κs. search needs)
+    (λ c. search needs)
+    (λ c. search needs)
+    (λ c. search needs)
+    (λ c κs. search needs)
+    (λ c. search needs)
+    (λ c. search needs)
     same-length
     returns)

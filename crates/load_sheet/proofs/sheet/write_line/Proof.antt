@@ -5,60 +5,6 @@ use Rattle.load_sheet.specs.laws.Lines.{line-written}
 use Rattle.load_sheet.proofs.sheet.write_line.Statement.{statement}
 use Rattle.load_sheet.proofs.sheet.write_line.Tie as tie
 
-sub-write : tie.Need-sub-write
-sub-write c = search needs
-
-part-write-start : tie.Need-part-write-start
-part-write-start c = search needs
-
-part-write-end : tie.Need-part-write-end
-part-write-end c = search needs
-
-write-requires : tie.Need-write-requires
-write-requires c κs = search needs
-
-sub-write-2 : tie.Need-sub-write-2
-sub-write-2 c = search needs
-
-part-write-start-2 : tie.Need-part-write-start-2
-part-write-start-2 c = search needs
-
-part-write-end-2 : tie.Need-part-write-end-2
-part-write-end-2 c = search needs
-
-write-requires-2 : tie.Need-write-requires-2
-write-requires-2 c κs = search needs
-
-sub-write-3 : tie.Need-sub-write-3
-sub-write-3 c = search needs
-
-part-write-start-3 : tie.Need-part-write-start-3
-part-write-start-3 c = search needs
-
-part-write-end-3 : tie.Need-part-write-end-3
-part-write-end-3 c = search needs
-
-write-requires-3 : tie.Need-write-requires-3
-write-requires-3 c κs = search needs
-
-sub-write-4 : tie.Need-sub-write-4
-sub-write-4 c = search needs
-
-part-write-start-4 : tie.Need-part-write-start-4
-part-write-start-4 c = search needs
-
-part-write-end-4 : tie.Need-part-write-end-4
-part-write-end-4 c = search needs
-
-write-requires-4 : tie.Need-write-requires-4
-write-requires-4 c κs = search needs
-
-sub-line : tie.Need-sub-line
-sub-line c = search needs
-
-slice-write-line : tie.Need-slice-write-line
-slice-write-line c = search needs
-
 same-length : tie.Need-same-length
 same-length c = simp length-set (search needs)
 
@@ -76,23 +22,23 @@ pub write-line-spec : {M : Type 1} → statement M
 write-line-spec =
     tie.close
     (tie.spec
-    sub-write
-    part-write-start
-    part-write-end
-    write-requires
-    sub-write-2
-    part-write-start-2
-    part-write-end-2
-    write-requires-2
-    sub-write-3
-    part-write-start-3
-    part-write-end-3
-    write-requires-3
-    sub-write-4
-    part-write-start-4
-    part-write-end-4
-    write-requires-4
-    sub-line
-    slice-write-line
+    (λ c. search needs)
+    (λ c. search needs)
+    (λ c. search needs)
+    (λ c κs. search needs)
+    (λ c. search needs)
+    (λ c. search needs)
+    (λ c. search needs)
+    (λ c κs. search needs)
+    (λ c. search needs)
+    (λ c. search needs)
+    (λ c. search needs)
+    (λ c κs. search needs)
+    (λ c. search needs)
+    (λ c. search needs)
+    (λ c. search needs)
+    (λ c κs. search needs)
+    (λ c. search needs)
+    (λ c. search needs)
     same-length
     returns)

@@ -18,32 +18,11 @@ abbrev μ-loop : tie.MeasureT-loop
 loop-holds : tie.Need-loop-holds Inv-loop μ-loop
 loop-holds c = (written-none _ _ _, refl)
 
-mul-node : tie.Need-mul-node Inv-loop μ-loop
-mul-node c = search needs
-
-shared-slice-read-node : tie.Need-shared-slice-read-node Inv-loop μ-loop
-shared-slice-read-node c = search needs
-
 node-load-requires : tie.Need-node-load-requires Inv-loop μ-loop
 node-load-requires c κs =
     let start = c .before .before .before .before .before .before in
     let limits = start .pre .1 .0 .each (c .before .before .loop .i) (c .before .loop-test .taken) in
     (start .pre .0, limits)
-
-mul-from : tie.Need-mul-from Inv-loop μ-loop
-mul-from c = search needs
-
-add-to : tie.Need-add-to Inv-loop μ-loop
-add-to c = search needs
-
-sub-write-line : tie.Need-sub-write-line Inv-loop μ-loop
-sub-write-line c = search needs
-
-part-write-line-start : tie.Need-part-write-line-start Inv-loop μ-loop
-part-write-line-start c = search needs
-
-part-write-line-end : tie.Need-part-write-line-end Inv-loop μ-loop
-part-write-line-end c = search needs
 
 write-line-requires : tie.Need-write-line-requires Inv-loop μ-loop
 write-line-requires c κs =
@@ -51,24 +30,12 @@ write-line-requires c κs =
     let start = at-loop .before .before .before .before in
     simp (length-take, length-drop) (omega (arith, at-loop .loop .inv .1, c .before .before .before .loop-test .taken, start .pre .1 .1))
 
-greater-requires : tie.Need-greater-requires Inv-loop μ-loop
-greater-requires c κs = search needs
-
-add-i : tie.Need-add-i Inv-loop μ-loop
-add-i c = search needs
-
-loop-less : tie.Need-loop-less Inv-loop μ-loop
-loop-less c = search needs
-
 loop-again : tie.Need-loop-again Inv-loop μ-loop
 loop-again c =
     let at-line = c .before .before .before in
     let at-load = at-line .before .before in
     let at-loop = at-load .before .before .before in
     (written-more _ _ _ (at-loop .loop .inv .0) _ _ _ _ (at-load .before .before .loop-test .taken) refl (at-load .node-load .ensures) (at-line .write-line .ensures) (c .greater .ensures), search needs)
-
-same-length : tie.Need-same-length Inv-loop μ-loop
-same-length c = search needs
 
 returns : tie.Need-returns Inv-loop μ-loop
 returns c = written-all _ _ _ (c .before .loop .inv .0) (c .loop-test .left)
@@ -80,18 +47,18 @@ write-lines-spec =
     Inv-loop
     μ-loop
     loop-holds
-    mul-node
-    shared-slice-read-node
+    (λ c. search needs)
+    (λ c. search needs)
     node-load-requires
-    mul-from
-    add-to
-    sub-write-line
-    part-write-line-start
-    part-write-line-end
+    (λ c. search needs)
+    (λ c. search needs)
+    (λ c. search needs)
+    (λ c. search needs)
+    (λ c. search needs)
     write-line-requires
-    greater-requires
-    add-i
-    loop-less
+    (λ c κs. search needs)
+    (λ c. search needs)
+    (λ c. search needs)
     loop-again
-    same-length
+    (λ c. search needs)
     returns)

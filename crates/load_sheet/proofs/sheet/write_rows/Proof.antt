@@ -10,30 +10,12 @@ use Rattle.load_sheet.specs.laws.Lines.{nodes-of, length-sheet, sheet-wr
 use Rattle.load_sheet.proofs.sheet.write_rows.Statement.{statement}
 use Rattle.load_sheet.proofs.sheet.write_rows.Tie as tie
 
-slice-aggregate-find-nodes : tie.Need-slice-aggregate-find-nodes
-slice-aggregate-find-nodes c = search needs
-
-find-nodes-requires : tie.Need-find-nodes-requires
-find-nodes-requires c κs = search needs
-
-mul-end : tie.Need-mul-end
-mul-end c = search needs
-
-add-if1 : tie.Need-add-if1
-add-if1 c = search needs
-
-no-room-requires : tie.Need-no-room-requires
-no-room-requires c κs = search needs
-
 returns : tie.Need-returns
 returns c =
     let at-nodes = c .before .before .before in
     let start = at-nodes .before .before .before .before in
     area-short Passed (sheetOf (start .args .lengths) (start .args .rows .now)) (start .args .out .now) _ _
     (length-sheet (start .args .lengths) (start .args .rows .now) _ (at-nodes .find-nodes .ensures .1 .0)) refl (c .before .if1 .taken) (c .no-room .ensures)
-
-array-share-prefix-nodes : tie.Need-array-share-prefix-nodes
-array-share-prefix-nodes c = search needs
 
 slice-aggregate-write-lines : tie.Need-slice-aggregate-write-lines
 slice-aggregate-write-lines c =
@@ -47,24 +29,6 @@ write-lines-requires c κs =
     let start = at-if .before .before .before .before .before .before in
     let size = ap length (found .0) in
     (start .pre, (nodes-of _ _ (found .0) (omega (arith, size, found .1)), omega (arith, size, found .1, at-if .if1 .left)))
-
-add-to : tie.Need-add-to
-add-to c = search needs
-
-sub-write-last : tie.Need-sub-write-last
-sub-write-last c = search needs
-
-part-write-last-start : tie.Need-part-write-last-start
-part-write-last-start c = search needs
-
-part-write-last-end : tie.Need-part-write-last-end
-part-write-last-end c = search needs
-
-write-last-requires : tie.Need-write-last-requires
-write-last-requires c κs = search needs
-
-same-length : tie.Need-same-length
-same-length c = search needs
 
 returns-2 : tie.Need-returns-2
 returns-2 c =
@@ -83,19 +47,19 @@ pub write-rows-spec : {M : Type 1} → statement M
 write-rows-spec =
     tie.close
     (tie.spec
-    slice-aggregate-find-nodes
-    find-nodes-requires
-    mul-end
-    add-if1
-    no-room-requires
+    (λ c. search needs)
+    (λ c κs. search needs)
+    (λ c. search needs)
+    (λ c. search needs)
+    (λ c κs. search needs)
     returns
-    array-share-prefix-nodes
+    (λ c. search needs)
     slice-aggregate-write-lines
     write-lines-requires
-    add-to
-    sub-write-last
-    part-write-last-start
-    part-write-last-end
-    write-last-requires
-    same-length
+    (λ c. search needs)
+    (λ c. search needs)
+    (λ c. search needs)
+    (λ c. search needs)
+    (λ c κs. search needs)
+    (λ c. search needs)
     returns-2)

@@ -6,24 +6,6 @@ use Rattle.log_check.specs.laws.Answer.{files-told}
 use Rattle.log_check.proofs.files.check_files.Statement.{statement}
 use Rattle.log_check.proofs.files.check_files.Tie as tie
 
-read-requires : tie.Need-read-requires
-read-requires c κs = search needs
-
-enum-known-checked : tie.Need-enum-known-checked
-enum-known-checked c = search needs
-
-of-table-requires : tie.Need-of-table-requires
-of-table-requires c κs = search needs
-
-refuse-requires : tie.Need-refuse-requires
-refuse-requires c κs = search needs
-
-enum-told : tie.Need-enum-told
-enum-told c = search needs
-
-lengths-of-requires : tie.Need-lengths-of-requires
-lengths-of-requires c κs = search needs
-
 abbrev start : tie.After-read → tie.Start
 start c = c .before .before .before .before
 
@@ -53,12 +35,12 @@ pub check-files-spec : {M : Type 1} → statement M
 check-files-spec =
     tie.close
     (tie.spec
-    read-requires
-    enum-known-checked
-    of-table-requires
-    refuse-requires
-    enum-told
-    lengths-of-requires
+    (λ c κs. search needs)
+    (λ c. search needs)
+    (λ c κs. search needs)
+    (λ c κs. search needs)
+    (λ c. search needs)
+    (λ c κs. search needs)
     check-table-requires
     returns
     returns-2)

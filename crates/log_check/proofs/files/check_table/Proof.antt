@@ -1,30 +1,10 @@
 -- `log_check::files::check_table` meets its contract: what the file is read into is its table, and a file that is turned back is answered with its refusal.
-use mathlib.Core.Path.{refl, ap, _∙_}
-use mathlib.Core.List.{List}
-use Prim.Native.Nat.{ℕ}
+use mathlib.Core.Path.{refl}
 use borrow.Author.Needs.{needs}
 use Rattle.frame_table.specs.laws.Reading.{ReadRows, read-refused, read-rows}
-use Rattle.log_check.specs.Check.{checkedAnswer, textAnswer}
+use Rattle.log_check.specs.Check.{checkedAnswer}
 use Rattle.log_check.proofs.files.check_table.Statement.{statement}
 use Rattle.log_check.proofs.files.check_table.Tie as tie
-
-slice-aggregate-read : tie.Need-slice-aggregate-read
-slice-aggregate-read c = search needs
-
-read-requires : tie.Need-read-requires
-read-requires c κs = search needs
-
-enum-known-answer : tie.Need-enum-known-answer
-enum-known-answer c = search needs
-
-of-table-requires : tie.Need-of-table-requires
-of-table-requires c κs = search needs
-
-refuse-requires : tie.Need-refuse-requires
-refuse-requires c κs = search needs
-
-enum-known-answer-2 : tie.Need-enum-known-answer-2
-enum-known-answer-2 c = search needs
 
 abbrev start : tie.After-read → tie.Start
 start c = c .before .before .before .before
@@ -58,12 +38,12 @@ pub check-table-spec : {M : Type 1} → statement M
 check-table-spec =
     tie.close
     (tie.spec
-    slice-aggregate-read
-    read-requires
-    enum-known-answer
-    of-table-requires
-    refuse-requires
-    enum-known-answer-2
+    (λ c. search needs)
+    (λ c κs. search needs)
+    (λ c. search needs)
+    (λ c κs. search needs)
+    (λ c κs. search needs)
+    (λ c. search needs)
     array-share-prefix-rows
     slice-aggregate-check-text
     check-text-requires

@@ -9,20 +9,11 @@ use Rattle.log_check.specs.laws.Meaning.{place-few, starts-known}
 use Rattle.log_check.proofs.follow.answer.Statement.{statement}
 use Rattle.log_check.proofs.follow.answer.Tie as tie
 
-follow-log-requires : tie.Need-follow-log-requires
-follow-log-requires c κs = search needs
-
-shown-starts-requires : tie.Need-shown-starts-requires
-shown-starts-requires c κs = search needs
-
 cast-refuse-at : tie.Need-cast-refuse-at
 cast-refuse-at c =
     let s = c .before .before .before .before .before .before in
     let few = place-few (s .args .lengths) (s .args .rows .now) (s .args .text .now) (s .pre .0 .0) (s .pre .0 .1) (s .pre .1 .0) in
     omega (arith, ap (λ (r : Followed). r .place) (c .before .before .before .follow-log .ensures))
-
-refuse-at-requires : tie.Need-refuse-at-requires
-refuse-at-requires c κs = search needs
 
 returns : tie.Need-returns
 unfolding followedAnswer
@@ -42,9 +33,9 @@ pub answer-spec : {M : Type 1} → statement M
 answer-spec =
     tie.close
     (tie.spec
-    follow-log-requires
-    shown-starts-requires
+    (λ c κs. search needs)
+    (λ c κs. search needs)
     cast-refuse-at
-    refuse-at-requires
+    (λ c κs. search needs)
     returns
     returns-2)

@@ -9,30 +9,12 @@ use Rattle.log_check.specs.laws.Loop.{not-read}
 use Rattle.log_check.proofs.follow.follow_at.Statement.{statement}
 use Rattle.log_check.proofs.follow.follow_at.Tie as tie
 
-mul-line : tie.Need-mul-line
-mul-line c = search needs
-
-line-requires : tie.Need-line-requires
-line-requires c κs = search needs
-
-enum-known-read : tie.Need-enum-known-read
-enum-known-read c = search needs
-
-entry-of-requires : tie.Need-entry-of-requires
-entry-of-requires c κs = search needs
-
 follow-line-requires : tie.Need-follow-line-requires
 unfolding entryOf
 follow-line-requires c κs =
     let s = c .before .before .before .before .before .before .before in
     let small = read-line _ _ _ (sym (c .before .before .before .before .line .ensures) ∙ c .before .before .read .given .1) .1 in
     (s .pre .0, (omega (arith, s .pre .1 .0), rw (c .entry-of .ensures) (small .release), rw (c .entry-of .ensures) (small .start), rw (c .entry-of .ensures) (small .length)))
-
-enum-told : tie.Need-enum-told
-enum-told c = search needs
-
-enum-told-2 : tie.Need-enum-told-2
-enum-told-2 c = search needs
 
 returns : tie.Need-returns
 returns c =
@@ -51,13 +33,13 @@ pub follow-at-spec : {M : Type 1} → statement M
 follow-at-spec =
     tie.close
     (tie.spec
-    mul-line
-    line-requires
-    enum-known-read
-    entry-of-requires
+    (λ c. search needs)
+    (λ c κs. search needs)
+    (λ c. search needs)
+    (λ c κs. search needs)
     follow-line-requires
-    enum-told
-    enum-told-2
+    (λ c. search needs)
+    (λ c. search needs)
     returns
     returns-2
     returns-3)

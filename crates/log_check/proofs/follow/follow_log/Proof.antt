@@ -19,9 +19,6 @@ Inv-loop lengths rows text n p₀ i₀ p i = (follow (framesOf lengths rows) p i
 abbrev μ-loop : tie.MeasureT-loop
 μ-loop lengths rows text n p₀ i₀ p i = n - i
 
-begin-requires : tie.Need-begin-requires Inv-loop μ-loop
-begin-requires c κs = search needs
-
 loop-holds : tie.Need-loop-holds Inv-loop μ-loop
 loop-holds c = (rw (c .begin .ensures, sub-zero) (log-start _ _ _), search needs)
 
@@ -30,12 +27,6 @@ follow-at-requires c κs = let s = c .before .before .before .before .before in 
 
 returns : tie.Need-returns Inv-loop μ-loop
 returns c = log-stops _ _ _ _ _ _ (c .before .before .before .before .loop .inv .0) _ (c .before .before .before .loop-test .taken) (c .before .before .follow-at .ensures) (c .if1 .taken)
-
-add-i : tie.Need-add-i Inv-loop μ-loop
-add-i c = search needs
-
-loop-less : tie.Need-loop-less Inv-loop μ-loop
-loop-less c = search needs
 
 loop-again : tie.Need-loop-again Inv-loop μ-loop
 loop-again c = (log-goes _ _ _ _ _ _ (c .before .before .before .before .before .loop .inv .0) _ (c .before .before .before .before .loop-test .taken) (c .before .before .before .follow-at .ensures) (c .before .if1 .left), search needs)
@@ -49,11 +40,11 @@ follow-log-spec =
     (tie.spec
     Inv-loop
     μ-loop
-    begin-requires
+    (λ c κs. search needs)
     loop-holds
     follow-at-requires
     returns
-    add-i
-    loop-less
+    (λ c. search needs)
+    (λ c. search needs)
     loop-again
     returns-2)

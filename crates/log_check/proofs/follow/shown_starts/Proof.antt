@@ -21,27 +21,6 @@ abbrev μ-loop : tie.MeasureT-loop
 loop-holds : tie.Need-loop-holds Inv-loop μ-loop
 loop-holds c = (refl, search needs, refl, refl)
 
-add-start-shown : tie.Need-add-start-shown Inv-loop μ-loop
-add-start-shown c = search needs
-
-cast-start-shown : tie.Need-cast-start-shown Inv-loop μ-loop
-cast-start-shown c = search needs
-
-start-shown-requires : tie.Need-start-shown-requires Inv-loop μ-loop
-start-shown-requires c κs = search needs
-
-mul-starts : tie.Need-mul-starts Inv-loop μ-loop
-mul-starts c = search needs
-
-array-write-starts : tie.Need-array-write-starts Inv-loop μ-loop
-array-write-starts c = search needs
-
-add-i : tie.Need-add-i Inv-loop μ-loop
-add-i c = search needs
-
-loop-less : tie.Need-loop-less Inv-loop μ-loop
-loop-less c = search needs
-
 loop-again : tie.Need-loop-again Inv-loop μ-loop
 loop-again c = let l = c .before .before .loop in (fill-more _ 16 _ _ refl _ _ (l .inv .0) (c .before .loop-test .taken) (c .start-shown .ensures), search needs, length-set (l .starts) _ _ ∙ l .inv .2, refl)
 
@@ -55,12 +34,12 @@ shown-starts-spec =
     Inv-loop
     μ-loop
     loop-holds
-    add-start-shown
-    cast-start-shown
-    start-shown-requires
-    mul-starts
-    array-write-starts
-    add-i
-    loop-less
+    (λ c. search needs)
+    (λ c. search needs)
+    (λ c κs. search needs)
+    (λ c. search needs)
+    (λ c. search needs)
+    (λ c. search needs)
+    (λ c. search needs)
     loop-again
     returns)

@@ -20,20 +20,8 @@ loop-holds : tie.Need-loop-holds Inv-loop μ-loop
 unfolding firstBroken
 loop-holds c = (rw sub-zero, search needs)
 
-is-broken-requires : tie.Need-is-broken-requires Inv-loop μ-loop
-is-broken-requires c κs = search needs
-
-cast-t7 : tie.Need-cast-t7 Inv-loop μ-loop
-cast-t7 c = search needs
-
 returns : tie.Need-returns Inv-loop μ-loop
 returns c = sym (search-stop _ _ _ _ (c .before .before .loop-test .taken) (c .before .is-broken .ensures) (c .if1 .taken)) ∙ c .before .before .before .loop .inv .0
-
-add-i : tie.Need-add-i Inv-loop μ-loop
-add-i c = search needs
-
-loop-less : tie.Need-loop-less Inv-loop μ-loop
-loop-less c = search needs
 
 loop-again : tie.Need-loop-again Inv-loop μ-loop
 loop-again c = (search-go _ _ _ _ (c .before .before .loop-test .taken) (c .before .is-broken .ensures) (c .if1 .left) ∙ c .before .before .before .loop .inv .0, search needs)
@@ -48,10 +36,10 @@ first-broken-spec =
     Inv-loop
     μ-loop
     loop-holds
-    is-broken-requires
-    cast-t7
+    (λ c κs. search needs)
+    (λ c. search needs)
     returns
-    add-i
-    loop-less
+    (λ c. search needs)
+    (λ c. search needs)
     loop-again
     returns-2)

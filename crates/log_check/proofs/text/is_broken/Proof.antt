@@ -4,21 +4,6 @@ use Rattle.log_check.specs.Check.{isBroken, isRead}
 use Rattle.log_check.proofs.text.is_broken.Statement.{statement}
 use Rattle.log_check.proofs.text.is_broken.Tie as tie
 
-mul-line : tie.Need-mul-line
-mul-line c = search needs
-
-line-requires : tie.Need-line-requires
-line-requires c κs = search needs
-
-enum-told : tie.Need-enum-told
-enum-told c = search needs
-
-enum-told-2 : tie.Need-enum-told-2
-enum-told-2 c = search needs
-
-enum-told-3 : tie.Need-enum-told-3
-enum-told-3 c = search needs
-
 returns : tie.Need-returns
 unfolding isBroken isRead
 returns c = let e = c .before .before .line .ensures in rw (← e, c .enum-told .given .1)
@@ -34,4 +19,4 @@ returns-3 c = let e = c .before .before .line .ensures in rw (← e, c .enum-tol
 pub is-broken-spec : {M : Type 1} → statement M
 is-broken-spec =
     tie.close
-    (tie.spec mul-line line-requires enum-told enum-told-2 enum-told-3 returns returns-2 returns-3)
+    (tie.spec (λ c. search needs) (λ c κs. search needs) (λ c. search needs) (λ c. search needs) (λ c. search needs) returns returns-2 returns-3)

@@ -7,18 +7,6 @@ use Rattle.log_load.specs.theory.Told.{told-refused, told-accepted}
 use Rattle.log_load.proofs.files.busiest_file.Statement.{statement}
 use Rattle.log_load.proofs.files.busiest_file.Tie as tie
 
-check-files-requires : tie.Need-check-files-requires
-check-files-requires c κs = search needs
-
-enum-known-outcome : tie.Need-enum-known-outcome
-enum-known-outcome c = search needs
-
-of-log-requires : tie.Need-of-log-requires
-of-log-requires c κs = search needs
-
-enum-told : tie.Need-enum-told
-enum-told c = search needs
-
 write-table-requires : tie.Need-write-table-requires
 write-table-requires c κs =
     let says = c .before .before .before .check-files .ensures .1 .0 in
@@ -31,9 +19,6 @@ returns c =
     let a = c .before .before .before .before .check-files .ensures in
     told-refused _ _ _ _ _ _ _ _ (a .0) (a .1 .1) _ (c .before .before .outcome .given .1) (ap Refused (c .of-log .ensures))
 
-same-length : tie.Need-same-length
-same-length c = search needs
-
 returns-2 : tie.Need-returns-2
 returns-2 c =
     let a = c .before .before .before .before .before .before .check-files .ensures in
@@ -44,11 +29,11 @@ pub busiest-file-spec : {M : Type 1} → statement M
 busiest-file-spec =
     tie.close
     (tie.spec
-    check-files-requires
-    enum-known-outcome
-    of-log-requires
-    enum-told
+    (λ c κs. search needs)
+    (λ c. search needs)
+    (λ c κs. search needs)
+    (λ c. search needs)
     write-table-requires
     returns
-    same-length
+    (λ c. search needs)
     returns-2)

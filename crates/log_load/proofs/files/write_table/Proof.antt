@@ -7,24 +7,6 @@ use Rattle.frame_table.specs.laws.Reading.{ReadRows, read-rows, read-refused}
 use Rattle.log_load.proofs.files.write_table.Statement.{statement}
 use Rattle.log_load.proofs.files.write_table.Tie as tie
 
-slice-aggregate-read : tie.Need-slice-aggregate-read
-slice-aggregate-read c = search needs
-
-read-requires : tie.Need-read-requires
-read-requires c κs = search needs
-
-enum-known-read : tie.Need-enum-known-read
-enum-known-read c = search needs
-
-of-table-requires : tie.Need-of-table-requires
-of-table-requires c κs = search needs
-
-of-log-requires : tie.Need-of-log-requires
-of-log-requires c κs = search needs
-
-enum-known-read-2 : tie.Need-enum-known-read-2
-enum-known-read-2 c = search needs
-
 -- the table of the file
 table : (c : tie.After-known-told2) → ReadRows (c .before .before .before .before .before .before .before .before .before .args .table .now) (c .before .before .before .before .read .last .1 .0) (c .before .read3 .given .0 .0)
 table c = let both = c .before .before .before .before .read .ensures in read-rows _ _ _ refl (both .0) _ _ (both .1 .0) (c .before .read3 .given .1)
@@ -44,9 +26,6 @@ returns c =
     let z : _≡_ {A = ℕ} 0 1 = cc (sym (c .before .before .before .before .before .before .before .before .before .before .before .pre .0) ∙ failed) in
     absurd (omega arith)
 
-same-length : tie.Need-same-length
-same-length c = search needs
-
 returns-2 : tie.Need-returns-2
 returns-2 c = rw (← table (c .before .before .before .before .before) .rows) (c .before .before .write-accepted .ensures)
 
@@ -54,15 +33,15 @@ pub write-table-spec : {M : Type 1} → statement M
 write-table-spec =
     tie.close
     (tie.spec
-    slice-aggregate-read
-    read-requires
-    enum-known-read
-    of-table-requires
-    of-log-requires
-    enum-known-read-2
+    (λ c. search needs)
+    (λ c κs. search needs)
+    (λ c. search needs)
+    (λ c κs. search needs)
+    (λ c κs. search needs)
+    (λ c. search needs)
     array-share-prefix-rows
     slice-aggregate-write-accepted
     write-accepted-requires
     returns
-    same-length
+    (λ c. search needs)
     returns-2)

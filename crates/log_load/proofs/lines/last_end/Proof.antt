@@ -8,14 +8,8 @@ use Rattle.log_load.specs.theory.Lines.{last-none, last-is}
 use Rattle.log_load.proofs.lines.last_end.Statement.{statement}
 use Rattle.log_load.proofs.lines.last_end.Tie as tie
 
-count-requires : tie.Need-count-requires
-count-requires c κs = search needs
-
 returns : tie.Need-returns
 returns c = (last-none _ (sym (c .before .count .ensures .0) ∙ c .if1 .taken), search needs)
-
-sub-line-of : tie.Need-sub-line-of
-sub-line-of c = search needs
 
 line-of-requires : tie.Need-line-of-requires
 line-of-requires c κs = (c .before .before .before .pre, omega (arith, c .if1 .left, c .before .count .ensures .0))
@@ -32,9 +26,9 @@ pub last-end-spec : {M : Type 1} → statement M
 last-end-spec =
     tie.close
     (tie.spec
-    count-requires
+    (λ c κs. search needs)
     returns
-    sub-line-of
+    (λ c. search needs)
     line-of-requires
     add-result
     returns-2)

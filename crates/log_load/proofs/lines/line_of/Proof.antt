@@ -8,24 +8,6 @@ use Rattle.log_load.proofs.lines.line_of.Tie as tie
 mul-line : tie.Need-mul-line
 mul-line c = let p = c .before .pre in omega (arith, p .1, few-lines _ (p .0))
 
-line-requires : tie.Need-line-requires
-line-requires c κs = search needs
-
-enum-known-read : tie.Need-enum-known-read
-enum-known-read c = search needs
-
-enum-told : tie.Need-enum-told
-enum-told c = search needs
-
-no-line-requires : tie.Need-no-line-requires
-no-line-requires c κs = search needs
-
-enum-told-2 : tie.Need-enum-told-2
-enum-told-2 c = search needs
-
-no-line-requires-2 : tie.Need-no-line-requires-2
-no-line-requires-2 c κs = search needs
-
 returns : tie.Need-returns
 returns c = let p = c .before .before .before .before .before .pre in read-is _ (p .0) _ (p .1) _ (c .before .before .before .line .ensures) (c .before .read .given .1)
 
@@ -40,12 +22,12 @@ line-of-spec =
     tie.close
     (tie.spec
     mul-line
-    line-requires
-    enum-known-read
-    enum-told
-    no-line-requires
-    enum-told-2
-    no-line-requires-2
+    (λ c κs. search needs)
+    (λ c. search needs)
+    (λ c. search needs)
+    (λ c κs. search needs)
+    (λ c. search needs)
+    (λ c κs. search needs)
     returns
     returns-2
     returns-3)

@@ -8,18 +8,6 @@ use Rattle.log_load.specs.theory.Told.{told-refused, told-accepted}
 use Rattle.log_load.proofs.operation.busiest.Statement.{statement}
 use Rattle.log_load.proofs.operation.busiest.Tie as tie
 
-check-log-requires : tie.Need-check-log-requires
-check-log-requires c κs = search needs
-
-enum-known-outcome : tie.Need-enum-known-outcome
-enum-known-outcome c = search needs
-
-of-log-requires : tie.Need-of-log-requires
-of-log-requires c κs = search needs
-
-enum-told : tie.Need-enum-told
-enum-told c = search needs
-
 write-accepted-requires : tie.Need-write-accepted-requires
 write-accepted-requires c κs =
     let a = ready _ _ _ _ _ _ (c .before .before .before .check-log .ensures .1 .0) (c .before .enum-told .given .1) (λ h. loaded-both _ _ h .1) in
@@ -29,9 +17,6 @@ returns : tie.Need-returns
 returns c =
     let a = c .before .before .before .before .check-log .ensures in
     told-refused _ _ _ _ _ _ _ _ (a .0) (a .1 .1) _ (c .before .before .outcome .given .1) (ap Refused (c .of-log .ensures))
-
-same-length : tie.Need-same-length
-same-length c = search needs
 
 returns-2 : tie.Need-returns-2
 returns-2 c =
@@ -43,11 +28,11 @@ pub busiest-spec : {M : Type 1} → statement M
 busiest-spec =
     tie.close
     (tie.spec
-    check-log-requires
-    enum-known-outcome
-    of-log-requires
-    enum-told
+    (λ c κs. search needs)
+    (λ c. search needs)
+    (λ c κs. search needs)
+    (λ c. search needs)
     write-accepted-requires
     returns
-    same-length
+    (λ c. search needs)
     returns-2)

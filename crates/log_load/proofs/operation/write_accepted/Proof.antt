@@ -8,29 +8,14 @@ use Rattle.log_load.specs.theory.Answer.{width-none, width-beyond, area-
 use Rattle.log_load.proofs.operation.write_accepted.Statement.{statement}
 use Rattle.log_load.proofs.operation.write_accepted.Tie as tie
 
-refuse-requires : tie.Need-refuse-requires
-refuse-requires c κs = search needs
-
 returns : tie.Need-returns
 returns c = width-none _ _ _ _ _ (c .refuse .ensures) (c .before .if1 .taken)
 
 last-end-requires : tie.Need-last-end-requires
 last-end-requires c κs = c .before .before .before .before .pre .1 .0
 
-refuse-requires-2 : tie.Need-refuse-requires-2
-refuse-requires-2 c κs = search needs
-
 returns-2 : tie.Need-returns-2
 returns-2 c = width-beyond _ _ _ _ _ (c .refuse2 .ensures) (c .before .before .before .if1 .left) (omega (arith, c .before .if2 .taken, c .before .before .last-end .ensures .0))
-
-mul-size : tie.Need-mul-size
-mul-size c = search needs
-
-add-size : tie.Need-add-size
-add-size c = search needs
-
-refuse-requires-3 : tie.Need-refuse-requires-3
-refuse-requires-3 c κs = search needs
 
 returns-3 : tie.Need-returns-3
 returns-3 c = area-short _ _ _ _ (c .before .before .before .before .if1 .left) (omega (arith, c .before .before .if2 .left, c .before .before .before .last-end .ensures .0)) _ (c .refuse3 .ensures) (c .before .if3 .taken)
@@ -40,34 +25,10 @@ find-requires c κs =
     let some = c .before .before .before .if1 .left in
     (c .before .before .before .before .before .before .before .pre .1, (omega arith, omega (arith, c .before .if2 .left, c .before .before .last-end .ensures .0)))
 
-sub-write-first : tie.Need-sub-write-first
-sub-write-first c = search needs
-
-part-write-first-start : tie.Need-part-write-first-start
-part-write-first-start c = search needs
-
-part-write-first-end : tie.Need-part-write-first-end
-part-write-first-end c = search needs
-
-write-first-requires : tie.Need-write-first-requires
-write-first-requires c κs = search needs
-
-sub-write-rows : tie.Need-sub-write-rows
-sub-write-rows c = search needs
-
-part-write-rows-start : tie.Need-part-write-rows-start
-part-write-rows-start c = search needs
-
-part-write-rows-end : tie.Need-part-write-rows-end
-part-write-rows-end c = search needs
-
 write-rows-requires : tie.Need-write-rows-requires
 write-rows-requires c κs =
     let p = c .before .before .before .before .before .before .before .before .before .before .before .before .before .pre in
     ((refl, omega (arith, accepted-size _ (p .0) .most), rest-long (c .before .before .before .before .before .before .before .before .before .before .before .before .before .args .out .now) _ _ _ _ _ (c .before .before .before .write-first .ensures) refl (c .before .before .before .before .before .before .if3 .left)), p .1 .0)
-
-same-length : tie.Need-same-length
-same-length c = search needs
 
 returns-4 : tie.Need-returns-4
 returns-4 c =
@@ -77,23 +38,23 @@ pub write-accepted-spec : {M : Type 1} → statement M
 write-accepted-spec =
     tie.close
     (tie.spec
-    refuse-requires
+    (λ c κs. search needs)
     returns
     last-end-requires
-    refuse-requires-2
+    (λ c κs. search needs)
     returns-2
-    mul-size
-    add-size
-    refuse-requires-3
+    (λ c. search needs)
+    (λ c. search needs)
+    (λ c κs. search needs)
     returns-3
     find-requires
-    sub-write-first
-    part-write-first-start
-    part-write-first-end
-    write-first-requires
-    sub-write-rows
-    part-write-rows-start
-    part-write-rows-end
+    (λ c. search needs)
+    (λ c. search needs)
+    (λ c. search needs)
+    (λ c κs. search needs)
+    (λ c. search needs)
+    (λ c. search needs)
+    (λ c. search needs)
     write-rows-requires
-    same-length
+    (λ c. search needs)
     returns-4)

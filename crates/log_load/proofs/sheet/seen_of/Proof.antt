@@ -33,12 +33,6 @@ with-line-requires c κs =
     let less : l .j < 1600 = omega (arith, c .before .loop-test .taken, c .before .before .before .count .ensures .1) in
     (c .before .before .before .before .before .before .pre .0, (c .line-of .ensures .1, omega (arith, l .inv .1), omega (arith, l .inv .2)))
 
-add-j : tie.Need-add-j Inv-loop μ-loop
-add-j c = search needs
-
-loop-less : tie.Need-loop-less Inv-loop μ-loop
-loop-less c = search needs
-
 loop-again : tie.Need-loop-again Inv-loop μ-loop
 loop-again c =
     let l = c .before .before .before .loop in
@@ -63,7 +57,7 @@ seen-of-spec =
     loop-holds
     line-of-requires
     with-line-requires
-    add-j
-    loop-less
+    (λ c. search needs)
+    (λ c. search needs)
     loop-again
     returns)

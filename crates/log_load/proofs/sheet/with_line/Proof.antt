@@ -14,9 +14,6 @@ response-requires c κs = c .before .before .before .pre .1 .0
 add-t7 : tie.Need-add-t7
 add-t7 c = omega (arith, c .before .before .before .before .before .pre .1 .1)
 
-greater-wide-requires : tie.Need-greater-wide-requires
-greater-wide-requires c κs = search needs
-
 add-t9 : tie.Need-add-t9
 add-t9 c = omega (arith, c .before .before .before .before .before .before .before .pre .1 .2, c .before .before .before .response .ensures .1)
 
@@ -38,7 +35,7 @@ with-line-spec =
     is-named-requires
     response-requires
     add-t7
-    greater-wide-requires
+    (λ c κs. search needs)
     add-t9
     returns
     returns-2)

@@ -44,9 +44,6 @@ move-to-requires c κs =
 add-less : tie.Need-add-less Inv-loop μ-loop
 add-less c = let z = c .before .before .line-of .ensures .1 in omega (arith, z .start, z .length)
 
-less-requires : tie.Need-less-requires Inv-loop μ-loop
-less-requires c κs = search needs
-
 move-to-requires-2 : tie.Need-move-to-requires-2 Inv-loop μ-loop
 move-to-requires-2 c κs =
     let p = c .before .before .before .before .before .before .before .before .before .before .pre in
@@ -60,9 +57,6 @@ move-to-requires-2 c κs =
 add-i : tie.Need-add-i Inv-loop μ-loop
 add-i c = omega (arith, c .before .before .before .before .before .loop-test .taken, c .before .before .before .before .before .before .before .before .before .count .ensures .1)
 
-loop-less : tie.Need-loop-less Inv-loop μ-loop
-loop-less c = search needs
-
 loop-again : tie.Need-loop-again Inv-loop μ-loop
 loop-again c =
     let s = c .before .before .before .before .before .before .before .before .before .before .before in
@@ -72,9 +66,6 @@ loop-again c =
       tried-more _ _ (s .pre .0 .1) _ (l .i) _ _ _ (l .inv .1) (ends-rise _ (s .args .w) (s .pre .0 .1) (l .i)) (c .before .less .ensures ∙ ap (λ (m : Line). m .start + m .length - s .args .w) (k .0)) (c .move-to2 .ensures),
       search needs,
     )
-
-better-requires : tie.Need-better-requires Inv-loop μ-loop
-better-requires c κs = search needs
 
 returns : tie.Need-returns Inv-loop μ-loop
 returns c =
@@ -96,10 +87,10 @@ find-spec =
     line-of-requires
     move-to-requires
     add-less
-    less-requires
+    (λ c κs. search needs)
     move-to-requires-2
     add-i
-    loop-less
+    (λ c. search needs)
     loop-again
-    better-requires
+    (λ c κs. search needs)
     returns)

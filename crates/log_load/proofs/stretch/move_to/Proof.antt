@@ -21,12 +21,6 @@ add-walk-to c = let p = c .before .before .before .pre .1 .0 in omega (arith, p 
 walk-to-requires-2 : tie.Need-walk-to-requires-2
 walk-to-requires-2 c κs = let p = c .before .before .before .pre in (p .0, (omega (arith, p .1 .0 .1, p .1 .0 .2, p .1 .0 .3), p .1 .1 .to))
 
-less-requires : tie.Need-less-requires
-less-requires c κs = search needs
-
-better-requires : tie.Need-better-requires
-better-requires c κs = search needs
-
 returns-2 : tie.Need-returns-2
 returns-2 c =
     let p = c .before .before .before .before .before .before .pre in
@@ -43,6 +37,6 @@ move-to-spec =
     walk-to-requires
     add-walk-to
     walk-to-requires-2
-    less-requires
-    better-requires
+    (λ c κs. search needs)
+    (λ c κs. search needs)
     returns-2)

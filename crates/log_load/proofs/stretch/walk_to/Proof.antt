@@ -29,9 +29,6 @@ line-of-requires c κs = (c .before .before .before .before .pre .0 .0, omega (a
 add-if1 : tie.Need-add-if1 Inv-loop μ-loop
 add-if1 c = let z = c .before .line-of .ensures .1 in omega (arith, z .start, z .length)
 
-less-requires : tie.Need-less-requires Inv-loop μ-loop
-less-requires c κs = search needs
-
 add-busy : tie.Need-add-busy Inv-loop μ-loop
 add-busy c =
     let s = c .before .before .before .before .before .before .before .before in
@@ -55,9 +52,6 @@ add-done c =
 
 add-line : tie.Need-add-line Inv-loop μ-loop
 add-line c = omega (arith, c .before .before .before .before .loop-test .taken, c .before .before .before .before .before .before .count .ensures .1)
-
-loop-less : tie.Need-loop-less Inv-loop μ-loop
-loop-less c = search needs
 
 loop-again : tie.Need-loop-again Inv-loop μ-loop
 loop-again c =
@@ -84,11 +78,11 @@ walk-to-spec =
     loop-holds
     line-of-requires
     add-if1
-    less-requires
+    (λ c κs. search needs)
     add-busy
     returns
     add-done
     add-line
-    loop-less
+    (λ c. search needs)
     loop-again
     returns-2)

@@ -30,14 +30,8 @@ releases-before-requires c κs =
     let f = in-table-fine _ (p .0 .prepared .filled .table) (p .0 .listed) in
     (f .period-low, f .period-high, omega (arith, window-small _ _ _ _ (p .1 .1)))
 
-slice-aggregate-place : tie.Need-slice-aggregate-place Inv-loop μ-loop
-slice-aggregate-place c = search needs
-
 place-requires : tie.Need-place-requires Inv-loop μ-loop
 place-requires c κs = let p = c .before .before .before .before .before .before .before .pre .0 in (p .prepared .filled, (p .target, search needs))
-
-mul-to : tie.Need-mul-to Inv-loop μ-loop
-mul-to c = search needs
 
 -- what the calls before the loop tell of the window
 windowed : (c : tie.After-releases-before Inv-loop μ-loop) →
@@ -59,15 +53,6 @@ fits c =
     let v = windowed (c .before .before .before .before .before) in
     instance-fits (v .accepted) (v .listed) (ownDistance (c .before .before .before .before .before .before .before .before .before .before .before .args .target .frame) (c .before .before .before .before .before .before .before .before .before .before .before .args .choices)) (v .number) (window-small _ _ _ _ (v .window)) (c .loop-test .taken)
 
-sub-placed : tie.Need-sub-placed Inv-loop μ-loop
-sub-placed c = search needs
-
-part-placed-start : tie.Need-part-placed-start Inv-loop μ-loop
-part-placed-start c = search needs
-
-part-placed-end : tie.Need-part-placed-end Inv-loop μ-loop
-part-placed-end c = search needs
-
 shown-within-requires : tie.Need-shown-within-requires Inv-loop μ-loop
 shown-within-requires c κs =
     let f = fits (c .before .before .before) in
@@ -76,17 +61,11 @@ shown-within-requires c κs =
 add-lesser : tie.Need-add-lesser Inv-loop μ-loop
 add-lesser c = record { fits = omega (arith, fits (c .before .before .before .before .before .before .before .before .before) .1, c .before .before .before .before .before .shown-within .ensures .1 .0) }
 
-lesser-requires : tie.Need-lesser-requires Inv-loop μ-loop
-lesser-requires c κs = search needs
-
 loop-less : tie.Need-loop-less Inv-loop μ-loop
 loop-less c = omega (arith, c .before .before .before .before .before .before .before .before .before .before .loop-test .taken, c .before .before .if1 .taken, c .lesser .ensures)
 
 fixed-point-requires : tie.Need-fixed-point-requires Inv-loop μ-loop
 fixed-point-requires c κs = (c .before .before .before .before .before .shown-within .ensures .1 .1, ((c .before .before .before .before .before .before .before .before .before .before .before .before .before .before .before .before .before .before .before .before .pre .1 .0, omega (arith, fits (c .before .before .before .before .before .before .before .before .before) .1)), omega arith))
-
-or-zero-requires : tie.Need-or-zero-requires Inv-loop μ-loop
-or-zero-requires c κs = search needs
 
 -- so is its end
 ends : (c : tie.After-or-zero Inv-loop μ-loop) → c .or-zero .result + c .before .before .before .before .before .before .before .before .before .before .before .before .before .before .before .before .before .before .before .before .before .before .before .before .args .target .frame .length ≤ 1000000
@@ -149,20 +128,20 @@ exceeding-instance-spec =
     μ-loop
     own-distance-requires
     releases-before-requires
-    slice-aggregate-place
+    (λ c. search needs)
     place-requires
-    mul-to
+    (λ c. search needs)
     loop-holds
-    sub-placed
-    part-placed-start
-    part-placed-end
+    (λ c. search needs)
+    (λ c. search needs)
+    (λ c. search needs)
     shown-within-requires
     add-lesser
-    lesser-requires
+    (λ c κs. search needs)
     loop-less
     loop-again
     fixed-point-requires
-    or-zero-requires
+    (λ c κs. search needs)
     mul-response
     add-response
     response-requires

@@ -2,7 +2,6 @@
 use Prim.Native.Nat.{ℕ}
 use mathlib.Core.Path.{ap, _∙_}
 use native.Mathlib.Omega.{arith}
-use borrow.Author.Needs.{needs}
 use Rattle.arith.specs.Releases.{releasesBefore}
 use Rattle.workload.specs.laws.Fine.{in-table-fine}
 use Rattle.response_time.specs.laws.Within.{reach-all}

@@ -1,6 +1,6 @@
 -- The loop goes through the instances before `reach`. It is shown of those from `last` on. The measure is how many are left.
 use Prim.Native.Nat.{_-_, _+_, _*_, _≤_, _<_}
-use mathlib.Core.Path.{_≡_, sym, _∙_}
+use mathlib.Core.Path.{sym, _∙_}
 use native.Mathlib.Omega.{arith}
 use native.Mathlib.Nat.{sub-zero, le-mul-of-pos-right}
 use borrow.Author.Needs.{needs}
@@ -19,26 +19,11 @@ Inv-loop rows prepared target choices reach best patience memory₀ area to last
 abbrev μ-loop : tie.MeasureT-loop
 μ-loop rows prepared target choices reach best patience memory₀ area to last₀ missed₀ from₀ q₀ memory last missed from q = reach - q
 
-slice-aggregate-place : tie.Need-slice-aggregate-place Inv-loop μ-loop
-slice-aggregate-place c = search needs
-
 place-requires : tie.Need-place-requires Inv-loop μ-loop
 place-requires c κs = let p = c .before .before .before .before .pre .0 in (p .prepared .filled, (p .target, search needs))
 
-mul-to : tie.Need-mul-to Inv-loop μ-loop
-mul-to c = search needs
-
 loop-holds : tie.Need-loop-holds Inv-loop μ-loop
 loop-holds c = (swept-none, c .before .before .before .before .before .before .pre .0, omega arith)
-
-sub-placed : tie.Need-sub-placed Inv-loop μ-loop
-sub-placed c = search needs
-
-part-placed-start : tie.Need-part-placed-start Inv-loop μ-loop
-part-placed-start c = search needs
-
-part-placed-end : tie.Need-part-placed-end Inv-loop μ-loop
-part-placed-end c = search needs
 
 -- the release of an instance and its number are small
 fits : (c : tie.In-loop Inv-loop μ-loop) →
@@ -55,9 +40,6 @@ shown-within-requires c κs =
 
 add-lesser : tie.Need-add-lesser Inv-loop μ-loop
 add-lesser c = record { fits = omega (arith, fits (c .before .before .before .before .before .before .before .before .before) .1, c .before .before .before .before .before .shown-within .ensures .1 .0) }
-
-lesser-requires : tie.Need-lesser-requires Inv-loop μ-loop
-lesser-requires c κs = search needs
 
 loop-less : tie.Need-loop-less Inv-loop μ-loop
 loop-less c = omega (arith, c .before .before .before .before .before .before .before .before .before .before .loop-test .taken, c .before .before .if1 .taken, c .lesser .ensures)
@@ -96,16 +78,16 @@ sweep-spec =
     (tie.spec
     Inv-loop
     μ-loop
-    slice-aggregate-place
+    (λ c. search needs)
     place-requires
-    mul-to
+    (λ c. search needs)
     loop-holds
-    sub-placed
-    part-placed-start
-    part-placed-end
+    (λ c. search needs)
+    (λ c. search needs)
+    (λ c. search needs)
     shown-within-requires
     add-lesser
-    lesser-requires
+    (λ c κs. search needs)
     loop-less
     loop-again
     same-length

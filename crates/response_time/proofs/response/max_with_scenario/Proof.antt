@@ -1,6 +1,6 @@
 -- Where it is shown of all instances, `best` stays; elsewhere the window is taken, and the greatest response in it.
-use Prim.Native.Nat.{ℕ, max}
-use mathlib.Core.Path.{_≡_, sym, ap, _∙_}
+use Prim.Native.Nat.{max}
+use mathlib.Core.Path.{sym, ap, _∙_}
 use native.Mathlib.Omega.{arith}
 use borrow.Author.Needs.{needs}
 use Rattle.bus_model.specs.theory.Response.{response-at, response-none}
@@ -11,9 +11,6 @@ use Rattle.response_time.proofs.response.max_with_scenario.Tie as tie
 returns : tie.Need-returns
 returns c = (omega (arith, reach-none _ _ _ _ (rw (c .if1 .taken) at (c .before .before .before .before .pre .1 .1))), c .before .before .before .before .pre .0)
 
-sweep-requires : tie.Need-sweep-requires
-sweep-requires c κs = search needs
-
 same-length : tie.Need-same-length
 same-length c = c .before .before .before .sweep .ensures .1 .remembered .size ∙ sym (c .before .before .before .before .before .before .before .before .before .pre .0 .remembered .size)
 
@@ -22,12 +19,6 @@ returns-2 c = (omega (arith, reach-none _ _ _ _ (rw (c .if2 .taken) at (c .befor
 
 busy-window-requires : tie.Need-busy-window-requires
 busy-window-requires c κs = c .before .before .before .before .sweep .ensures .1
-
-enum-known-found : tie.Need-enum-known-found
-enum-known-found c = search needs
-
-enum-told : tie.Need-enum-told
-enum-told c = search needs
 
 same-length-2 : tie.Need-same-length-2
 same-length-2 c = c .before .before .before .before .busy-window .ensures .1 .remembered .size ∙ sym (c .before .before .before .before .before .before .before .before .before .before .before .before .before .before .before .pre .0 .remembered .size)
@@ -53,12 +44,12 @@ max-with-scenario-spec =
     tie.close
     (tie.spec
     returns
-    sweep-requires
+    (λ c κs. search needs)
     same-length
     returns-2
     busy-window-requires
-    enum-known-found
-    enum-told
+    (λ c. search needs)
+    (λ c. search needs)
     same-length-2
     returns-3
     max-with-window-requires

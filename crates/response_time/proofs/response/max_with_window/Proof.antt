@@ -10,7 +10,7 @@ use Rattle.bus_model.specs.Bounds.{ownDistance}
 use Rattle.workload.specs.Prepared.{tableOf}
 use Rattle.workload.specs.laws.Fine.{in-table-fine}
 use Rattle.greatest_work.specs.Ready.{Ready}
-use Rattle.response_time.specs.laws.Searches.{window-small, placed-any, Windowed, InstanceLoop, loop-start, loop-fits, loop-ends, loop-more, loop-skip, loop-end}
+use Rattle.response_time.specs.laws.Searches.{window-small, placed-any, Windowed, InstanceLoop, loop-start, loop-ends, loop-more, loop-skip, loop-end}
 use Rattle.response_time.specs.laws.Within.{instance-fits, shown-response}
 use Rattle.response_time.proofs.response.max_with_window.Statement.{statement}
 use Rattle.response_time.proofs.response.max_with_window.Tie as tie
@@ -30,14 +30,8 @@ releases-before-requires c κs =
     let f = in-table-fine _ (p .0 .prepared .filled .table) (p .0 .listed) in
     (f .period-low, f .period-high, omega (arith, window-small _ _ _ _ (p .1 .1)))
 
-slice-aggregate-place : tie.Need-slice-aggregate-place Inv-loop μ-loop
-slice-aggregate-place c = search needs
-
 place-requires : tie.Need-place-requires Inv-loop μ-loop
 place-requires c κs = let p = c .before .before .before .before .before .before .before .pre .0 in (p .prepared .filled, (p .target, search needs))
-
-mul-to : tie.Need-mul-to Inv-loop μ-loop
-mul-to c = search needs
 
 -- what the calls before the loop tell of the window
 windowed : (c : tie.After-releases-before Inv-loop μ-loop) →
@@ -62,15 +56,6 @@ fits c =
 loop-holds : tie.Need-loop-holds Inv-loop μ-loop
 loop-holds c = (c .before .before .before .before .before .before .before .before .before .pre .0, loop-start (windowed (c .before .before .before)))
 
-sub-placed : tie.Need-sub-placed Inv-loop μ-loop
-sub-placed c = search needs
-
-part-placed-start : tie.Need-part-placed-start Inv-loop μ-loop
-part-placed-start c = search needs
-
-part-placed-end : tie.Need-part-placed-end Inv-loop μ-loop
-part-placed-end c = search needs
-
 shown-within-requires : tie.Need-shown-within-requires Inv-loop μ-loop
 shown-within-requires c κs =
     let f = fits (c .before .before .before) in
@@ -78,9 +63,6 @@ shown-within-requires c κs =
 
 add-lesser : tie.Need-add-lesser Inv-loop μ-loop
 add-lesser c = record { fits = omega (arith, fits (c .before .before .before .before .before .before .before .before .before) .1, c .before .before .before .before .before .shown-within .ensures .1 .0) }
-
-lesser-requires : tie.Need-lesser-requires Inv-loop μ-loop
-lesser-requires c κs = search needs
 
 loop-less : tie.Need-loop-less Inv-loop μ-loop
 loop-less c = omega (arith, c .before .before .before .before .before .before .before .before .before .before .loop-test .taken, c .before .before .if1 .taken, c .lesser .ensures)
@@ -94,9 +76,6 @@ loop-again c =
 fixed-point-requires : tie.Need-fixed-point-requires Inv-loop μ-loop
 fixed-point-requires c κs = (c .before .before .before .before .before .shown-within .ensures .1 .1, ((c .before .before .before .before .before .before .before .before .before .before .before .before .before .before .before .before .before .before .before .before .pre .1 .0, omega (arith, fits (c .before .before .before .before .before .before .before .before .before) .1)), omega arith))
 
-or-zero-requires : tie.Need-or-zero-requires Inv-loop μ-loop
-or-zero-requires c κs = search needs
-
 -- so is its end
 ends : (c : tie.After-or-zero Inv-loop μ-loop) → c .or-zero .result + c .before .before .before .before .before .before .before .before .before .before .before .before .before .before .before .before .before .before .before .before .before .before .before .before .args .target .frame .length ≤ 1000000
 ends c = loop-ends (windowed (c .before .before .before .before .before .before .before .before .before .before .before .before .before .before .before .before .before .before)) (c .before .before .before .before .before .before .before .before .before .before .before .before .before .before .loop .inv .1) (c .before .before .before .before .before .before .before .before .before .before .before .before .before .loop-test .taken) (c .before .before .before .fixed-point .ensures .0) (c .or-zero .ensures)
@@ -109,9 +88,6 @@ add-response c = omega (arith, fits (c .before .before .before .before .before .
 
 response-requires : tie.Need-response-requires Inv-loop μ-loop
 response-requires c κs = (omega (arith, ends (c .before)), in-table-fine _ (c .before .before .before .before .before .before .before .before .before .before .before .before .before .before .before .before .before .before .before .before .before .before .before .before .before .pre .0 .prepared .filled .table) (c .before .before .before .before .before .before .before .before .before .before .before .before .before .before .before .before .before .before .before .before .before .before .before .before .before .pre .0 .listed) .length-high)
-
-greater-requires : tie.Need-greater-requires Inv-loop μ-loop
-greater-requires c κs = search needs
 
 add-from : tie.Need-add-from Inv-loop μ-loop
 add-from c = omega (arith, ends (c .before .before .before .before))
@@ -143,24 +119,24 @@ max-with-window-spec =
     μ-loop
     own-distance-requires
     releases-before-requires
-    slice-aggregate-place
+    (λ c. search needs)
     place-requires
-    mul-to
+    (λ c. search needs)
     loop-holds
-    sub-placed
-    part-placed-start
-    part-placed-end
+    (λ c. search needs)
+    (λ c. search needs)
+    (λ c. search needs)
     shown-within-requires
     add-lesser
-    lesser-requires
+    (λ c κs. search needs)
     loop-less
     loop-again
     fixed-point-requires
-    or-zero-requires
+    (λ c κs. search needs)
     mul-response
     add-response
     response-requires
-    greater-requires
+    (λ c κs. search needs)
     add-from
     add-q
     loop-less-2

@@ -1,23 +1,8 @@
 -- By the case of the search.
-use Prim.Native.Nat.{_*_, _≤_}
-use native.Mathlib.Omega.{arith}
-use native.Mathlib.Nat.{mul-le-mul}
 use borrow.Author.Needs.{needs}
 use Rattle.response_time.specs.Load.{baseOf}
 use Rattle.response_time.proofs.search.base_of.Statement.{statement}
 use Rattle.response_time.proofs.search.base_of.Tie as tie
-
-enum-told : tie.Need-enum-told
-enum-told c = search needs
-
-cast-result : tie.Need-cast-result
-cast-result c = search needs
-
-enum-known-search : tie.Need-enum-known-search
-enum-known-search c = search needs
-
-with-lengths-requires : tie.Need-with-lengths-requires
-with-lengths-requires c κs = search needs
 
 returns : tie.Need-returns
 unfolding baseOf
@@ -31,9 +16,9 @@ pub base-of-spec : {M : Type 1} → statement M
 base-of-spec =
     tie.close
     (tie.spec
-    enum-told
-    cast-result
-    enum-known-search
-    with-lengths-requires
+    (λ c. search needs)
+    (λ c. search needs)
+    (λ c. search needs)
+    (λ c κs. search needs)
     returns
     returns-2)

@@ -33,9 +33,6 @@ needed c = ap (λ n. c .before .before .before .before .args .base + n) (c .plac
 add-needed : tie.Need-add-needed Inv-loop μ-loop
 add-needed c = omega (arith, c .placed-work .ensures .1, c .before .before .before .before .pre .1)
 
-cast-if1 : tie.Need-cast-if1 Inv-loop μ-loop
-cast-if1 c = search needs
-
 returns : tie.Need-returns Inv-loop μ-loop
 returns c =
     let s = c .before .before .before .before .before in
@@ -70,7 +67,7 @@ climb-spec =
     add-placed-work
     placed-work-requires
     add-needed
-    cast-if1
+    (λ c. search needs)
     returns
     returns-2
     cast-x

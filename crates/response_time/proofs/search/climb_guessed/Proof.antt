@@ -13,29 +13,8 @@ use Rattle.response_time.specs.laws.Searches.{placed-search, base-small}
 use Rattle.response_time.proofs.search.climb_guessed.Statement.{statement}
 use Rattle.response_time.proofs.search.climb_guessed.Tie as tie
 
-guessed-requires : tie.Need-guessed-requires
-guessed-requires c κs = search needs
-
-slice-aggregate-place : tie.Need-slice-aggregate-place
-slice-aggregate-place c = search needs
-
 place-requires : tie.Need-place-requires
 place-requires c κs = let p = c .before .before .before .before .before .pre .0 in (p .prepared .filled, (p .target, search needs))
-
-mul-to : tie.Need-mul-to
-mul-to c = search needs
-
-sub-climb : tie.Need-sub-climb
-sub-climb c = search needs
-
-part-climb-start : tie.Need-part-climb-start
-part-climb-start c = search needs
-
-part-climb-end : tie.Need-part-climb-end
-part-climb-end c = search needs
-
-shift-of-requires : tie.Need-shift-of-requires
-shift-of-requires c κs = search needs
 
 waits-of-requires : tie.Need-waits-of-requires
 waits-of-requires c κs = let s = c .before .before .before .before .before .before .before .before .before .before in (s .pre .0 .target, base-small (s .pre .0 .prepared .filled .table) (s .pre .0 .listed) (s .args .choices) (s .args .search) (s .pre .1 .0) (s .pre .0 .blocked))
@@ -60,14 +39,14 @@ pub climb-guessed-spec : {M : Type 1} → statement M
 climb-guessed-spec =
     tie.close
     (tie.spec
-    guessed-requires
-    slice-aggregate-place
+    (λ c κs. search needs)
+    (λ c. search needs)
     place-requires
-    mul-to
-    sub-climb
-    part-climb-start
-    part-climb-end
-    shift-of-requires
+    (λ c. search needs)
+    (λ c. search needs)
+    (λ c. search needs)
+    (λ c. search needs)
+    (λ c κs. search needs)
     waits-of-requires
     climb-requires
     returns)

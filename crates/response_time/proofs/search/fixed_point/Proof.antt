@@ -28,15 +28,6 @@ loop-holds c = (refl, c .before .before .before .pre .0, refl)
 climb-guessed-requires : tie.Need-climb-guessed-requires Inv-loop μ-loop
 climb-guessed-requires c κs = (c .before .before .loop .inv .1, (c .before .before .before .before .before .before .pre .1 .0, c .before .before .before .before .before .before .pre .1 .1))
 
-enum-known-found : tie.Need-enum-known-found Inv-loop μ-loop
-enum-known-found c = search needs
-
-enum-told : tie.Need-enum-told Inv-loop μ-loop
-enum-told c = search needs
-
-same-length : tie.Need-same-length Inv-loop μ-loop
-same-length c = search needs
-
 returns : tie.Need-returns Inv-loop μ-loop
 returns c =
     let s = c .before .before .before .before .before .before .before .before .before in
@@ -61,20 +52,11 @@ goes-on c =
 load-requires : tie.Need-load-requires Inv-loop μ-loop
 load-requires c κs = let p = c .before .before .before .before .before .before .before .before .before .before .before .pre .1 in (c .before .before .before .before .before .before .before .loop .inv .1, (p .0, omega (arith, p .1, within (c .before .before))))
 
-cast-if1 : tie.Need-cast-if1 Inv-loop μ-loop
-cast-if1 c = search needs
-
-same-length-2 : tie.Need-same-length-2 Inv-loop μ-loop
-same-length-2 c = search needs
-
 returns-2 : tie.Need-returns-2 Inv-loop μ-loop
 returns-2 c =
     let s = c .before .before .before .before .before .before .before .before .before .before .before .before .before .before .before in
     let f = c .before .before .before .before .before .before in
     (climb-here (s .args .target .faults) (s .pre .0 .prepared .filled .table .valid) _ _ _ (s .args .end) (c .before .before .before .before .before .before .found .given .0 .0) (c .before .before .before .load .ensures .0) (within f .1) (c .if1 .taken) ∙ goes-on f, c .before .before .before .load .ensures .1)
-
-same-length-3 : tie.Need-same-length-3 Inv-loop μ-loop
-same-length-3 c = search needs
 
 returns-3 : tie.Need-returns-3 Inv-loop μ-loop
 returns-3 c =
@@ -92,9 +74,6 @@ loop-again c =
     let s = c .before .before .before .before .before .before .before .before .before .before .before .before .before .before .before .before in
     (sym (climb-skip (s .args .target .faults) (s .pre .0 .prepared .filled .table .valid) _ _ _ (s .args .end) (c .before .before .before .before .before .before .before .found .given .0 .0) (c .before .before .before .before .load .ensures .0) (c .before .if1 .left) (omega (arith, c .if2 .left))) ∙ goes-on (c .before .before .before .before .before .before .before), c .before .before .before .before .load .ensures .1, search needs)
 
-same-length-4 : tie.Need-same-length-4 Inv-loop μ-loop
-same-length-4 c = search needs
-
 returns-4 : tie.Need-returns-4 Inv-loop μ-loop
 returns-4 c = (sym (least-end _ _ (c .before .loop .x) (c .loop-test .left)) ∙ c .before .loop .inv .0, c .before .loop .inv .1)
 
@@ -106,18 +85,18 @@ fixed-point-spec =
     μ-loop
     loop-holds
     climb-guessed-requires
-    enum-known-found
-    enum-told
-    same-length
+    (λ c. search needs)
+    (λ c. search needs)
+    (λ c. search needs)
     returns
     load-requires
-    cast-if1
-    same-length-2
+    (λ c. search needs)
+    (λ c. search needs)
     returns-2
-    same-length-3
+    (λ c. search needs)
     returns-3
     cast-x
     loop-less
     loop-again
-    same-length-4
+    (λ c. search needs)
     returns-4)

@@ -12,12 +12,6 @@ use Rattle.response_time.specs.laws.Searches.{start-load, base-small}
 use Rattle.response_time.proofs.search.frame_load.Statement.{statement}
 use Rattle.response_time.proofs.search.frame_load.Tie as tie
 
-base-of-requires : tie.Need-base-of-requires
-base-of-requires c κs = search needs
-
-enum-told : tie.Need-enum-told
-enum-told c = search needs
-
 whole-work-requires : tie.Need-whole-work-requires
 whole-work-requires c κs = let s = c .before .before .before .before .before .before .before in (s .pre .0, omega (arith, s .pre .1 .1))
 
@@ -31,9 +25,6 @@ based c = c .base-of .ensures ∙ ap (λ (b : ℕ). baseOf b (c .before .before 
 
 add-result : tie.Need-add-result
 add-result c = omega (arith, small (c .before .before .before .before .before .before), c .before .before .whole-work .ensures .1 .0)
-
-enum-told-2 : tie.Need-enum-told-2
-enum-told-2 c = search needs
 
 add-whole-work : tie.Need-add-whole-work
 add-whole-work c = let s = c .before .before .before .before .before .before in omega (arith, s .pre .1 .1)
@@ -64,17 +55,11 @@ sub-result c = loads (c) .0
 add-result-2 : tie.Need-add-result-2
 add-result-2 c = omega (arith, small (c .before .before .before .before .before .before .before), c .before .before .before .whole-work2 .ensures .1 .0)
 
-same-length : tie.Need-same-length
-same-length c = search needs
-
 returns : tie.Need-returns
 unfolding baseOf
 returns c =
     let is = c .before .before .before .before .enum-told .given .1 in
     (rw is (ap₂ _+_ (rw is at (based (c .before .before .before .before .before .before))) (c .before .before .whole-work .ensures .0)), (omega (arith, small (c .before .before .before .before .before .before), c .before .before .whole-work .ensures .1 .0), c .before .before .whole-work .ensures .1 .1))
-
-same-length-2 : tie.Need-same-length-2
-same-length-2 c = search needs
 
 returns-2 : tie.Need-returns-2
 unfolding baseOf
@@ -86,18 +71,18 @@ pub frame-load-spec : {M : Type 1} → statement M
 frame-load-spec =
     tie.close
     (tie.spec
-    base-of-requires
-    enum-told
+    (λ c κs. search needs)
+    (λ c. search needs)
     whole-work-requires
     add-result
-    enum-told-2
+    (λ c. search needs)
     add-whole-work
     whole-work-requires-2
     add-own-demand
     own-demand-requires
     sub-result
     add-result-2
-    same-length
+    (λ c. search needs)
     returns
-    same-length-2
+    (λ c. search needs)
     returns-2)

@@ -8,30 +8,6 @@ use Rattle.response_time.specs.laws.Searches.{fault-cost, load-parts}
 use Rattle.response_time.proofs.search.load.Statement.{statement}
 use Rattle.response_time.proofs.search.load.Tie as tie
 
-frame-load-requires : tie.Need-frame-load-requires
-frame-load-requires c κs = search needs
-
-shift-of-requires : tie.Need-shift-of-requires
-shift-of-requires c κs = search needs
-
-add-ticks : tie.Need-add-ticks
-add-ticks c = search needs
-
-lead-of-requires : tie.Need-lead-of-requires
-lead-of-requires c κs = search needs
-
-add-ticks-2 : tie.Need-add-ticks-2
-add-ticks-2 c = search needs
-
-fault-cost-requires : tie.Need-fault-cost-requires
-fault-cost-requires c κs = search needs
-
-add-result : tie.Need-add-result
-add-result c = search needs
-
-same-length : tie.Need-same-length
-same-length c = search needs
-
 returns : tie.Need-returns
 returns c =
     let s = c .before .before .before .before .before .before .before .before .before .before in
@@ -45,12 +21,12 @@ pub load-spec : {M : Type 1} → statement M
 load-spec =
     tie.close
     (tie.spec
-    frame-load-requires
-    shift-of-requires
-    add-ticks
-    lead-of-requires
-    add-ticks-2
-    fault-cost-requires
-    add-result
-    same-length
+    (λ c κs. search needs)
+    (λ c κs. search needs)
+    (λ c. search needs)
+    (λ c κs. search needs)
+    (λ c. search needs)
+    (λ c κs. search needs)
+    (λ c. search needs)
+    (λ c. search needs)
     returns)

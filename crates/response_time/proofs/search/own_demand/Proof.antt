@@ -7,18 +7,6 @@ use Rattle.bus_model.specs.Bounds.{demand}
 use Rattle.response_time.proofs.search.own_demand.Statement.{statement}
 use Rattle.response_time.proofs.search.own_demand.Tie as tie
 
-own-choice-requires : tie.Need-own-choice-requires
-own-choice-requires c κs = search needs
-
-enum-known-own : tie.Need-enum-known-own
-enum-known-own c = search needs
-
-frame-demand-requires : tie.Need-frame-demand-requires
-frame-demand-requires c κs = search needs
-
-enum-told : tie.Need-enum-told
-enum-told c = search needs
-
 returns : tie.Need-returns
 returns c =
     λ a is. let same : c .before .before .own .given .0 .0 ≡ a = cc (sym (c .before .before .own .given .1) ∙ c .before .before .before .before .own-choice .ensures ∙ is) in c .frame-demand .ensures .0 ∙ ap (λ (x : ℕ). demand (c .before .before .before .before .before .args .k) x (c .before .before .before .before .before .args .n)) same
@@ -30,9 +18,9 @@ pub own-demand-spec : {M : Type 1} → statement M
 own-demand-spec =
     tie.close
     (tie.spec
-    own-choice-requires
-    enum-known-own
-    frame-demand-requires
-    enum-told
+    (λ c κs. search needs)
+    (λ c. search needs)
+    (λ c κs. search needs)
+    (λ c. search needs)
     returns
     returns-2)

@@ -1,21 +1,8 @@
 -- By the choice of k's own group.
-use mathlib.Core.Path.{sym, _∙_}
 use borrow.Author.Needs.{needs}
 use Rattle.bus_model.specs.Bounds.{ownDistance}
 use Rattle.response_time.proofs.search.own_distance.Statement.{statement}
 use Rattle.response_time.proofs.search.own_distance.Tie as tie
-
-own-choice-requires : tie.Need-own-choice-requires
-own-choice-requires c κs = search needs
-
-enum-known-own : tie.Need-enum-known-own
-enum-known-own c = search needs
-
-distance-from-requires : tie.Need-distance-from-requires
-distance-from-requires c κs = search needs
-
-enum-told : tie.Need-enum-told
-enum-told c = search needs
 
 returns : tie.Need-returns
 unfolding ownDistance
@@ -29,9 +16,9 @@ pub own-distance-spec : {M : Type 1} → statement M
 own-distance-spec =
     tie.close
     (tie.spec
-    own-choice-requires
-    enum-known-own
-    distance-from-requires
-    enum-told
+    (λ c κs. search needs)
+    (λ c. search needs)
+    (λ c κs. search needs)
+    (λ c. search needs)
     returns
     returns-2)

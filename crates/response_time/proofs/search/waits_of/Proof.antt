@@ -8,18 +8,6 @@ use Rattle.response_time.specs.Load.{waitsOf}
 use Rattle.response_time.proofs.search.waits_of.Statement.{statement}
 use Rattle.response_time.proofs.search.waits_of.Tie as tie
 
-base-of-requires : tie.Need-base-of-requires
-base-of-requires c κs = search needs
-
-lead-of-requires : tie.Need-lead-of-requires
-lead-of-requires c κs = search needs
-
-fault-cost-requires : tie.Need-fault-cost-requires
-fault-cost-requires c κs = search needs
-
-add-result : tie.Need-add-result
-add-result c = search needs
-
 returns : tie.Need-returns
 unfolding waitsOf
 returns c =
@@ -29,4 +17,4 @@ returns c =
     (ap₂ _+_ base (cost .0 ∙ ap (λ (n : ℕ). faultsIn (s .args .target .faults) n * s .args .target .cost) (c .before .lead-of .ensures .0)), omega (arith, base, s .pre .1, cost .1))
 
 pub waits-of-spec : {M : Type 1} → statement M
-waits-of-spec = tie.close (tie.spec base-of-requires lead-of-requires fault-cost-requires add-result returns)
+waits-of-spec = tie.close (tie.spec (λ c κs. search needs) (λ c κs. search needs) (λ c κs. search needs) (λ c. search needs) returns)

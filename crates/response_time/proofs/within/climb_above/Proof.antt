@@ -26,9 +26,6 @@ placed-work-requires c κs = (c .before .before .before .before .pre .0, omega (
 add-needed : tie.Need-add-needed Inv-loop μ-loop
 add-needed c = omega (arith, c .placed-work .ensures .1, c .before .before .before .before .before .pre .1)
 
-cast-if2 : tie.Need-cast-if2 Inv-loop μ-loop
-cast-if2 c = search needs
-
 count-shown-requires : tie.Need-count-shown-requires Inv-loop μ-loop
 count-shown-requires c κs = (c .before .before .before .before .before .before .pre .1 .0, omega (arith, c .before .before .before .before .before .before .pre .1, c .before .before .if1 .left))
 
@@ -42,12 +39,6 @@ returns-3 c = (λ i less. absurd (omega arith), omega arith)
 
 cast-x : tie.Need-cast-x Inv-loop μ-loop
 cast-x c = record { fits = omega (arith, c .if3 .left, c .before .before .before .before .before .before .before .pre .1) }
-
-add-steps : tie.Need-add-steps Inv-loop μ-loop
-add-steps c = search needs
-
-loop-less : tie.Need-loop-less Inv-loop μ-loop
-loop-less c = search needs
 
 loop-again : tie.Need-loop-again Inv-loop μ-loop
 loop-again c = tt
@@ -66,12 +57,12 @@ climb-above-spec =
     add-placed-work
     placed-work-requires
     add-needed
-    cast-if2
+    (λ c. search needs)
     count-shown-requires
     returns-2
     returns-3
     cast-x
-    add-steps
-    loop-less
+    (λ c. search needs)
+    (λ c. search needs)
     loop-again
     returns-4)

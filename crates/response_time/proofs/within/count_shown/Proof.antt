@@ -9,15 +9,6 @@ use Rattle.response_time.proofs.within.count_shown.Tie as tie
 returns : tie.Need-returns
 returns c = (λ i less. absurd (omega arith), omega arith)
 
-sub-result : tie.Need-sub-result
-sub-result c = search needs
-
-cast-result : tie.Need-cast-result
-cast-result c = search needs
-
-div-result : tie.Need-div-result
-div-result c = search needs
-
 add-result : tie.Need-add-result
 add-result c =
     let a = c .before .args in
@@ -39,8 +30,8 @@ count-shown-spec =
     tie.close
     (tie.spec
     returns
-    sub-result
-    cast-result
-    div-result
+    (λ c. search needs)
+    (λ c. search needs)
+    (λ c. search needs)
     add-result
     returns-2)

@@ -13,29 +13,8 @@ abbrev μ-loop : tie.MeasureT-loop
 loop-holds : tie.Need-loop-holds Inv-loop μ-loop
 loop-holds c = tt
 
-mul-choice : tie.Need-mul-choice Inv-loop μ-loop
-mul-choice c = search needs
-
-array-copy-out-choice : tie.Need-array-copy-out-choice Inv-loop μ-loop
-array-copy-out-choice c = search needs
-
-is-open-requires : tie.Need-is-open-requires Inv-loop μ-loop
-is-open-requires c κs = search needs
-
-returns : tie.Need-returns Inv-loop μ-loop
-returns c = search needs
-
-add-j : tie.Need-add-j Inv-loop μ-loop
-add-j c = search needs
-
-loop-less : tie.Need-loop-less Inv-loop μ-loop
-loop-less c = search needs
-
 loop-again : tie.Need-loop-again Inv-loop μ-loop
 loop-again c = tt
-
-returns-2 : tie.Need-returns-2 Inv-loop μ-loop
-returns-2 c = search needs
 
 pub has-open-spec : {M : Type 1} → statement M
 has-open-spec =
@@ -44,11 +23,11 @@ has-open-spec =
     Inv-loop
     μ-loop
     loop-holds
-    mul-choice
-    array-copy-out-choice
-    is-open-requires
-    returns
-    add-j
-    loop-less
+    (λ c. search needs)
+    (λ c. search needs)
+    (λ c κs. search needs)
+    (λ c. search needs)
+    (λ c. search needs)
+    (λ c. search needs)
     loop-again
-    returns-2)
+    (λ c. search needs))

@@ -8,24 +8,9 @@ use Rattle.response_time.specs.Load.{latestStart}
 use Rattle.response_time.proofs.within.latest_start.Statement.{statement}
 use Rattle.response_time.proofs.within.latest_start.Tie as tie
 
-add-end : tie.Need-add-end
-add-end c = search needs
-
 returns : tie.Need-returns
 unfolding latestStart
 returns c = rw (lt-ltb _ _ (c .if1 .taken))
-
-sub-start : tie.Need-sub-start
-sub-start c = search needs
-
-cast-if2 : tie.Need-cast-if2
-cast-if2 c = search needs
-
-cast-t10 : tie.Need-cast-t10
-cast-t10 c = search needs
-
-sub-t11 : tie.Need-sub-t11
-sub-t11 c = search needs
 
 returns-2 : tie.Need-returns-2
 unfolding latestStart
@@ -39,11 +24,11 @@ pub latest-start-spec : {M : Type 1} → statement M
 latest-start-spec =
     tie.close
     (tie.spec
-    add-end
+    (λ c. search needs)
     returns
-    sub-start
-    cast-if2
-    cast-t10
-    sub-t11
+    (λ c. search needs)
+    (λ c. search needs)
+    (λ c. search needs)
+    (λ c. search needs)
     returns-2
     returns-3)

@@ -17,9 +17,6 @@ load-requires c κs = let p = c .before .before .before .before .before .pre in 
 count-shown-requires : tie.Need-count-shown-requires
 count-shown-requires c κs = let p = c .before .before .before .before .before .before .before .before .before .pre in (in-table-fine _ (p .0 .prepared .filled .table) (p .0 .listed) .length-low, omega (arith, p .1 .1, c .before .before .before .before .before .if1 .left))
 
-same-length : tie.Need-same-length
-same-length c = search needs
-
 returns-2 : tie.Need-returns-2
 returns-2 c =
     let shown = c .count-shown .ensures in
@@ -32,5 +29,5 @@ shown-at-spec =
     returns
     load-requires
     count-shown-requires
-    same-length
+    (λ c. search needs)
     returns-2)

@@ -30,9 +30,6 @@ returns c =
     let p = c .before .before .before .before .before .before .before .before .before .pre in
     (shows-placed (p .0 .prepared .filled .table) (p .0 .target) (p .0 .blocked) (p .0 .cost) _ _ (p .1 .1 .1) (c .before .before .before .waits-of .ensures .0) (c .before .before .climb-above .ensures .0), (c .before .before .climb-above .ensures .1, p .0))
 
-has-open-requires : tie.Need-has-open-requires
-has-open-requires c κs = search needs
-
 returns-2 : tie.Need-returns-2
 returns-2 c = (λ i less. absurd (omega arith), (omega arith, c .before .before .before .before .before .before .before .before .before .before .before .pre .0))
 
@@ -47,12 +44,6 @@ returns-3 c =
 shown-at-requires : tie.Need-shown-at-requires
 shown-at-requires c κs = let p = c .before .before .before .before .before .before .before .before .before .before .before .before .before .before .before .pre in (p .0, (p .1 .0, p .1 .1 .0))
 
-same-length : tie.Need-same-length
-same-length c = search needs
-
-returns-4 : tie.Need-returns-4
-returns-4 c = search needs
-
 pub shown-tried-spec : {M : Type 1} → statement M
 shown-tried-spec =
     tie.close
@@ -60,10 +51,10 @@ shown-tried-spec =
     waits-of-requires
     climb-above-requires
     returns
-    has-open-requires
+    (λ c κs. search needs)
     returns-2
     climb-above-requires-2
     returns-3
     shown-at-requires
-    same-length
-    returns-4)
+    (λ c. search needs)
+    (λ c. search needs))

@@ -1,6 +1,6 @@
 -- The instances of which the start shows it.
-use Prim.Native.Nat.{_+_, _*_, _≤_, _<_}
-use mathlib.Core.Path.{_≡_, sym, ap, _∙_}
+use Prim.Native.Nat.{_+_, _*_}
+use mathlib.Core.Path.{sym, ap, _∙_}
 use native.Mathlib.Omega.{arith}
 use borrow.Author.Needs.{needs}
 use Rattle.workload.specs.laws.Fine.{in-table-fine}
@@ -21,12 +21,6 @@ add-released c = let p = c .before .before .before .before .before .before .befo
 latest-start-requires : tie.Need-latest-start-requires
 latest-start-requires c κs = let p = c .before .before .before .before .before .before .before .pre in omega (arith, p .1 .1 .0, c .before .own-distance .ensures)
 
-enum-known-found : tie.Need-enum-known-found
-enum-known-found c = search needs
-
-enum-told : tie.Need-enum-told
-enum-told c = search needs
-
 returns : tie.Need-returns
 returns c = (λ i less. absurd (omega arith), (omega arith, c .before .before .before .before .before .before .before .before .before .before .pre .0))
 
@@ -35,12 +29,6 @@ shown-by-requires c κs =
     let p = c .before .before .before .before .before .before .before .before .before .before .before .before .pre in
     let latest = latest-start-fits _ _ _ (sym (c .before .before .before .before .latest-start .ensures) ∙ c .before .before .found .given .1) in
     (p .0, (p .1 .0, (omega (arith, latest .1), p .1 .1 .1)))
-
-next-from-requires : tie.Need-next-from-requires
-next-from-requires c κs = search needs
-
-same-length : tie.Need-same-length
-same-length c = search needs
 
 returns-2 : tie.Need-returns-2
 returns-2 c =
@@ -58,10 +46,10 @@ shown-within-spec =
     mul-released
     add-released
     latest-start-requires
-    enum-known-found
-    enum-told
+    (λ c. search needs)
+    (λ c. search needs)
     returns
     shown-by-requires
-    next-from-requires
-    same-length
+    (λ c κs. search needs)
+    (λ c. search needs)
     returns-2)

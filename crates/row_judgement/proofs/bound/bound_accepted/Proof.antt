@@ -21,9 +21,6 @@ decide-requires c κs = (c .before .before .pre, (row-inside (c .before .before 
 cast-bounded : tie.Need-cast-bounded
 cast-bounded c = let s = c .before .before .before in omega (arith, c .before .if1 .left, accepted-size _ (s .pre .1) .most)
 
-bounded-requires : tie.Need-bounded-requires
-bounded-requires c κs = search needs
-
 returns-2 : tie.Need-returns-2
 unfolding boundRow boundChecked
 returns-2 c =
@@ -32,4 +29,4 @@ returns-2 c =
     (c .bounded .ensures ∙ ap (boundedBy (s .args .row)) (c .before .decide .ensures) ∙ decided-bound _ (s .args .row))
 
 pub bound-accepted-spec : {M : Type 1} → statement M
-bound-accepted-spec = tie.close (tie.spec returns decide-requires cast-bounded bounded-requires returns-2)
+bound-accepted-spec = tie.close (tie.spec returns decide-requires cast-bounded (λ c κs. search needs) returns-2)

@@ -4,21 +4,6 @@ use Rattle.row_judgement.specs.Decide.{boundedBy}
 use Rattle.row_judgement.proofs.bound.bounded.Statement.{statement}
 use Rattle.row_judgement.proofs.bound.bounded.Tie as tie
 
-enum-told : tie.Need-enum-told
-enum-told c = search needs
-
-enum-known-bound : tie.Need-enum-known-bound
-enum-known-bound c = search needs
-
-enum-told-2 : tie.Need-enum-told-2
-enum-told-2 c = search needs
-
-enum-known-bound-2 : tie.Need-enum-known-bound-2
-enum-known-bound-2 c = search needs
-
-enum-known-bound-3 : tie.Need-enum-known-bound-3
-enum-known-bound-3 c = search needs
-
 returns : tie.Need-returns
 unfolding boundedBy
 returns c = rw (c .enum-told .given .1)
@@ -43,11 +28,11 @@ pub bounded-spec : {M : Type 1} → statement M
 bounded-spec =
     tie.close
     (tie.spec
-    enum-told
-    enum-known-bound
-    enum-known-bound-2
-    enum-told-2
-    enum-known-bound-3
+    (λ c. search needs)
+    (λ c. search needs)
+    (λ c. search needs)
+    (λ c. search needs)
+    (λ c. search needs)
     returns
     returns-2
     returns-3

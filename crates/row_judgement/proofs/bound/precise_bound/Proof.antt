@@ -7,18 +7,6 @@ use Rattle.row_judgement.specs.laws.Returns.{bounded-told}
 use Rattle.row_judgement.proofs.bound.precise_bound.Statement.{statement}
 use Rattle.row_judgement.proofs.bound.precise_bound.Tie as tie
 
-check-loaded-requires : tie.Need-check-loaded-requires
-check-loaded-requires c κs = search needs
-
-enum-known-checked : tie.Need-enum-known-checked
-enum-known-checked c = search needs
-
-of-table-requires : tie.Need-of-table-requires
-of-table-requires c κs = search needs
-
-enum-told : tie.Need-enum-told
-enum-told c = search needs
-
 bound-accepted-requires : tie.Need-bound-accepted-requires
 bound-accepted-requires c κs =
     let a = c .before .before .before .before .args in
@@ -39,10 +27,10 @@ pub precise-bound-spec : {M : Type 1} → statement M
 precise-bound-spec =
     tie.close
     (tie.spec
-    check-loaded-requires
-    enum-known-checked
-    of-table-requires
-    enum-told
+    (λ c κs. search needs)
+    (λ c. search needs)
+    (λ c κs. search needs)
+    (λ c. search needs)
     bound-accepted-requires
     returns
     returns-2)

@@ -11,17 +11,8 @@ use Rattle.row_judgement.specs.laws.Explain.{ready-new}
 use Rattle.row_judgement.proofs.decide.decide.Statement.{statement}
 use Rattle.row_judgement.proofs.decide.decide.Tie as tie
 
-slice-aggregate-prepare-row : tie.Need-slice-aggregate-prepare-row
-slice-aggregate-prepare-row c = search needs
-
 prepare-row-requires : tie.Need-prepare-row-requires
 prepare-row-requires c κs = (c .before .before .pre .0, (c .before .before .pre .1 .0, search needs))
-
-slice-aggregate-find : tie.Need-slice-aggregate-find
-slice-aggregate-find c = search needs
-
-slice-aggregate-find-2 : tie.Need-slice-aggregate-find-2
-slice-aggregate-find-2 c = search needs
 
 find-requires : tie.Need-find-requires
 find-requires c κs =
@@ -42,9 +33,9 @@ pub decide-spec : {M : Type 1} → statement M
 decide-spec =
     tie.close
     (tie.spec
-    slice-aggregate-prepare-row
+    (λ c. search needs)
     prepare-row-requires
-    slice-aggregate-find
-    slice-aggregate-find-2
+    (λ c. search needs)
+    (λ c. search needs)
     find-requires
     returns)

@@ -4,20 +4,11 @@ use borrow.Author.Needs.{needs}
 use Rattle.row_judgement.proofs.decide.prepare_row.Statement.{statement}
 use Rattle.row_judgement.proofs.decide.prepare_row.Tie as tie
 
-frame-requires : tie.Need-frame-requires
-frame-requires c κs = search needs
-
-prepare-requires : tie.Need-prepare-requires
-prepare-requires c κs = search needs
-
 frame-blocking-requires : tie.Need-frame-blocking-requires
 frame-blocking-requires c κs = c .before .before .before .prepare .ensures .1 .filled
 
 fault-time-requires : tie.Need-fault-time-requires
 fault-time-requires c κs = c .before .before .before .before .before .prepare .ensures .1 .filled
-
-same-length : tie.Need-same-length
-same-length c = search needs
 
 returns : tie.Need-returns
 returns c =
@@ -28,9 +19,9 @@ pub prepare-row-spec : {M : Type 1} → statement M
 prepare-row-spec =
     tie.close
     (tie.spec
-    frame-requires
-    prepare-requires
+    (λ c κs. search needs)
+    (λ c κs. search needs)
     frame-blocking-requires
     fault-time-requires
-    same-length
+    (λ c. search needs)
     returns)

@@ -1,6 +1,6 @@
 -- A table that a check turns back is refused with its cause, then a missing row, both without a case; else the row is judged, with its case.
 use borrow.Author.Needs.{needs}
-use mathlib.Core.Path.{_≡_, sym, ap, _∙_}
+use mathlib.Core.Path.{_≡_, sym, _∙_}
 use borrow.Author.Tests.{lt-leb, le-leb}
 use Rattle.table_checks.specs.Checks.{loadedCheck}
 use Rattle.table_checks.specs.declared.Checked.the-variants.{Passed}
@@ -12,24 +12,6 @@ use Rattle.row_judgement.specs.laws.Judged.{row-inside}
 use Rattle.row_judgement.specs.laws.Explain.{refused-beside, judged-beside, explained-told}
 use Rattle.row_judgement.proofs.explanation.explain.Statement.{statement}
 use Rattle.row_judgement.proofs.explanation.explain.Tie as tie
-
-check-loaded-requires : tie.Need-check-loaded-requires
-check-loaded-requires c κs = search needs
-
-enum-known-checked : tie.Need-enum-known-checked
-enum-known-checked c = search needs
-
-of-table-requires : tie.Need-of-table-requires
-of-table-requires c κs = search needs
-
-turned-back-requires : tie.Need-turned-back-requires
-turned-back-requires c κs = search needs
-
-enum-told : tie.Need-enum-told
-enum-told c = search needs
-
-turned-back-requires-2 : tie.Need-turned-back-requires-2
-turned-back-requires-2 c κs = search needs
 
 -- the table passed
 passed : (c : tie.After-enum-told) → loadedCheck (c .before .before .before .before .args .lengths) (c .before .before .before .before .args .rows .now) ≡ Passed
@@ -62,12 +44,12 @@ pub explain-spec : {M : Type 1} → statement M
 explain-spec =
     tie.close
     (tie.spec
-    check-loaded-requires
-    enum-known-checked
-    of-table-requires
-    turned-back-requires
-    enum-told
-    turned-back-requires-2
+    (λ c κs. search needs)
+    (λ c. search needs)
+    (λ c κs. search needs)
+    (λ c κs. search needs)
+    (λ c. search needs)
+    (λ c κs. search needs)
     returns
     explain-row-requires
     returns-2

@@ -15,24 +15,6 @@ use Rattle.row_judgement.specs.laws.Explain.{refused-beside, judged-besi
 use Rattle.row_judgement.proofs.explanation.explain_faults.Statement.{statement}
 use Rattle.row_judgement.proofs.explanation.explain_faults.Tie as tie
 
-check-loaded-requires : tie.Need-check-loaded-requires
-check-loaded-requires c κs = search needs
-
-enum-known-checked : tie.Need-enum-known-checked
-enum-known-checked c = search needs
-
-of-table-requires : tie.Need-of-table-requires
-of-table-requires c κs = search needs
-
-turned-back-requires : tie.Need-turned-back-requires
-turned-back-requires c κs = search needs
-
-enum-told : tie.Need-enum-told
-enum-told c = search needs
-
-turned-back-requires-2 : tie.Need-turned-back-requires-2
-turned-back-requires-2 c κs = search needs
-
 abbrev start : tie.After-check-loaded → tie.Start
 start c = c .before .before
 
@@ -45,9 +27,6 @@ unfolding judgeFaults judgeFaultsChecked
 returns c =
     let s = start (c .before .before .before .before) in
     explained-faults-told (s .args .lengths) (s .args .rows .now) (s .args .row) (s .args .gap) (c .turned-back2 .ensures ∙ refused-beside (Apart (s .args .gap)) (s .args .lengths) (s .args .rows .now) (s .args .row) _ (rw (passed (c .before .before), le-leb _ _ (c .before .if1 .taken))))
-
-is-gap-requires : tie.Need-is-gap-requires
-is-gap-requires c κs = search needs
 
 -- the gap is one
 gap : (c : tie.Then2) → isGap (start (c .before .before .before .before .before) .args .gap) ≡ true
@@ -67,9 +46,6 @@ returns-2 c =
     let s = start (c .before .before .before .before .before .before) in
     explained-faults-told (s .args .lengths) (s .args .rows .now) (s .args .row) (s .args .gap) (c .explain-row .ensures ∙ judged-beside (Apart (s .args .gap)) (s .args .lengths) (s .args .rows .now) (s .args .row) _ (rw (passed (c .before .before .before .before), lt-leb _ _ (c .before .before .before .if1 .left), gap (c .before))))
 
-turned-back-requires-3 : tie.Need-turned-back-requires-3
-turned-back-requires-3 c κs = search needs
-
 returns-3 : tie.Need-returns-3
 unfolding judgeFaults judgeFaultsChecked
 returns-3 c =
@@ -86,17 +62,17 @@ pub explain-faults-spec : {M : Type 1} → statement M
 explain-faults-spec =
     tie.close
     (tie.spec
-    check-loaded-requires
-    enum-known-checked
-    of-table-requires
-    turned-back-requires
-    enum-told
-    turned-back-requires-2
+    (λ c κs. search needs)
+    (λ c. search needs)
+    (λ c κs. search needs)
+    (λ c κs. search needs)
+    (λ c. search needs)
+    (λ c κs. search needs)
     returns
-    is-gap-requires
+    (λ c κs. search needs)
     cast-ticks
     explain-row-requires
     returns-2
-    turned-back-requires-3
+    (λ c κs. search needs)
     returns-3
     returns-4)

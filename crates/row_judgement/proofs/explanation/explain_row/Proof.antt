@@ -35,35 +35,14 @@ mul-claim-2 c = record { fits = omega (arith, place (c .before)) }
 shared-slice-read-claim : tie.Need-shared-slice-read-claim
 shared-slice-read-claim c = omega (arith, place (c .before .before))
 
-slice-aggregate-prepare-row : tie.Need-slice-aggregate-prepare-row
-slice-aggregate-prepare-row c = search needs
-
 prepare-row-requires : tie.Need-prepare-row-requires
 prepare-row-requires c κs = (c .before .before .before .pre .0, (c .before .before .before .pre .1 .0, search needs))
-
-slice-aggregate-find : tie.Need-slice-aggregate-find
-slice-aggregate-find c = search needs
-
-slice-aggregate-find-2 : tie.Need-slice-aggregate-find-2
-slice-aggregate-find-2 c = search needs
 
 find-requires : tie.Need-find-requires
 find-requires c κs =
     let s = c .before .before .before .before .before .before .before in
     let row = c .before .before .before .prepare-row .ensures in
     ready-new (s .args .lengths) (row .0) (row .1 .0 .0) (subst FineFaults (sym (row .1 .0 .1)) (s .pre .1 .1)) (row .1 .1) (s .pre .1 .0)
-
-judged-by-requires : tie.Need-judged-by-requires
-judged-by-requires c κs = search needs
-
-verdict-requires : tie.Need-verdict-requires
-verdict-requires c κs = search needs
-
-slice-aggregate-first-case : tie.Need-slice-aggregate-first-case
-slice-aggregate-first-case c = search needs
-
-slice-aggregate-first-case-2 : tie.Need-slice-aggregate-first-case-2
-slice-aggregate-first-case-2 c = search needs
 
 -- the judgement is that of the row
 judged : (c : tie.After-judged-by) → let a = c .before .before .before .before .before .before .before .before .before .before .args in let fs = framesOf (a .lengths) (a .rows .now) in c .judged-by .result ≡ judge (c .before .before .before .before .before .before .prepare-row .result .faults) fs (row fs (a .i)) (claimOf (a .rows .now) (a .i))
@@ -110,15 +89,15 @@ explain-row-spec =
     add-claim
     mul-claim-2
     shared-slice-read-claim
-    slice-aggregate-prepare-row
+    (λ c. search needs)
     prepare-row-requires
-    slice-aggregate-find
-    slice-aggregate-find-2
+    (λ c. search needs)
+    (λ c. search needs)
     find-requires
-    judged-by-requires
-    verdict-requires
-    slice-aggregate-first-case
-    slice-aggregate-first-case-2
+    (λ c κs. search needs)
+    (λ c κs. search needs)
+    (λ c. search needs)
+    (λ c. search needs)
     first-case-requires
     returns
     returns-2)

@@ -8,18 +8,6 @@ use Rattle.row_judgement.specs.laws.Returns.{judged-told}
 use Rattle.row_judgement.proofs.judgement.judge.Statement.{statement}
 use Rattle.row_judgement.proofs.judgement.judge.Tie as tie
 
-check-loaded-requires : tie.Need-check-loaded-requires
-check-loaded-requires c κs = search needs
-
-enum-known-checked : tie.Need-enum-known-checked
-enum-known-checked c = search needs
-
-of-table-requires : tie.Need-of-table-requires
-of-table-requires c κs = search needs
-
-enum-told : tie.Need-enum-told
-enum-told c = search needs
-
 judge-accepted-requires : tie.Need-judge-accepted-requires
 judge-accepted-requires c κs =
     let a = c .before .before .before .before .args in
@@ -40,10 +28,10 @@ pub judge-spec : {M : Type 1} → statement M
 judge-spec =
     tie.close
     (tie.spec
-    check-loaded-requires
-    enum-known-checked
-    of-table-requires
-    enum-told
+    (λ c κs. search needs)
+    (λ c. search needs)
+    (λ c κs. search needs)
+    (λ c. search needs)
     judge-accepted-requires
     returns
     returns-2)

@@ -8,18 +8,6 @@ use Rattle.row_judgement.specs.laws.Returns.{faults-told}
 use Rattle.row_judgement.proofs.judgement.judge_faults.Statement.{statement}
 use Rattle.row_judgement.proofs.judgement.judge_faults.Tie as tie
 
-check-loaded-requires : tie.Need-check-loaded-requires
-check-loaded-requires c κs = search needs
-
-enum-known-checked : tie.Need-enum-known-checked
-enum-known-checked c = search needs
-
-of-table-requires : tie.Need-of-table-requires
-of-table-requires c κs = search needs
-
-enum-told : tie.Need-enum-told
-enum-told c = search needs
-
 judge-faults-accepted-requires : tie.Need-judge-faults-accepted-requires
 judge-faults-accepted-requires c κs =
     let a = c .before .before .before .before .args in
@@ -40,10 +28,10 @@ pub judge-faults-spec : {M : Type 1} → statement M
 judge-faults-spec =
     tie.close
     (tie.spec
-    check-loaded-requires
-    enum-known-checked
-    of-table-requires
-    enum-told
+    (λ c κs. search needs)
+    (λ c. search needs)
+    (λ c κs. search needs)
+    (λ c. search needs)
     judge-faults-accepted-requires
     returns
     returns-2)

@@ -14,9 +14,6 @@ returns : tie.Need-returns
 unfolding judgeFaults judgeFaultsChecked
 returns c = rw (both-loaded (c .before .before .args .lengths) (c .before .before .args .rows .now) (c .before .before .pre), le-leb _ _ (c .if1 .taken))
 
-is-gap-requires : tie.Need-is-gap-requires
-is-gap-requires c κs = search needs
-
 -- the gap is one
 gap : (c : tie.Then2) → isGap (c .before .before .before .before .args .gap) ≡ true
 gap c = sym (c .before .is-gap .ensures) ∙ c .if2 .taken
@@ -42,4 +39,4 @@ returns-3 c =
     rw (both-loaded (s .args .lengths) (s .args .rows .now) (s .pre), lt-leb _ _ (c .before .before .if1 .left), sym (c .before .is-gap .ensures) ∙ c .if2 .left)
 
 pub judge-faults-accepted-spec : {M : Type 1} → statement M
-judge-faults-accepted-spec = tie.close (tie.spec returns is-gap-requires cast-ticks judge-row-requires returns-2 returns-3)
+judge-faults-accepted-spec = tie.close (tie.spec returns (λ c κs. search needs) cast-ticks judge-row-requires returns-2 returns-3)

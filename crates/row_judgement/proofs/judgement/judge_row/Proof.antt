@@ -26,12 +26,6 @@ mul-claim-2 c = record { fits = omega (arith, place (c .before)) }
 shared-slice-read-claim : tie.Need-shared-slice-read-claim
 shared-slice-read-claim c = omega (arith, place (c .before .before))
 
-decide-requires : tie.Need-decide-requires
-decide-requires c κs = search needs
-
-judged-by-requires : tie.Need-judged-by-requires
-judged-by-requires c κs = search needs
-
 returns : tie.Need-returns
 returns c = let a = c .before .before .before .before .args in c .judged-by .ensures ∙ ap (judgedBy (claimOf (a .rows .now) (a .i))) (c .before .decide .ensures) ∙ decided-judge _ _ _ (claimOf (a .rows .now) (a .i))
 
@@ -43,6 +37,6 @@ judge-row-spec =
     add-claim
     mul-claim-2
     shared-slice-read-claim
-    decide-requires
-    judged-by-requires
+    (λ c κs. search needs)
+    (λ c κs. search needs)
     returns)

@@ -6,12 +6,6 @@ use Rattle.arith.specs.laws.Signed.{sub-sfits, toZ-pos}
 use Rattle.row_judgement.proofs.judgement.judged.Statement.{statement}
 use Rattle.row_judgement.proofs.judgement.judged.Tie as tie
 
-cast-t4 : tie.Need-cast-t4
-cast-t4 c = search needs
-
-cast-t5 : tie.Need-cast-t5
-cast-t5 c = search needs
-
 sub-t6 : tie.Need-sub-t6
 sub-t6 c =
     let claim = c .args .claim in
@@ -22,4 +16,4 @@ returns : tie.Need-returns
 returns c = rw (toZ-ofZ (sub-t6 c), toZ-pos (c .args .claim) (omega arith), toZ-pos (c .args .bound) (omega arith))
 
 pub judged-spec : {M : Type 1} → statement M
-judged-spec = tie.close (tie.spec cast-t4 cast-t5 sub-t6 returns)
+judged-spec = tie.close (tie.spec (λ c. search needs) (λ c. search needs) sub-t6 returns)

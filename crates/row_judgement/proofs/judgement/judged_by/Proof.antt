@@ -1,40 +1,9 @@
 -- By the bound.
-use mathlib.Core.Path.{_∙_, sym}
 use borrow.Author.Needs.{needs}
 use borrow.Author.Tests.{lt-leb, le-leb}
 use Rattle.row_judgement.specs.Decide.{judgedBy}
 use Rattle.row_judgement.proofs.judgement.judged_by.Statement.{statement}
 use Rattle.row_judgement.proofs.judgement.judged_by.Tie as tie
-
-enum-told : tie.Need-enum-told
-enum-told c = search needs
-
-enum-known-bound : tie.Need-enum-known-bound
-enum-known-bound c = search needs
-
-judged-requires : tie.Need-judged-requires
-judged-requires c κs = search needs
-
-enum-known-bound-2 : tie.Need-enum-known-bound-2
-enum-known-bound-2 c = search needs
-
-judged-requires-2 : tie.Need-judged-requires-2
-judged-requires-2 c κs = search needs
-
-enum-known-bound-3 : tie.Need-enum-known-bound-3
-enum-known-bound-3 c = search needs
-
-judged-requires-3 : tie.Need-judged-requires-3
-judged-requires-3 c κs = search needs
-
-enum-known-bound-4 : tie.Need-enum-known-bound-4
-enum-known-bound-4 c = search needs
-
-judged-requires-4 : tie.Need-judged-requires-4
-judged-requires-4 c κs = search needs
-
-judged-requires-5 : tie.Need-judged-requires-5
-judged-requires-5 c κs = search needs
 
 returns : tie.Need-returns
 unfolding judgedBy
@@ -64,16 +33,16 @@ pub judged-by-spec : {M : Type 1} → statement M
 judged-by-spec =
     tie.close
     (tie.spec
-    enum-told
-    enum-known-bound
-    judged-requires
-    enum-known-bound-2
-    judged-requires-2
-    enum-known-bound-3
-    judged-requires-3
-    enum-known-bound-4
-    judged-requires-4
-    judged-requires-5
+    (λ c. search needs)
+    (λ c. search needs)
+    (λ c κs. search needs)
+    (λ c. search needs)
+    (λ c κs. search needs)
+    (λ c. search needs)
+    (λ c κs. search needs)
+    (λ c. search needs)
+    (λ c κs. search needs)
+    (λ c κs. search needs)
     returns
     returns-2
     returns-3

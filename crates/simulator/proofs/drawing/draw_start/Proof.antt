@@ -7,25 +7,13 @@ use Rattle.simulator.specs.theory.First.{hyper-some}
 use Rattle.simulator.proofs.drawing.draw_start.Statement.{statement}
 use Rattle.simulator.proofs.drawing.draw_start.Tie as tie
 
-has-frames-requires : tie.Need-has-frames-requires
-has-frames-requires c κs = search needs
-
-drawn-requires : tie.Need-drawn-requires
-drawn-requires c κs = search needs
-
 hyperperiod-requires : tie.Need-hyperperiod-requires
 hyperperiod-requires c κs = let s = c .before .before .before .before in (s .pre .0 .1, s .pre .1)
-
-cast-starts-with : tie.Need-cast-starts-with
-cast-starts-with c = search needs
 
 rem-starts-with : tie.Need-rem-starts-with
 rem-starts-with c =
     let s = c .before .before .before .before .before in
     omega (arith, c .hyperperiod .ensures, hyper-same (s .args .lengths) (s .args .rows .now) (s .args .group), hyper-some (s .args .lengths) (s .pre .0 .0) (s .args .rows .now) (s .pre .0 .1) (s .args .group))
-
-starts-with-requires : tie.Need-starts-with-requires
-starts-with-requires c κs = search needs
 
 returns : tie.Need-returns
 unfolding startDrawn
@@ -43,11 +31,11 @@ pub draw-start-spec : {M : Type 1} → statement M
 draw-start-spec =
     tie.close
     (tie.spec
-    has-frames-requires
-    drawn-requires
+    (λ c κs. search needs)
+    (λ c κs. search needs)
     hyperperiod-requires
-    cast-starts-with
+    (λ c. search needs)
     rem-starts-with
-    starts-with-requires
+    (λ c κs. search needs)
     returns
     returns-2)

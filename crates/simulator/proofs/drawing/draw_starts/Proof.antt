@@ -19,17 +19,8 @@ loop-holds : tie.Need-loop-holds Inv-loop μ-loop
 unfolding startsDrawn
 loop-holds c = (refl, search needs)
 
-add-draw-start : tie.Need-add-draw-start Inv-loop μ-loop
-add-draw-start c = search needs
-
 draw-start-requires : tie.Need-draw-start-requires Inv-loop μ-loop
 draw-start-requires c κs = (c .before .before .before .pre, (omega arith, omega arith))
-
-add-j : tie.Need-add-j Inv-loop μ-loop
-add-j c = search needs
-
-loop-less : tie.Need-loop-less Inv-loop μ-loop
-loop-less c = search needs
 
 loop-again : tie.Need-loop-again Inv-loop μ-loop
 unfolding startsDrawn
@@ -45,9 +36,9 @@ draw-starts-spec =
     Inv-loop
     μ-loop
     loop-holds
-    add-draw-start
+    (λ c. search needs)
     draw-start-requires
-    add-j
-    loop-less
+    (λ c. search needs)
+    (λ c. search needs)
     loop-again
     returns)

@@ -4,12 +4,9 @@ use Rattle.simulator.specs.Starts.{firstOf}
 use Rattle.simulator.proofs.drawing.first.Statement.{statement}
 use Rattle.simulator.proofs.drawing.first.Tie as tie
 
-first-dues-requires : tie.Need-first-dues-requires
-first-dues-requires c κs = search needs
-
 returns : tie.Need-returns
 unfolding firstOf
 returns c = rw (c .first-dues .ensures)
 
 pub first-spec : {M : Type 1} → statement M
-first-spec = tie.close (tie.spec first-dues-requires returns)
+first-spec = tie.close (tie.spec (λ c κs. search needs) returns)

@@ -7,14 +7,8 @@ use Rattle.bus_log.specs.theory.Table.{any-group}
 use Rattle.simulator.proofs.drawing.first_due.Statement.{statement}
 use Rattle.simulator.proofs.drawing.first_due.Tie as tie
 
-frame-requires : tie.Need-frame-requires
-frame-requires c κs = search needs
-
 start-of-requires : tie.Need-start-of-requires
 start-of-requires c κs = let s = c .before .before in rw (c .frame .ensures) (any-group (s .args .lengths) (s .args .rows .now) (s .pre .0 .1) (s .args .i))
-
-cast-result : tie.Need-cast-result
-cast-result c = search needs
 
 add-result : tie.Need-add-result
 unfolding Early
@@ -26,4 +20,4 @@ returns c = rw (← c .before .before .frame .ensures, c .before .start-of .ensu
 
 pub first-due-spec : {M : Type 1} → statement M
 first-due-spec =
-    tie.close (tie.spec frame-requires start-of-requires cast-result add-result returns)
+    tie.close (tie.spec (λ c κs. search needs) start-of-requires (λ c. search needs) add-result returns)

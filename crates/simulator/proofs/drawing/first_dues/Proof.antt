@@ -24,18 +24,6 @@ loop-holds c = (refl, search needs, refl, refl)
 first-due-requires : tie.Need-first-due-requires Inv-loop μ-loop
 first-due-requires c κs = c .before .before .before .pre
 
-mul-due : tie.Need-mul-due Inv-loop μ-loop
-mul-due c = search needs
-
-array-write-due : tie.Need-array-write-due Inv-loop μ-loop
-array-write-due c = search needs
-
-add-i : tie.Need-add-i Inv-loop μ-loop
-add-i c = search needs
-
-loop-less : tie.Need-loop-less Inv-loop μ-loop
-loop-less c = search needs
-
 loop-again : tie.Need-loop-again Inv-loop μ-loop
 loop-again c = let l = c .before .before .loop in (fill-more _ 64 _ _ refl _ _ (l .inv .0) (c .before .loop-test .taken) (c .first-due .ensures), search needs, length-set (l .due) _ _ ∙ l .inv .2, refl)
 
@@ -50,9 +38,9 @@ first-dues-spec =
     μ-loop
     loop-holds
     first-due-requires
-    mul-due
-    array-write-due
-    add-i
-    loop-less
+    (λ c. search needs)
+    (λ c. search needs)
+    (λ c. search needs)
+    (λ c. search needs)
     loop-again
     returns)

@@ -24,17 +24,8 @@ loop-holds : tie.Need-loop-holds Inv-loop μ-loop
 unfolding hasFrames
 loop-holds c = (rw (sub-zero, length-frames), search needs)
 
-is-of-requires : tie.Need-is-of-requires Inv-loop μ-loop
-is-of-requires c κs = search needs
-
 returns : tie.Need-returns Inv-loop μ-loop
 returns c = exists-stop _ _ _ _ (c .before .before .loop-test .taken) (c .before .is-of .ensures) (c .if1 .taken) ∙ c .before .before .before .loop .inv .0
-
-add-i : tie.Need-add-i Inv-loop μ-loop
-add-i c = search needs
-
-loop-less : tie.Need-loop-less Inv-loop μ-loop
-loop-less c = search needs
 
 loop-again : tie.Need-loop-again Inv-loop μ-loop
 loop-again c = (exists-go _ _ _ _ (c .before .before .loop-test .taken) (c .before .is-of .ensures) (c .if1 .left) ∙ c .before .before .before .loop .inv .0, search needs)
@@ -49,9 +40,9 @@ has-frames-spec =
     Inv-loop
     μ-loop
     loop-holds
-    is-of-requires
+    (λ c κs. search needs)
     returns
-    add-i
-    loop-less
+    (λ c. search needs)
+    (λ c. search needs)
     loop-again
     returns-2)

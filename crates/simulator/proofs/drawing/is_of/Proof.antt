@@ -3,11 +3,8 @@ use borrow.Author.Needs.{needs}
 use Rattle.simulator.proofs.drawing.is_of.Statement.{statement}
 use Rattle.simulator.proofs.drawing.is_of.Tie as tie
 
-frame-requires : tie.Need-frame-requires
-frame-requires c κs = search needs
-
 returns : tie.Need-returns
 returns c = rw (← c .before .frame .ensures)
 
 pub is-of-spec : {M : Type 1} → statement M
-is-of-spec = tie.close (tie.spec frame-requires returns)
+is-of-spec = tie.close (tie.spec (λ c κs. search needs) returns)

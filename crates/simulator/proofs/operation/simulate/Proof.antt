@@ -6,15 +6,6 @@ use Rattle.simulator.specs.theory.Answers.{rows-told, left-refused, left
 use Rattle.simulator.proofs.operation.simulate.Statement.{statement}
 use Rattle.simulator.proofs.operation.simulate.Tie as tie
 
-check-loaded-requires : tie.Need-check-loaded-requires
-check-loaded-requires c κs = search needs
-
-enum-known-checked : tie.Need-enum-known-checked
-enum-known-checked c = search needs
-
-enum-told : tie.Need-enum-told
-enum-told c = search needs
-
 simulate-accepted-requires : tie.Need-simulate-accepted-requires
 simulate-accepted-requires c κs =
     let k = c .before in
@@ -24,9 +15,6 @@ returns : tie.Need-returns
 returns c =
     let k = c .before in
     rows-told _ _ _ _ _ (left-refused _ _ _ _ _ _ (sym (k .before .before .check-loaded .ensures .0) ∙ k .checked .given .1))
-
-same-length : tie.Need-same-length
-same-length c = search needs
 
 returns-2 : tie.Need-returns-2
 returns-2 c =
@@ -38,10 +26,10 @@ pub simulate-spec : {M : Type 1} → statement M
 simulate-spec =
     tie.close
     (tie.spec
-    check-loaded-requires
-    enum-known-checked
-    enum-told
+    (λ c κs. search needs)
+    (λ c. search needs)
+    (λ c. search needs)
     simulate-accepted-requires
     returns
-    same-length
+    (λ c. search needs)
     returns-2)

@@ -11,16 +11,10 @@ returns : tie.Need-returns
 unfolding wantedFor areaLeft
 returns c = (rw (eq-eqb _ _ (c .if1 .taken)), refl)
 
-is-between-requires : tie.Need-is-between-requires
-is-between-requires c κs = search needs
-
 write-requires : tie.Need-write-requires
 write-requires c κs =
     let b = c .before .before in
     (b .before .before .before .before .pre, between-true 1 1600 _ (sym (b .is-between .ensures) ∙ c .before .if2 .taken) .1)
-
-same-length : tie.Need-same-length
-same-length c = search needs
 
 returns-2 : tie.Need-returns-2
 unfolding wantedFor areaLeft
@@ -35,4 +29,4 @@ returns-3 c = (rw (ne-eqb _ _ (c .before .before .if1 .left), ← c .before .is-
 
 pub simulate-accepted-spec : {M : Type 1} → statement M
 simulate-accepted-spec =
-    tie.close (tie.spec returns is-between-requires write-requires same-length returns-2 returns-3)
+    tie.close (tie.spec returns (λ c κs. search needs) write-requires (λ c. search needs) returns-2 returns-3)

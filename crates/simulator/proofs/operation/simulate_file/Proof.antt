@@ -12,18 +12,6 @@ read c =
     let both = c .before .before .before .before .read .ensures in
     read-rows _ _ _ refl (both .0) _ _ (both .1 .0) (c .before .answer .given .1)
 
-slice-aggregate-read : tie.Need-slice-aggregate-read
-slice-aggregate-read c = search needs
-
-read-requires : tie.Need-read-requires
-read-requires c κs = search needs
-
-enum-told : tie.Need-enum-told
-enum-told c = search needs
-
-enum-known-answer : tie.Need-enum-known-answer
-enum-known-answer c = search needs
-
 array-share-prefix-rows : tie.Need-array-share-prefix-rows
 array-share-prefix-rows c = read c .room
 
@@ -40,9 +28,6 @@ returns c =
     let at-read = c .before .before .before in
     rw (c .enum-told .given .1) (left-refused _ _ _ _ _ _ (read-refused _ _ _ refl (at-read .read .ensures .0) _ (c .enum-told .given .1)))
 
-same-length : tie.Need-same-length
-same-length c = search needs
-
 returns-2 : tie.Need-returns-2
 returns-2 c =
     let table = read (c .before .before .before .before .before) in
@@ -52,13 +37,13 @@ pub simulate-file-spec : {M : Type 1} → statement M
 simulate-file-spec =
     tie.close
     (tie.spec
-    slice-aggregate-read
-    read-requires
-    enum-told
-    enum-known-answer
+    (λ c. search needs)
+    (λ c κs. search needs)
+    (λ c. search needs)
+    (λ c. search needs)
     array-share-prefix-rows
     slice-aggregate-simulate-accepted
     simulate-accepted-requires
     returns
-    same-length
+    (λ c. search needs)
     returns-2)

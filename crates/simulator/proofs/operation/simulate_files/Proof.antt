@@ -12,27 +12,12 @@ start c = c .before .before .before .before
 loaded : (c : tie.After-lengths-of) → let s = start (c .before .before .before) in ReadLengths (s .args .lengths .now) (s .args .file .now) (c .lengths-of .result)
 loaded c = lengths-read _ _ (c .before .before .before .read .ensures .0) (c .before .enum-told .given .1) (c .lengths-of .ensures)
 
-read-requires : tie.Need-read-requires
-read-requires c κs = search needs
-
-enum-known-checked : tie.Need-enum-known-checked
-enum-known-checked c = search needs
-
-enum-told : tie.Need-enum-told
-enum-told c = search needs
-
-lengths-of-requires : tie.Need-lengths-of-requires
-lengths-of-requires c κs = search needs
-
 simulate-file-requires : tie.Need-simulate-file-requires
 simulate-file-requires c κs = loaded (c .before) .loadable
 
 returns : tie.Need-returns
 returns c =
     files-told _ _ _ _ _ _ (left-refused _ _ _ _ _ _ (lengths-refused _ _ (c .before .before .before .read .ensures .0) (c .before .checked .given .1)))
-
-same-length : tie.Need-same-length
-same-length c = search needs
 
 returns-2 : tie.Need-returns-2
 returns-2 c =
@@ -43,11 +28,11 @@ pub simulate-files-spec : {M : Type 1} → statement M
 simulate-files-spec =
     tie.close
     (tie.spec
-    read-requires
-    enum-known-checked
-    enum-told
-    lengths-of-requires
+    (λ c κs. search needs)
+    (λ c. search needs)
+    (λ c. search needs)
+    (λ c κs. search needs)
     simulate-file-requires
     returns
-    same-length
+    (λ c. search needs)
     returns-2)

@@ -21,20 +21,11 @@ early c =
     let p = s .pre .0 in
     rw (c .draw-starts .ensures) (starts-early (s .args .lengths) (p .0) (s .args .rows .now) (p .1) (s .args .seed) 16 (omega arith))
 
-mul-if1 : tie.Need-mul-if1
-mul-if1 c = search needs
-
-no-room-requires : tie.Need-no-room-requires
-no-room-requires c κs = search needs
-
 returns : tie.Need-returns
 returns c =
     let s = c .before .before .before .before in
     area-short Passed (textOf (s .args .lengths) (s .args .rows .now) (s .args .seed) (s .args .lines)) (s .args .out .now) _ _
     (length-text (s .args .lengths) (s .args .rows .now) (s .args .seed) (s .args .lines)) refl (c .before .if1 .taken) (c .no-room .ensures)
-
-draw-starts-requires : tie.Need-draw-starts-requires
-draw-starts-requires c κs = search needs
 
 first-requires : tie.Need-first-requires
 first-requires c κs = (c .before .before .before .before .pre .0, early c)
@@ -47,12 +38,6 @@ write-log-requires c κs =
     let p = s .pre .0 in
     let within : Within (at-first .first .result) 2000000 = rw (at-first .first .ensures) (first-within (s .args .lengths) (p .0) (s .args .rows .now) (p .1) (at-starts .draw-starts .result) (early at-starts)) in
     (p, (within, s .pre .1, at-starts .before .if1 .left))
-
-mul-t8 : tie.Need-mul-t8
-mul-t8 c = search needs
-
-same-length : tie.Need-same-length
-same-length c = search needs
 
 returns-2 : tie.Need-returns-2
 returns-2 c =
@@ -72,12 +57,12 @@ pub write-spec : {M : Type 1} → statement M
 write-spec =
     tie.close
     (tie.spec
-    mul-if1
-    no-room-requires
+    (λ c. search needs)
+    (λ c κs. search needs)
     returns
-    draw-starts-requires
+    (λ c κs. search needs)
     first-requires
     write-log-requires
-    mul-t8
-    same-length
+    (λ c. search needs)
+    (λ c. search needs)
     returns-2)

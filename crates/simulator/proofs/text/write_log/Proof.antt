@@ -25,9 +25,6 @@ loop-holds : tie.Need-loop-holds Inv-loop μ-loop
 unfolding after
 loop-holds c = (refl, refl, search needs, refl)
 
-drawn-requires : tie.Need-drawn-requires Inv-loop μ-loop
-drawn-requires c κs = search needs
-
 entry-next-requires : tie.Need-entry-next-requires Inv-loop μ-loop
 entry-next-requires c κs = c .before .before .before .before .before .pre .0
 
@@ -47,12 +44,6 @@ small c =
 line-of-requires : tie.Need-line-of-requires Inv-loop μ-loop
 line-of-requires c κs = (small c .inside, small c .row)
 
-sub-write-line : tie.Need-sub-write-line Inv-loop μ-loop
-sub-write-line c = search needs
-
-part-write-line-start : tie.Need-part-write-line-start Inv-loop μ-loop
-part-write-line-start c = search needs
-
 part-write-line-end : tie.Need-part-write-line-end Inv-loop μ-loop
 part-write-line-end c = let k = c .before in omega (arith, k .before .before .loop-test .taken, k .before .before .before .loop .inv .3, k .before .before .before .before .before .before .pre .1 .2)
 
@@ -61,12 +52,6 @@ write-line-requires c κs = let k = c .before .before in simp (length-take, leng
 
 moved-by-requires : tie.Need-moved-by-requires Inv-loop μ-loop
 moved-by-requires c κs = let z = small (c .before .before .before .before .before) in (z .row, omega (arith, z .start), omega (arith, z .release), omega (arith, z .length-max))
-
-add-i : tie.Need-add-i Inv-loop μ-loop
-add-i c = search needs
-
-loop-less : tie.Need-loop-less Inv-loop μ-loop
-loop-less c = search needs
 
 loop-again : tie.Need-loop-again Inv-loop μ-loop
 loop-again c =
@@ -83,9 +68,6 @@ loop-again c =
       search needs,
     )
 
-same-length : tie.Need-same-length Inv-loop μ-loop
-same-length c = search needs
-
 returns : tie.Need-returns Inv-loop μ-loop
 returns c = let s = c .before .before .before .before in lines-over (log-lines (framesOf (s .args .lengths) (s .args .rows .now)) (s .args .rows .now) (s .args .first)) _ _ _ _ (c .before .loop .inv .1) (c .before .loop .inv .2) (c .loop-test .left)
 
@@ -96,18 +78,18 @@ write-log-spec =
     Inv-loop
     μ-loop
     loop-holds
-    drawn-requires
+    (λ c κs. search needs)
     entry-next-requires
     mul-from
     add-to
     line-of-requires
-    sub-write-line
-    part-write-line-start
+    (λ c. search needs)
+    (λ c. search needs)
     part-write-line-end
     write-line-requires
     moved-by-requires
-    add-i
-    loop-less
+    (λ c. search needs)
+    (λ c. search needs)
     loop-again
-    same-length
+    (λ c. search needs)
     returns)

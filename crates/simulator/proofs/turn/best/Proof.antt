@@ -24,12 +24,6 @@ loop-holds c = (refl, search needs)
 better-requires : tie.Need-better-requires Inv-loop μ-loop
 better-requires c κs = let l = c .before .loop in let s = c .before .before .before in let h = s .pre in (omega (arith, h), omega (arith, l .inv .0, lowest-within (rankAt (framesOf (s .args .lengths) (s .args .rows .now)) (s .args .s) (s .args .t)) (l .i) 64 (omega (arith, l .inv .1, h)) (omega arith)))
 
-add-i : tie.Need-add-i Inv-loop μ-loop
-add-i c = search needs
-
-loop-less : tie.Need-loop-less Inv-loop μ-loop
-loop-less c = search needs
-
 loop-again : tie.Need-loop-again Inv-loop μ-loop
 loop-again c = let l = c .before .before .loop in let s = c .before .before .before .before in let key = rankAt (framesOf (s .args .lengths) (s .args .rows .now)) (s .args .s) (s .args .t) in (c .better .ensures ∙ rw (l .inv .0) (sym (lowest-more key (l .i))), search needs)
 
@@ -39,4 +33,4 @@ returns c = let l = c .before .loop in let s = c .before .before .before in let 
 pub best-spec : {M : Type 1} → statement M
 best-spec =
     tie.close
-    (tie.spec Inv-loop μ-loop loop-holds better-requires add-i loop-less loop-again returns)
+    (tie.spec Inv-loop μ-loop loop-holds better-requires (λ c. search needs) (λ c. search needs) loop-again returns)

@@ -26,9 +26,6 @@ start-next-requires c κs = omega (arith, accepted-size _ (c .before .pre .1) .m
 best-requires : tie.Need-best-requires
 best-requires c κs = accepted-size _ (c .before .before .pre .1) .most
 
-frame-requires : tie.Need-frame-requires
-frame-requires c κs = search needs
-
 due-of-requires : tie.Need-due-of-requires
 due-of-requires c κs = let s = c .before .before .before .before in omega (arith, inside (c .before), few-rows (s .args .lengths) (s .args .rows .now) (s .pre .1))
 
@@ -48,7 +45,7 @@ entry-next-spec =
     (tie.spec
     start-next-requires
     best-requires
-    frame-requires
+    (λ c κs. search needs)
     due-of-requires
     length-from-requires
     returns)

@@ -7,9 +7,6 @@ use Rattle.simulator.specs.Engine.{lengthFrom}
 use Rattle.simulator.proofs.turn.length_from.Statement.{statement}
 use Rattle.simulator.proofs.turn.length_from.Tie as tie
 
-rem-result : tie.Need-rem-result
-rem-result c = search needs
-
 cast-result : tie.Need-cast-result
 cast-result c = omega (arith, mod-lt (c .args .v) {m = c .args .largest} (c .pre))
 
@@ -21,4 +18,4 @@ unfolding lengthFrom
 returns c = refl
 
 pub length-from-spec : {M : Type 1} → statement M
-length-from-spec = tie.close (tie.spec rem-result cast-result add-result returns)
+length-from-spec = tie.close (tie.spec (λ c. search needs) cast-result add-result returns)

@@ -5,12 +5,6 @@ use Rattle.simulator.specs.Engine.{rankAt}
 use Rattle.simulator.proofs.turn.rank_at.Statement.{statement}
 use Rattle.simulator.proofs.turn.rank_at.Tie as tie
 
-due-of-requires : tie.Need-due-of-requires
-due-of-requires c κs = search needs
-
-frame-requires : tie.Need-frame-requires
-frame-requires c κs = search needs
-
 returns : tie.Need-returns
 unfolding rankAt
 returns c = rw (← c .before .before .due-of .ensures, le-leb _ _ (c .before .if1 .taken), ← c .frame .ensures)
@@ -20,4 +14,4 @@ unfolding rankAt
 returns-2 c = rw (← c .before .due-of .ensures, lt-leb _ _ (c .if1 .left))
 
 pub rank-at-spec : {M : Type 1} → statement M
-rank-at-spec = tie.close (tie.spec due-of-requires frame-requires returns returns-2)
+rank-at-spec = tie.close (tie.spec (λ c κs. search needs) (λ c κs. search needs) returns returns-2)

@@ -21,12 +21,6 @@ loop-holds c = (refl, search needs)
 sooner-requires : tie.Need-sooner-requires Inv-loop μ-loop
 sooner-requires c κs = let l = c .before .loop in let h = c .before .before .pre in (omega (arith, h), omega (arith, l .inv .0, lowest-within (dueOf (c .before .before .args .s)) (l .i) 64 (omega (arith, l .inv .1, h)) (omega arith)))
 
-add-i : tie.Need-add-i Inv-loop μ-loop
-add-i c = search needs
-
-loop-less : tie.Need-loop-less Inv-loop μ-loop
-loop-less c = search needs
-
 loop-again : tie.Need-loop-again Inv-loop μ-loop
 loop-again c = let l = c .before .before .loop in let key = dueOf (c .before .before .before .args .s) in (c .sooner .ensures ∙ rw (l .inv .0) (sym (lowest-more key (l .i))), search needs)
 
@@ -36,4 +30,4 @@ returns c = let l = c .before .loop in let z : l .i ≡ c .before .before .args 
 pub soonest-spec : {M : Type 1} → statement M
 soonest-spec =
     tie.close
-    (tie.spec Inv-loop μ-loop loop-holds sooner-requires add-i loop-less loop-again returns)
+    (tie.spec Inv-loop μ-loop loop-holds sooner-requires (λ c. search needs) (λ c. search needs) loop-again returns)

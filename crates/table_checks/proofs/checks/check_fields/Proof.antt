@@ -7,15 +7,6 @@ use Rattle.table_checks.specs.laws.Returns.{rows-told}
 use Rattle.table_checks.proofs.checks.check_fields.Statement.{statement}
 use Rattle.table_checks.proofs.checks.check_fields.Tie as tie
 
-rows-size-requires : tie.Need-rows-size-requires
-rows-size-requires c κs = search needs
-
-enum-told : tie.Need-enum-told
-enum-told c = search needs
-
-enum-told-2 : tie.Need-enum-told-2
-enum-told-2 c = search needs
-
 returns : tie.Need-returns
 unfolding rowsCheck
 returns c = rows-told (c .before .before .before .before .args .t .now) (rw (← c .before .before .rows-size .ensures, c .enum-told2 .given .1))
@@ -32,4 +23,4 @@ returns-2 c =
 
 pub check-fields-spec : {M : Type 1} → statement M
 check-fields-spec =
-    tie.close (tie.spec rows-size-requires enum-told enum-told-2 returns table-requires returns-2)
+    tie.close (tie.spec (λ c κs. search needs) (λ c. search needs) (λ c. search needs) returns table-requires returns-2)

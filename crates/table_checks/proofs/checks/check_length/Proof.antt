@@ -6,24 +6,15 @@ use Rattle.table_checks.specs.laws.Returns.{size-told}
 use Rattle.table_checks.proofs.checks.check_length.Statement.{statement}
 use Rattle.table_checks.proofs.checks.check_length.Tie as tie
 
-fail-requires : tie.Need-fail-requires
-fail-requires c κs = search needs
-
 returns : tie.Need-returns
 unfolding fileSizeCheck
 returns c = size-told (c .before .before .args .size) (simp (eq-eqb _ _ (c .before .if1 .taken)) (c .fail .ensures))
-
-fail-requires-2 : tie.Need-fail-requires-2
-fail-requires-2 c κs = search needs
 
 returns-2 : tie.Need-returns-2
 unfolding fileSizeCheck
 returns-2 c =
     size-told (c .before .before .before .args .size)
     (simp (ne-eqb _ _ (c .before .before .if1 .left), ne-eqb _ _ (c .before .if2 .taken)) (c .fail2 .ensures))
-
-fail-requires-3 : tie.Need-fail-requires-3
-fail-requires-3 c κs = search needs
 
 returns-3 : tie.Need-returns-3
 unfolding fileSizeCheck
@@ -40,4 +31,4 @@ returns-4 c =
 pub check-length-spec : {M : Type 1} → statement M
 check-length-spec =
     tie.close
-    (tie.spec fail-requires returns fail-requires-2 returns-2 fail-requires-3 returns-3 returns-4)
+    (tie.spec (λ c κs. search needs) returns (λ c κs. search needs) returns-2 (λ c κs. search needs) returns-3 returns-4)

@@ -21,58 +21,13 @@ judged t i j p w b u m e is told =
     let x : b ≡ within j (field t i (j - 1)) (field t i j) = sym told ∙ is ∙ ap (λ (k : ℕ). within j (field t i k) (field t i j)) e in
     simp (ne-eqb _ _ u, ne-eqb _ _ m) (ap (λ (y : Bool). cond y Passed (failed Limit (i + 1))) x)
 
-add-line : tie.Need-add-line
-add-line c = search needs
-
-cast-line : tie.Need-cast-line
-cast-line c = search needs
-
-mul-v : tie.Need-mul-v
-mul-v c = search needs
-
-add-v : tie.Need-add-v
-add-v c = search needs
-
-mul-v-2 : tie.Need-mul-v-2
-mul-v-2 c = search needs
-
-shared-slice-read-v : tie.Need-shared-slice-read-v
-shared-slice-read-v c = search needs
-
-fail-requires : tie.Need-fail-requires
-fail-requires c κs = search needs
-
 returns : tie.Need-returns
 unfolding columnCheck
 returns c = simp (eq-eqb _ _ (c .before .if1 .taken)) (c .fail .ensures)
 
-fail-requires-2 : tie.Need-fail-requires-2
-fail-requires-2 c κs = search needs
-
 returns-2 : tie.Need-returns-2
 unfolding columnCheck
 returns-2 c = simp (ne-eqb _ _ (c .before .before .if1 .left), eq-eqb _ _ (c .before .if2 .taken)) (c .fail2 .ensures)
-
-mul-before : tie.Need-mul-before
-mul-before c = search needs
-
-previous-requires : tie.Need-previous-requires
-previous-requires c κs = search needs
-
-add-before : tie.Need-add-before
-add-before c = search needs
-
-mul-before-2 : tie.Need-mul-before-2
-mul-before-2 c = search needs
-
-shared-slice-read-before : tie.Need-shared-slice-read-before
-shared-slice-read-before c = search needs
-
-is-within-requires : tie.Need-is-within-requires
-is-within-requires c κs = search needs
-
-fail-requires-3 : tie.Need-fail-requires-3
-fail-requires-3 c κs = search needs
 
 returns-3 : tie.Need-returns-3
 returns-3 c =
@@ -88,22 +43,22 @@ pub column-spec : {M : Type 1} → statement M
 column-spec =
     tie.close
     (tie.spec
-    add-line
-    cast-line
-    mul-v
-    add-v
-    mul-v-2
-    shared-slice-read-v
-    fail-requires
+    (λ c. search needs)
+    (λ c. search needs)
+    (λ c. search needs)
+    (λ c. search needs)
+    (λ c. search needs)
+    (λ c. search needs)
+    (λ c κs. search needs)
     returns
-    fail-requires-2
+    (λ c κs. search needs)
     returns-2
-    mul-before
-    previous-requires
-    add-before
-    mul-before-2
-    shared-slice-read-before
-    is-within-requires
-    fail-requires-3
+    (λ c. search needs)
+    (λ c κs. search needs)
+    (λ c. search needs)
+    (λ c. search needs)
+    (λ c. search needs)
+    (λ c κs. search needs)
+    (λ c κs. search needs)
     returns-3
     returns-4)

@@ -18,23 +18,8 @@ loop-holds : tie.Need-loop-holds Inv-loop μ-loop
 unfolding columnsCheck
 loop-holds c = (refl, search needs)
 
-column-requires : tie.Need-column-requires Inv-loop μ-loop
-column-requires c κs = search needs
-
-enum-told : tie.Need-enum-told Inv-loop μ-loop
-enum-told c = search needs
-
-enum-told-2 : tie.Need-enum-told-2 Inv-loop μ-loop
-enum-told-2 c = search needs
-
 returns : tie.Need-returns Inv-loop μ-loop
 returns c = first-stop _ _ _ _ _ (c .before .before .before .loop-test .taken) (c .before .before .column .ensures) (c .enum-told2 .given .1) ∙ c .before .before .before .before .loop .inv .0
-
-add-j : tie.Need-add-j Inv-loop μ-loop
-add-j c = search needs
-
-loop-less : tie.Need-loop-less Inv-loop μ-loop
-loop-less c = search needs
 
 loop-again : tie.Need-loop-again Inv-loop μ-loop
 loop-again c = (first-go _ _ _ _ (c .before .before .before .loop-test .taken) (c .before .before .column .ensures) (c .enum-told .given .1) ∙ c .before .before .before .before .loop .inv .0, search needs)
@@ -49,11 +34,11 @@ columns-spec =
     Inv-loop
     μ-loop
     loop-holds
-    column-requires
-    enum-told
-    enum-told-2
+    (λ c κs. search needs)
+    (λ c. search needs)
+    (λ c. search needs)
     returns
-    add-j
-    loop-less
+    (λ c. search needs)
+    (λ c. search needs)
     loop-again
     returns-2)

@@ -4,9 +4,6 @@ use borrow.Author.Needs.{needs}
 use Rattle.table_checks.proofs.checks.frame_releases.Statement.{statement}
 use Rattle.table_checks.proofs.checks.frame_releases.Tie as tie
 
-div-result : tie.Need-div-result
-div-result c = search needs
-
 returns : tie.Need-returns
 returns c = simp (eq-eqb _ _ (c .if1 .taken))
 
@@ -14,4 +11,4 @@ returns-2 : tie.Need-returns-2
 returns-2 c = simp (ne-eqb _ _ (c .if1 .left))
 
 pub frame-releases-spec : {M : Type 1} → statement M
-frame-releases-spec = tie.close (tie.spec div-result returns returns-2)
+frame-releases-spec = tie.close (tie.spec (λ c. search needs) returns returns-2)

@@ -5,26 +5,8 @@ use Rattle.table_checks.proofs.ChecksLaws.{group-long, group-many, grou
 use Rattle.table_checks.proofs.checks.group.Statement.{statement}
 use Rattle.table_checks.proofs.checks.group.Tie as tie
 
-bounded-hyperperiod-requires : tie.Need-bounded-hyperperiod-requires
-bounded-hyperperiod-requires c κs = search needs
-
-cast-fail : tie.Need-cast-fail
-cast-fail c = search needs
-
-fail-requires : tie.Need-fail-requires
-fail-requires c κs = search needs
-
 returns : tie.Need-returns
 returns c = c .fail .ensures ∙ group-long _ _ _ (c .before .before .bounded-hyperperiod .ensures) (c .before .if1 .taken)
-
-group-releases-requires : tie.Need-group-releases-requires
-group-releases-requires c κs = search needs
-
-cast-fail-2 : tie.Need-cast-fail-2
-cast-fail-2 c = search needs
-
-fail-requires-2 : tie.Need-fail-requires-2
-fail-requires-2 c κs = search needs
 
 returns-2 : tie.Need-returns-2
 returns-2 c =
@@ -40,12 +22,12 @@ pub group-spec : {M : Type 1} → statement M
 group-spec =
     tie.close
     (tie.spec
-    bounded-hyperperiod-requires
-    cast-fail
-    fail-requires
+    (λ c κs. search needs)
+    (λ c. search needs)
+    (λ c κs. search needs)
     returns
-    group-releases-requires
-    cast-fail-2
-    fail-requires-2
+    (λ c κs. search needs)
+    (λ c. search needs)
+    (λ c κs. search needs)
     returns-2
     returns-3)

@@ -18,33 +18,6 @@ abbrev μ-loop : tie.MeasureT-loop
 loop-holds : tie.Need-loop-holds Inv-loop μ-loop
 loop-holds c = (releases-none _ _ _, search needs)
 
-sub-i : tie.Need-sub-i Inv-loop μ-loop
-sub-i c = search needs
-
-mul-frame-releases : tie.Need-mul-frame-releases Inv-loop μ-loop
-mul-frame-releases c = search needs
-
-add-frame-releases : tie.Need-add-frame-releases Inv-loop μ-loop
-add-frame-releases c = search needs
-
-mul-frame-releases-2 : tie.Need-mul-frame-releases-2 Inv-loop μ-loop
-mul-frame-releases-2 c = search needs
-
-shared-slice-read-frame-releases : tie.Need-shared-slice-read-frame-releases Inv-loop μ-loop
-shared-slice-read-frame-releases c = search needs
-
-mul-frame-releases-3 : tie.Need-mul-frame-releases-3 Inv-loop μ-loop
-mul-frame-releases-3 c = search needs
-
-add-frame-releases-2 : tie.Need-add-frame-releases-2 Inv-loop μ-loop
-add-frame-releases-2 c = search needs
-
-mul-frame-releases-4 : tie.Need-mul-frame-releases-4 Inv-loop μ-loop
-mul-frame-releases-4 c = search needs
-
-shared-slice-read-frame-releases-2 : tie.Need-shared-slice-read-frame-releases-2 Inv-loop μ-loop
-shared-slice-read-frame-releases-2 c = search needs
-
 frame-releases-requires : tie.Need-frame-releases-requires Inv-loop μ-loop
 unfolding Periods
 frame-releases-requires c κs =
@@ -56,9 +29,6 @@ add-sum c =
     let at-loop = c .before .before .before .before in
     let m = releases-more _ _ _ (at-loop .loop .inv .0) (c .before .before .before .loop-test .taken) (c .frame-releases .ensures) in
     omega (arith, m .1, at-loop .before .before .pre .1, at-loop .loop .inv .1)
-
-loop-less : tie.Need-loop-less Inv-loop μ-loop
-loop-less c = search needs
 
 loop-again : tie.Need-loop-again Inv-loop μ-loop
 loop-again c =
@@ -76,17 +46,17 @@ group-releases-spec =
     Inv-loop
     μ-loop
     loop-holds
-    sub-i
-    mul-frame-releases
-    add-frame-releases
-    mul-frame-releases-2
-    shared-slice-read-frame-releases
-    mul-frame-releases-3
-    add-frame-releases-2
-    mul-frame-releases-4
-    shared-slice-read-frame-releases-2
+    (λ c. search needs)
+    (λ c. search needs)
+    (λ c. search needs)
+    (λ c. search needs)
+    (λ c. search needs)
+    (λ c. search needs)
+    (λ c. search needs)
+    (λ c. search needs)
+    (λ c. search needs)
     frame-releases-requires
     add-sum
-    loop-less
+    (λ c. search needs)
     loop-again
     returns)

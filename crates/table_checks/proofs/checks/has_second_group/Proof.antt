@@ -19,17 +19,8 @@ loop-holds : tie.Need-loop-holds Inv-loop μ-loop
 unfolding hasSecondGroup
 loop-holds c = (rw sub-zero, search needs)
 
-is-other-group-requires : tie.Need-is-other-group-requires Inv-loop μ-loop
-is-other-group-requires c κs = search needs
-
 returns : tie.Need-returns Inv-loop μ-loop
 returns c = exists-stop _ _ _ _ (c .before .before .loop-test .taken) (c .before .is-other-group .ensures) (c .if1 .taken) ∙ c .before .before .before .loop .inv .0
-
-add-earlier : tie.Need-add-earlier Inv-loop μ-loop
-add-earlier c = search needs
-
-loop-less : tie.Need-loop-less Inv-loop μ-loop
-loop-less c = search needs
 
 loop-again : tie.Need-loop-again Inv-loop μ-loop
 loop-again c = (exists-go _ _ _ _ (c .before .before .loop-test .taken) (c .before .is-other-group .ensures) (c .if1 .left) ∙ c .before .before .before .loop .inv .0, search needs)
@@ -44,9 +35,9 @@ has-second-group-spec =
     Inv-loop
     μ-loop
     loop-holds
-    is-other-group-requires
+    (λ c κs. search needs)
     returns
-    add-earlier
-    loop-less
+    (λ c. search needs)
+    (λ c. search needs)
     loop-again
     returns-2)

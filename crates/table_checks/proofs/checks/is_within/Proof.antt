@@ -10,29 +10,11 @@ use Rattle.table_checks.specs.Columns.{limits, columns}
 use Rattle.table_checks.proofs.checks.is_within.Statement.{statement}
 use Rattle.table_checks.proofs.checks.is_within.Tie as tie
 
-is-between-requires : tie.Need-is-between-requires
-is-between-requires c κs = search needs
-
-is-between-requires-2 : tie.Need-is-between-requires-2
-is-between-requires-2 c κs = search needs
-
-is-identifier-requires : tie.Need-is-identifier-requires
-is-identifier-requires c κs = search needs
-
-is-between-requires-3 : tie.Need-is-between-requires-3
-is-between-requires-3 c κs = search needs
-
-is-between-requires-4 : tie.Need-is-between-requires-4
-is-between-requires-4 c κs = search needs
-
 returns : tie.Need-returns
 returns c = rw (c .before .match .keys1) (c .is-between .ensures)
 
 returns-2 : tie.Need-returns-2
 returns-2 c = rw (c .before .match .keys2) (c .is-between2 .ensures)
-
-returns-3 : tie.Need-returns-3
-returns-3 c = search needs
 
 returns-4 : tie.Need-returns-4
 returns-4 c = rw (c .before .match .keys4) (c .is-identifier .ensures)
@@ -59,14 +41,14 @@ pub is-within-spec : {M : Type 1} → statement M
 is-within-spec =
     tie.close
     (tie.spec
-    is-between-requires
-    is-between-requires-2
-    is-identifier-requires
-    is-between-requires-3
-    is-between-requires-4
+    (λ c κs. search needs)
+    (λ c κs. search needs)
+    (λ c κs. search needs)
+    (λ c κs. search needs)
+    (λ c κs. search needs)
     returns
     returns-2
-    returns-3
+    (λ c. search needs)
     returns-4
     returns-5
     returns-6

@@ -5,48 +5,15 @@ use Rattle.table_checks.specs.Checks.{lineCheck}
 use Rattle.table_checks.proofs.checks.line.Statement.{statement}
 use Rattle.table_checks.proofs.checks.line.Tie as tie
 
-columns-requires : tie.Need-columns-requires
-columns-requires c κs = search needs
-
-enum-told : tie.Need-enum-told
-enum-told c = search needs
-
-enum-told-2 : tie.Need-enum-told-2
-enum-told-2 c = search needs
-
 returns : tie.Need-returns
 unfolding lineCheck
 returns c = rw (← c .before .before .columns .ensures, c .enum-told2 .given .1)
-
-stands-earlier-requires : tie.Need-stands-earlier-requires
-stands-earlier-requires c κs = search needs
-
-add-fail : tie.Need-add-fail
-add-fail c = search needs
-
-cast-fail : tie.Need-cast-fail
-cast-fail c = search needs
-
-fail-requires : tie.Need-fail-requires
-fail-requires c κs = search needs
 
 returns-2 : tie.Need-returns-2
 unfolding lineCheck
 returns-2 c =
     let e = c .before .before .before in
     simp (sym (e .before .before .columns .ensures) ∙ e .enum-told .given .1, sym (c .before .before .stands-earlier .ensures) ∙ c .before .if1 .taken) (c .fail .ensures)
-
-has-second-group-requires : tie.Need-has-second-group-requires
-has-second-group-requires c κs = search needs
-
-add-fail-2 : tie.Need-add-fail-2
-add-fail-2 c = search needs
-
-cast-fail-2 : tie.Need-cast-fail-2
-cast-fail-2 c = search needs
-
-fail-requires-2 : tie.Need-fail-requires-2
-fail-requires-2 c κs = search needs
 
 returns-3 : tie.Need-returns-3
 unfolding lineCheck
@@ -74,18 +41,18 @@ pub line-spec : {M : Type 1} → statement M
 line-spec =
     tie.close
     (tie.spec
-    columns-requires
-    enum-told
-    enum-told-2
+    (λ c κs. search needs)
+    (λ c. search needs)
+    (λ c. search needs)
     returns
-    stands-earlier-requires
-    add-fail
-    cast-fail
-    fail-requires
+    (λ c κs. search needs)
+    (λ c. search needs)
+    (λ c. search needs)
+    (λ c κs. search needs)
     returns-2
-    has-second-group-requires
-    add-fail-2
-    cast-fail-2
-    fail-requires-2
+    (λ c κs. search needs)
+    (λ c. search needs)
+    (λ c. search needs)
+    (λ c κs. search needs)
     returns-3
     returns-4)

@@ -20,23 +20,8 @@ loop-holds : tie.Need-loop-holds Inv-loop μ-loop
 unfolding linesCheck
 loop-holds c = (rw sub-zero, search needs)
 
-line-requires : tie.Need-line-requires Inv-loop μ-loop
-line-requires c κs = search needs
-
-enum-told : tie.Need-enum-told Inv-loop μ-loop
-enum-told c = search needs
-
-enum-told-2 : tie.Need-enum-told-2 Inv-loop μ-loop
-enum-told-2 c = search needs
-
 returns : tie.Need-returns Inv-loop μ-loop
 returns c = first-stop _ _ _ _ _ (c .before .before .before .loop-test .taken) (c .before .before .line .ensures) (c .enum-told2 .given .1) ∙ c .before .before .before .before .loop .inv .0
-
-add-i : tie.Need-add-i Inv-loop μ-loop
-add-i c = search needs
-
-loop-less : tie.Need-loop-less Inv-loop μ-loop
-loop-less c = search needs
 
 loop-again : tie.Need-loop-again Inv-loop μ-loop
 loop-again c = (first-go _ _ _ _ (c .before .before .before .loop-test .taken) (c .before .before .line .ensures) (c .enum-told .given .1) ∙ c .before .before .before .before .loop .inv .0, search needs)
@@ -51,11 +36,11 @@ lines-spec =
     Inv-loop
     μ-loop
     loop-holds
-    line-requires
-    enum-told
-    enum-told-2
+    (λ c κs. search needs)
+    (λ c. search needs)
+    (λ c. search needs)
     returns
-    add-i
-    loop-less
+    (λ c. search needs)
+    (λ c. search needs)
     loop-again
     returns-2)

@@ -5,22 +5,13 @@ use Rattle.table_checks.specs.Checks.{rowsSizeCheck}
 use Rattle.table_checks.proofs.checks.rows_size.Statement.{statement}
 use Rattle.table_checks.proofs.checks.rows_size.Tie as tie
 
-fail-requires : tie.Need-fail-requires
-fail-requires c κs = search needs
-
 returns : tie.Need-returns
 unfolding rowsSizeCheck
 returns c = simp (eq-eqb _ _ (c .before .if1 .taken)) (c .fail .ensures)
 
-fail-requires-2 : tie.Need-fail-requires-2
-fail-requires-2 c κs = search needs
-
 returns-2 : tie.Need-returns-2
 unfolding rowsSizeCheck
 returns-2 c = simp (ne-eqb _ _ (c .before .before .if1 .left), ne-eqb _ _ (c .before .if2 .taken)) (c .fail2 .ensures)
-
-fail-requires-3 : tie.Need-fail-requires-3
-fail-requires-3 c κs = search needs
 
 returns-3 : tie.Need-returns-3
 unfolding rowsSizeCheck
@@ -33,4 +24,4 @@ returns-4 c = simp (ne-eqb _ _ (c .before .before .if1 .left), eq-eqb _ _ (c .be
 pub rows-size-spec : {M : Type 1} → statement M
 rows-size-spec =
     tie.close
-    (tie.spec fail-requires returns fail-requires-2 returns-2 fail-requires-3 returns-3 returns-4)
+    (tie.spec (λ c κs. search needs) returns (λ c κs. search needs) returns-2 (λ c κs. search needs) returns-3 returns-4)

@@ -19,17 +19,8 @@ loop-holds : tie.Need-loop-holds Inv-loop μ-loop
 unfolding standsEarlier
 loop-holds c = (rw sub-zero, search needs)
 
-is-same-frame-requires : tie.Need-is-same-frame-requires Inv-loop μ-loop
-is-same-frame-requires c κs = search needs
-
 returns : tie.Need-returns Inv-loop μ-loop
 returns c = exists-stop _ _ _ _ (c .before .before .loop-test .taken) (c .before .is-same-frame .ensures) (c .if1 .taken) ∙ c .before .before .before .loop .inv .0
-
-add-m : tie.Need-add-m Inv-loop μ-loop
-add-m c = search needs
-
-loop-less : tie.Need-loop-less Inv-loop μ-loop
-loop-less c = search needs
 
 loop-again : tie.Need-loop-again Inv-loop μ-loop
 loop-again c = (exists-go _ _ _ _ (c .before .before .loop-test .taken) (c .before .is-same-frame .ensures) (c .if1 .left) ∙ c .before .before .before .loop .inv .0, search needs)
@@ -44,9 +35,9 @@ stands-earlier-spec =
     Inv-loop
     μ-loop
     loop-holds
-    is-same-frame-requires
+    (λ c κs. search needs)
     returns
-    add-m
-    loop-less
+    (λ c. search needs)
+    (λ c. search needs)
     loop-again
     returns-2)

@@ -6,15 +6,6 @@ use Rattle.table_checks.specs.laws.Limits.{lines-periods}
 use Rattle.table_checks.proofs.checks.table.Statement.{statement}
 use Rattle.table_checks.proofs.checks.table.Tie as tie
 
-lines-requires : tie.Need-lines-requires
-lines-requires c κs = search needs
-
-enum-told : tie.Need-enum-told
-enum-told c = search needs
-
-enum-told-2 : tie.Need-enum-told-2
-enum-told-2 c = search needs
-
 returns : tie.Need-returns
 unfolding tableCheck
 returns c = rw (← c .before .before .lines .ensures, c .enum-told2 .given .1)
@@ -28,4 +19,4 @@ returns-2 c = simp (sym (c .before .before .before .lines .ensures) ∙ c .befor
 
 pub table-spec : {M : Type 1} → statement M
 table-spec =
-    tie.close (tie.spec lines-requires enum-told enum-told-2 returns groups-requires returns-2)
+    tie.close (tie.spec (λ c κs. search needs) (λ c. search needs) (λ c. search needs) returns groups-requires returns-2)

@@ -10,24 +10,6 @@ use Rattle.table_checks.proofs.frames.largest_length.Tie as tie
 returns : tie.Need-returns
 returns c = sym (too-long _ (c .before .args .kind) _ (c .if1 .taken))
 
-mul-result : tie.Need-mul-result
-mul-result c = search needs
-
-index-1-result : tie.Need-index-1-result
-index-1-result c = search needs
-
-index-2-result : tie.Need-index-2-result
-index-2-result c = search needs
-
-mul-result-2 : tie.Need-mul-result-2
-mul-result-2 c = search needs
-
-index-1-result-2 : tie.Need-index-1-result-2
-index-1-result-2 c = search needs
-
-index-2-result-2 : tie.Need-index-2-result-2
-index-2-result-2 c = search needs
-
 returns-2 : tie.Need-returns-2
 unfolding largestLength
 returns-2 c = rw (le-ltb _ _ (c .before .before .if1 .left), eq-eqb _ _ (c .before .if2 .taken))
@@ -41,11 +23,11 @@ largest-length-spec =
     tie.close
     (tie.spec
     returns
-    mul-result
-    index-1-result
-    index-2-result
-    mul-result-2
-    index-1-result-2
-    index-2-result-2
+    (λ c. search needs)
+    (λ c. search needs)
+    (λ c. search needs)
+    (λ c. search needs)
+    (λ c. search needs)
+    (λ c. search needs)
     returns-2
     returns-3)

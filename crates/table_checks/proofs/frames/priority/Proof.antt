@@ -5,15 +5,6 @@ use borrow.Author.Needs.{needs}
 use Rattle.table_checks.proofs.frames.priority.Statement.{statement}
 use Rattle.table_checks.proofs.frames.priority.Tie as tie
 
-mul-result : tie.Need-mul-result
-mul-result c = search needs
-
-add-result : tie.Need-add-result
-add-result c = search needs
-
-mul-result-2 : tie.Need-mul-result-2
-mul-result-2 c = search needs
-
 returns : tie.Need-returns
 unfolding priorityOf
 returns c = rw (eq-eqb _ _ (c .if1 .taken))
@@ -23,4 +14,4 @@ unfolding priorityOf
 returns-2 c = rw (ne-eqb _ _ (c .if1 .left))
 
 pub priority-spec : {M : Type 1} → statement M
-priority-spec = tie.close (tie.spec mul-result mul-result-2 add-result returns returns-2)
+priority-spec = tie.close (tie.spec (λ c. search needs) (λ c. search needs) (λ c. search needs) returns returns-2)

@@ -6,23 +6,11 @@ use Rattle.table_checks.specs.laws.Returns.{lengths-told}
 use Rattle.table_checks.proofs.lengths.check_lengths.Statement.{statement}
 use Rattle.table_checks.proofs.lengths.check_lengths.Tie as tie
 
-breaks-limits-requires : tie.Need-breaks-limits-requires
-breaks-limits-requires c κs = search needs
-
-fail-requires : tie.Need-fail-requires
-fail-requires c κs = search needs
-
 returns : tie.Need-returns
 unfolding lengthsCheck
 returns c =
     let at-first = c .before .before in
     lengths-told (at-first .before .args .lengths) (rw (sym (at-first .breaks-limits .ensures) ∙ c .before .if1 .taken) (c .fail .ensures))
-
-breaks-limits-requires-2 : tie.Need-breaks-limits-requires-2
-breaks-limits-requires-2 c κs = search needs
-
-fail-requires-2 : tie.Need-fail-requires-2
-fail-requires-2 c κs = search needs
 
 returns-2 : tie.Need-returns-2
 unfolding lengthsCheck
@@ -44,10 +32,10 @@ pub check-lengths-spec : {M : Type 1} → statement M
 check-lengths-spec =
     tie.close
     (tie.spec
-    breaks-limits-requires
-    fail-requires
+    (λ c κs. search needs)
+    (λ c κs. search needs)
     returns
-    breaks-limits-requires-2
-    fail-requires-2
+    (λ c κs. search needs)
+    (λ c κs. search needs)
     returns-2
     returns-3)

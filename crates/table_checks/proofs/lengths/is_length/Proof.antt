@@ -4,12 +4,6 @@ use Rattle.table_checks.specs.Columns.{isLength}
 use Rattle.table_checks.proofs.lengths.is_length.Statement.{statement}
 use Rattle.table_checks.proofs.lengths.is_length.Tie as tie
 
-wide-requires : tie.Need-wide-requires
-wide-requires c κs = search needs
-
-is-between-requires : tie.Need-is-between-requires
-is-between-requires c κs = search needs
-
 returns : tie.Need-returns
 unfolding isLength
 returns c = rw (← c .before .before .wide .ensures, ← c .before .is-between .ensures, c .if1 .taken)
@@ -19,4 +13,4 @@ unfolding isLength
 returns-2 c = rw (← c .before .before .wide .ensures, ← c .before .is-between .ensures, c .if1 .left)
 
 pub is-length-spec : {M : Type 1} → statement M
-is-length-spec = tie.close (tie.spec wide-requires is-between-requires returns returns-2)
+is-length-spec = tie.close (tie.spec (λ c κs. search needs) (λ c κs. search needs) returns returns-2)

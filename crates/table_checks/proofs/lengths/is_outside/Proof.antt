@@ -8,36 +8,6 @@ use borrow.Author.Needs.{needs}
 use Rattle.table_checks.proofs.lengths.is_outside.Statement.{statement}
 use Rattle.table_checks.proofs.lengths.is_outside.Tie as tie
 
-mul-v : tie.Need-mul-v
-mul-v c = search needs
-
-mul-v-2 : tie.Need-mul-v-2
-mul-v-2 c = search needs
-
-index-1-v : tie.Need-index-1-v
-index-1-v c = search needs
-
-index-2-v : tie.Need-index-2-v
-index-2-v c = search needs
-
-previous-requires : tie.Need-previous-requires
-previous-requires c κs = search needs
-
-mul-before : tie.Need-mul-before
-mul-before c = search needs
-
-mul-before-2 : tie.Need-mul-before-2
-mul-before-2 c = search needs
-
-index-1-before : tie.Need-index-1-before
-index-1-before c = search needs
-
-index-2-before : tie.Need-index-2-before
-index-2-before c = search needs
-
-is-length-requires : tie.Need-is-length-requires
-is-length-requires c κs = search needs
-
 returns : tie.Need-returns
 unfolding isOutside
 returns c =
@@ -48,14 +18,14 @@ pub is-outside-spec : {M : Type 1} → statement M
 is-outside-spec =
     tie.close
     (tie.spec
-    mul-v
-    mul-v-2
-    index-1-v
-    index-2-v
-    previous-requires
-    mul-before
-    mul-before-2
-    index-1-before
-    index-2-before
-    is-length-requires
+    (λ c. search needs)
+    (λ c. search needs)
+    (λ c. search needs)
+    (λ c. search needs)
+    (λ c κs. search needs)
+    (λ c. search needs)
+    (λ c. search needs)
+    (λ c. search needs)
+    (λ c. search needs)
+    (λ c κs. search needs)
     returns)

@@ -8,18 +8,9 @@ use Rattle.workload.specs.Faults.{FineFaults, faultsIn}
 use Rattle.workload.proofs.faults.fault_cost.Statement.{statement}
 use Rattle.workload.proofs.faults.fault_cost.Tie as tie
 
-enum-told : tie.Need-enum-told
-enum-told c = search needs
-
-enum-known-faults : tie.Need-enum-known-faults
-enum-known-faults c = search needs
-
 releases-before-requires : tie.Need-releases-before-requires
 unfolding FineFaults
 releases-before-requires c κs = let s = c .before .before .before in let fine = rw (c .before .faults .given .1) at (s .pre .0 .premise) in (fine .0, fine .1, s .pre .1)
-
-product-requires : tie.Need-product-requires
-product-requires c κs = search needs
 
 returns : tie.Need-returns
 unfolding faultsIn
@@ -37,9 +28,9 @@ pub fault-cost-spec : {M : Type 1} → statement M
 fault-cost-spec =
     tie.close
     (tie.spec
-    enum-told
-    enum-known-faults
+    (λ c. search needs)
+    (λ c. search needs)
     releases-before-requires
-    product-requires
+    (λ c κs. search needs)
     returns
     returns-2)

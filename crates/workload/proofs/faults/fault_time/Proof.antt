@@ -7,18 +7,6 @@ use Rattle.workload.specs.Faults.{costOf}
 use Rattle.workload.proofs.faults.fault_time.Statement.{statement}
 use Rattle.workload.proofs.faults.fault_time.Tie as tie
 
-enum-told : tie.Need-enum-told
-enum-told c = search needs
-
-enum-told-2 : tie.Need-enum-told-2
-enum-told-2 c = search needs
-
-longest-ahead-requires : tie.Need-longest-ahead-requires
-longest-ahead-requires c κs = search needs
-
-add-result : tie.Need-add-result
-add-result c = search needs
-
 returns : tie.Need-returns
 unfolding costOf
 returns c = rw (c .enum-told .given .1)
@@ -31,9 +19,9 @@ pub fault-time-spec : {M : Type 1} → statement M
 fault-time-spec =
     tie.close
     (tie.spec
-    enum-told
-    enum-told-2
-    longest-ahead-requires
-    add-result
+    (λ c. search needs)
+    (λ c. search needs)
+    (λ c κs. search needs)
+    (λ c. search needs)
     returns
     returns-2)

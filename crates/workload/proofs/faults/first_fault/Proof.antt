@@ -7,9 +7,6 @@ use Rattle.arith.specs.laws.Releases.{next-after, count-short}
 use Rattle.workload.proofs.faults.first_fault.Statement.{statement}
 use Rattle.workload.proofs.faults.first_fault.Tie as tie
 
-releases-before-requires : tie.Need-releases-before-requires
-releases-before-requires c κs = search needs
-
 -- where it begins, counted from 0
 within : (c : tie.After-releases-before) → (c .before .args .lead ≤ c .releases-before .result * c .before .args .gap) × (c .releases-before .result * c .before .args .gap ≤ c .before .args .lead + c .before .args .gap)
 within c =
@@ -26,4 +23,4 @@ returns : tie.Need-returns
 returns c = ap (λ (n : ℕ). n * c .before .args .gap - c .before .args .lead) (c .releases-before .ensures .0)
 
 pub first-fault-spec : {M : Type 1} → statement M
-first-fault-spec = tie.close (tie.spec releases-before-requires mul-result sub-result returns)
+first-fault-spec = tie.close (tie.spec (λ c κs. search needs) mul-result sub-result returns)

@@ -4,15 +4,6 @@ use Rattle.workload.specs.Faults.{leadOf}
 use Rattle.workload.proofs.faults.lead_of.Statement.{statement}
 use Rattle.workload.proofs.faults.lead_of.Tie as tie
 
-enum-told : tie.Need-enum-told
-enum-told c = search needs
-
-enum-told-2 : tie.Need-enum-told-2
-enum-told-2 c = search needs
-
-sub-result : tie.Need-sub-result
-sub-result c = search needs
-
 returns : tie.Need-returns
 unfolding leadOf
 returns c = rw (c .enum-told .given .1) (search needs)
@@ -22,4 +13,4 @@ unfolding leadOf
 returns-2 c = rw (c .before .enum-told2 .given .1) (search needs)
 
 pub lead-of-spec : {M : Type 1} → statement M
-lead-of-spec = tie.close (tie.spec enum-told enum-told-2 sub-result returns returns-2)
+lead-of-spec = tie.close (tie.spec (λ c. search needs) (λ c. search needs) (λ c. search needs) returns returns-2)

@@ -22,12 +22,6 @@ abbrev μ-loop : tie.MeasureT-loop
 loop-holds : tie.Need-loop-holds Inv-loop μ-loop
 loop-holds c = let s = c .before .before in record { size = s .pre .1; count = sym (before-none (s .pre .0) (s .args .k)); each = λ i l. absurd (omega arith) }
 
-add-group : tie.Need-add-group Inv-loop μ-loop
-add-group c = search needs
-
-cast-group : tie.Need-cast-group Inv-loop μ-loop
-cast-group c = search needs
-
 -- the next group's rows find room
 room : (c : tie.In-loop Inv-loop μ-loop) → c .before .loop .listed + length (ofGroup (ahead (framesOf (c .before .before .before .before .args .lengths) (c .before .before .before .before .args .rows .now)) (c .before .before .before .before .args .k)) (c .before .loop .j + 1)) ≤ 64
 room c = listed-room (c .before .before .before .before .pre .0) _ (c .before .loop .inv)
@@ -73,29 +67,14 @@ add-to c = omega (arith, room (c .before .before .before .before), c .before .be
 mul-part-hyperperiod : tie.Need-mul-part-hyperperiod Inv-loop μ-loop
 mul-part-hyperperiod c = omega (arith, room (c .before .before .before .before), c .before .before .gather .ensures .1)
 
-sub-part-hyperperiod : tie.Need-sub-part-hyperperiod Inv-loop μ-loop
-sub-part-hyperperiod c = search needs
-
-part-part-hyperperiod-start : tie.Need-part-part-hyperperiod-start Inv-loop μ-loop
-part-part-hyperperiod-start c = search needs
-
 part-part-hyperperiod-end : tie.Need-part-part-hyperperiod-end Inv-loop μ-loop
 part-part-hyperperiod-end c = omega (arith, room (c .before .before .before .before .before), c .before .before .before .gather .ensures .1, size (c .before .before .before))
 
 part-hyperperiod-requires : tie.Need-part-hyperperiod-requires Inv-loop μ-loop
 part-hyperperiod-requires c κs = part-within _ (c .before .before .before .before .before .before .before .before .before .before .args .k) _ (read (c .before .before .before .before)) (c .before .before .before .before .before .before .before .before .before .before .pre .0) (omega arith) (omega (arith, c .before .before .before .before .before .before .loop-test .taken))
 
-group-hyperperiod-requires : tie.Need-group-hyperperiod-requires Inv-loop μ-loop
-group-hyperperiod-requires c κs = search needs
-
-mul-at : tie.Need-mul-at Inv-loop μ-loop
-mul-at c = search needs
-
 cast-lists : tie.Need-cast-lists Inv-loop μ-loop
 cast-lists c = omega (arith, room (c .before .before .before .before .before .before .before .before))
-
-mul-lists : tie.Need-mul-lists Inv-loop μ-loop
-mul-lists c = search needs
 
 slice-write-lists : tie.Need-slice-write-lists Inv-loop μ-loop
 slice-write-lists c = omega (arith, size (c .before .before .before .before .before .before), c .before .before .before .before .before .before .before .before .loop-test .taken)
@@ -103,29 +82,11 @@ slice-write-lists c = omega (arith, size (c .before .before .before .before .bef
 cast-lists-2 : tie.Need-cast-lists-2 Inv-loop μ-loop
 cast-lists-2 c = omega (arith, room (c .before .before .before .before .before .before .before .before), c .before .before .before .before .before .before .gather .ensures .1)
 
-add-lists : tie.Need-add-lists Inv-loop μ-loop
-add-lists c = search needs
-
-mul-lists-2 : tie.Need-mul-lists-2 Inv-loop μ-loop
-mul-lists-2 c = search needs
-
 slice-write-lists-2 : tie.Need-slice-write-lists-2 Inv-loop μ-loop
 slice-write-lists-2 c = simp length-set (omega (arith, size (c .before .before .before .before .before .before), c .before .before .before .before .before .before .before .before .loop-test .taken))
 
-add-lists-2 : tie.Need-add-lists-2 Inv-loop μ-loop
-add-lists-2 c = search needs
-
-mul-lists-3 : tie.Need-mul-lists-3 Inv-loop μ-loop
-mul-lists-3 c = search needs
-
 slice-write-lists-3 : tie.Need-slice-write-lists-3 Inv-loop μ-loop
 slice-write-lists-3 c = simp length-set (omega (arith, size (c .before .before .before .before .before .before), c .before .before .before .before .before .before .before .before .loop-test .taken))
-
-add-lists-3 : tie.Need-add-lists-3 Inv-loop μ-loop
-add-lists-3 c = search needs
-
-mul-lists-4 : tie.Need-mul-lists-4 Inv-loop μ-loop
-mul-lists-4 c = search needs
 
 slice-write-lists-4 : tie.Need-slice-write-lists-4 Inv-loop μ-loop
 slice-write-lists-4 c = simp length-set (omega (arith, size (c .before .before .before .before .before .before), c .before .before .before .before .before .before .before .before .loop-test .taken))
@@ -133,21 +94,12 @@ slice-write-lists-4 c = simp length-set (omega (arith, size (c .before .before .
 add-listed : tie.Need-add-listed Inv-loop μ-loop
 add-listed c = omega (arith, room (c .before .before .before .before .before .before .before .before), c .before .before .before .before .before .before .gather .ensures .1)
 
-add-j : tie.Need-add-j Inv-loop μ-loop
-add-j c = search needs
-
-loop-less : tie.Need-loop-less Inv-loop μ-loop
-loop-less c = search needs
-
 loop-again : tie.Need-loop-again Inv-loop μ-loop
 loop-again c =
     let s = c .before .before .before .before .before .before .before .before .before .before .before .before in
     let g = c .before .before .before .before .before .before .gather in
     listed-more (s .pre .0) _ (g .result) (c .before .part-hyperperiod .result) (c .group-hyperperiod .result) _ (g .last .1 .1 .1 .1 .0) (c .before .before .before .before .before .before .before .before .before .loop .inv) (c .before .before .before .before .before .before .before .before .loop-test .taken) refl
     (g .kept .1 .1 .1 .1 .0) (g .ensures .0) (g .ensures .1) (c .before .part-hyperperiod .ensures ∙ part-turn _ (s .args .k) _ (read (c .before .before .before .before .before .before))) (c .group-hyperperiod .ensures)
-
-same-length : tie.Need-same-length Inv-loop μ-loop
-same-length c = search needs
 
 returns : tie.Need-returns Inv-loop μ-loop
 returns c = listed-all (c .before .before .before .before .pre .0) _ (c .before .loop .inv) (c .loop-test .left)
@@ -159,8 +111,8 @@ by-group-spec =
     Inv-loop
     μ-loop
     loop-holds
-    add-group
-    cast-group
+    (λ c. search needs)
+    (λ c. search needs)
     add-from
     mul-gather
     sub-gather
@@ -169,28 +121,28 @@ by-group-spec =
     gather-requires
     add-to
     mul-part-hyperperiod
-    sub-part-hyperperiod
-    part-part-hyperperiod-start
+    (λ c. search needs)
+    (λ c. search needs)
     part-part-hyperperiod-end
     part-hyperperiod-requires
-    group-hyperperiod-requires
-    mul-at
+    (λ c κs. search needs)
+    (λ c. search needs)
     cast-lists
-    mul-lists
+    (λ c. search needs)
     slice-write-lists
     cast-lists-2
-    add-lists
-    mul-lists-2
+    (λ c. search needs)
+    (λ c. search needs)
     slice-write-lists-2
-    add-lists-2
-    mul-lists-3
+    (λ c. search needs)
+    (λ c. search needs)
     slice-write-lists-3
-    add-lists-3
-    mul-lists-4
+    (λ c. search needs)
+    (λ c. search needs)
     slice-write-lists-4
     add-listed
-    add-j
-    loop-less
+    (λ c. search needs)
+    (λ c. search needs)
     loop-again
-    same-length
+    (λ c. search needs)
     returns)

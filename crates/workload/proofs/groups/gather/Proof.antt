@@ -21,19 +21,10 @@ abbrev μ-loop : tie.MeasureT-loop
 loop-holds : tie.Need-loop-holds Inv-loop μ-loop
 loop-holds c = let s = c .before .before in (gathered-none refl (omega arith) (rows-few _ _ _ _ (s .pre .1)), sym (length-frames _ _))
 
-frame-requires : tie.Need-frame-requires Inv-loop μ-loop
-frame-requires c κs = search needs
-
-belongs-requires : tie.Need-belongs-requires Inv-loop μ-loop
-belongs-requires c κs = search needs
-
 cast-area : tie.Need-cast-area Inv-loop μ-loop
 cast-area c =
     let (g, all) = c .before .before .before .before .loop .inv in
     omega (arith, all, c .before .before .before .loop-test .taken, c .before .before .before .before .before .before .before .pre .0)
-
-mul-area : tie.Need-mul-area Inv-loop μ-loop
-mul-area c = search needs
 
 slice-write-area : tie.Need-slice-write-area Inv-loop μ-loop
 slice-write-area c =
@@ -47,12 +38,6 @@ add-found c =
     let a = c .before .before .before .before .before .before .before .args in
     omega (arith, g .early, all, c .before .before .before .loop-test .taken, c .before .before .before .before .before .before .before .pre .0)
 
-add-i : tie.Need-add-i Inv-loop μ-loop
-add-i c = search needs
-
-loop-less : tie.Need-loop-less Inv-loop μ-loop
-loop-less c = search needs
-
 loop-again : tie.Need-loop-again Inv-loop μ-loop
 loop-again c =
     let (g, all) = c .before .before .before .before .loop .inv in
@@ -65,9 +50,6 @@ loop-again c =
       all,
     )
 
-same-length : tie.Need-same-length Inv-loop μ-loop
-same-length c = search needs
-
 returns : tie.Need-returns Inv-loop μ-loop
 returns c = let (g, all) = c .before .loop .inv in rows-gathered _ _ _ g (omega (arith, all, c .loop-test .left))
 
@@ -78,14 +60,14 @@ gather-spec =
     Inv-loop
     μ-loop
     loop-holds
-    frame-requires
-    belongs-requires
+    (λ c κs. search needs)
+    (λ c κs. search needs)
     cast-area
-    mul-area
+    (λ c. search needs)
     slice-write-area
     add-found
-    add-i
-    loop-less
+    (λ c. search needs)
+    (λ c. search needs)
     loop-again
-    same-length
+    (λ c. search needs)
     returns)

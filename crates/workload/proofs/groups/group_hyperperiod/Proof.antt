@@ -27,12 +27,6 @@ loop-holds : tie.Need-loop-holds Inv-loop μ-loop
 unfolding ofGroup
 loop-holds c = (subst (Down (hyperOf _) _ 1) (length-frames _ _) (common-none _ (λ (g : Frame). eqb (g .group) (c .before .args .group))), search needs)
 
-sub-i : tie.Need-sub-i Inv-loop μ-loop
-sub-i c = search needs
-
-frame-requires : tie.Need-frame-requires Inv-loop μ-loop
-frame-requires c κs = search needs
-
 periods : {fs : List Frame} → FineTable fs → (i : ℕ) → i < length fs → 1 ≤ row fs i .period
 periods table i l = table .fine i l .period-low
 
@@ -44,9 +38,6 @@ joined-requires c κs =
     let inside : l .i - 1 < length (framesOf (s .args .lengths) (s .args .rows .now)) = omega (arith, l .inv .0 .inside, c .before .before .loop-test .taken) in
     let m = hyper-more _ (s .args .group) (periods table) (l .inv .0) (c .before .before .loop-test .taken) (c .before .frame .ensures) refl in
     (l .inv .1, rw (c .before .frame .ensures) (table .fine (l .i - 1) inside .period-high), omega (arith, hyper-le _ (s .args .group) (periods table) _ _ (m .0), table .hyper (s .args .group) (within .0) (within .1)))
-
-loop-less : tie.Need-loop-less Inv-loop μ-loop
-loop-less c = search needs
 
 loop-again : tie.Need-loop-again Inv-loop μ-loop
 loop-again c =
@@ -65,9 +56,9 @@ group-hyperperiod-spec =
     Inv-loop
     μ-loop
     loop-holds
-    sub-i
-    frame-requires
+    (λ c. search needs)
+    (λ c κs. search needs)
     joined-requires
-    loop-less
+    (λ c. search needs)
     loop-again
     returns)

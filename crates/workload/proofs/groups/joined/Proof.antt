@@ -4,12 +4,6 @@ use borrow.Author.Needs.{needs}
 use Rattle.workload.proofs.groups.joined.Statement.{statement}
 use Rattle.workload.proofs.groups.joined.Tie as tie
 
-cast-lcm : tie.Need-cast-lcm
-cast-lcm c = search needs
-
-lcm-requires : tie.Need-lcm-requires
-lcm-requires c κs = search needs
-
 cast-result : tie.Need-cast-result
 cast-result c = omega (arith, c .lcm .ensures, rw (c .before .before .if1 .taken) at (c .before .before .before .pre .2))
 
@@ -23,8 +17,8 @@ pub joined-spec : {M : Type 1} → statement M
 joined-spec =
     tie.close
     (tie.spec
-    cast-lcm
-    lcm-requires
+    (λ c. search needs)
+    (λ c κs. search needs)
     cast-result
     returns
     returns-2)

@@ -23,20 +23,11 @@ abbrev μ-loop : tie.MeasureT-loop
 loop-holds : tie.Need-loop-holds Inv-loop μ-loop
 loop-holds c = (subst (Down hyperperiod _ 1) (length-map (c .before .before .args .part .now) (row (framesOf (c .before .before .args .lengths) (c .before .before .args .rows .now)))) (part-none _), search needs)
 
-sub-i : tie.Need-sub-i Inv-loop μ-loop
-sub-i c = search needs
-
 mul-index : tie.Need-mul-index Inv-loop μ-loop
 mul-index c = omega (arith, c .before .loop .inv .0 .inside, c .loop-test .taken, length-map (c .before .before .before .before .args .part .now) (row (framesOf (c .before .before .before .before .args .lengths) (c .before .before .before .before .args .rows .now))))
 
 shared-slice-read-index : tie.Need-shared-slice-read-index Inv-loop μ-loop
 shared-slice-read-index c = omega (arith, c .before .before .loop .inv .0 .inside, c .before .loop-test .taken, length-map (c .before .before .before .before .before .args .part .now) (row (framesOf (c .before .before .before .before .before .args .lengths) (c .before .before .before .before .before .args .rows .now))))
-
-index-requires : tie.Need-index-requires Inv-loop μ-loop
-index-requires c κs = search needs
-
-frame-requires : tie.Need-frame-requires Inv-loop μ-loop
-frame-requires c κs = search needs
 
 -- the frame is that of the row at its place
 read : (c : tie.After-frame Inv-loop μ-loop) → c .frame .result ≡ row (framesIn (framesOf (c .before .before .before .before .before .before .before .args .lengths) (c .before .before .before .before .before .before .before .args .rows .now)) (c .before .before .before .before .before .before .before .args .part .now)) (c .before .before .before .before .loop .i - 1)
@@ -54,9 +45,6 @@ joined-requires c κs =
     let m = part-more _ fine (l .inv .0) (c .before .before .before .loop-test .taken) (read c) refl in
     (l .inv .1, rw (read c) (fine _ (mem-getD _ (l .i - 1) noFrame (omega (arith, l .inv .0 .inside, c .before .before .before .loop-test .taken))) .period-high), omega (arith, part-le _ fine _ _ (m .0), small))
 
-loop-less : tie.Need-loop-less Inv-loop μ-loop
-loop-less c = search needs
-
 loop-again : tie.Need-loop-again Inv-loop μ-loop
 loop-again c =
     let l = c .before .before .before .before .before .loop in
@@ -73,12 +61,12 @@ part-hyperperiod-spec =
     Inv-loop
     μ-loop
     loop-holds
-    sub-i
+    (λ c. search needs)
     mul-index
     shared-slice-read-index
-    index-requires
-    frame-requires
+    (λ c κs. search needs)
+    (λ c κs. search needs)
     joined-requires
-    loop-less
+    (λ c. search needs)
     loop-again
     returns)

@@ -6,15 +6,6 @@ use Rattle.workload.specs.Placed.{Placed, placedFaults}
 use Rattle.workload.proofs.placed.place.Statement.{statement}
 use Rattle.workload.proofs.placed.place.Tie as tie
 
-place-frames-requires : tie.Need-place-frames-requires
-place-frames-requires c κs = search needs
-
-place-faults-requires : tie.Need-place-faults-requires
-place-faults-requires c κs = search needs
-
-same-length : tie.Need-same-length
-same-length c = search needs
-
 returns : tie.Need-returns
 returns c =
     let s = c .before .before .before .before .before .before .before .before .before .before .before in
@@ -23,4 +14,4 @@ returns c =
     (faults .0 ∙ ap (λ (xs : List Placed). xs ++ placedFaults (s .args .target) (s .args .search)) (frames .0), faults .1)
 
 pub place-spec : {M : Type 1} → statement M
-place-spec = tie.close (tie.spec place-frames-requires place-faults-requires same-length returns)
+place-spec = tie.close (tie.spec (λ c κs. search needs) (λ c κs. search needs) (λ c. search needs) returns)

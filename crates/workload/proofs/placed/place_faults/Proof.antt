@@ -12,18 +12,9 @@ use Rattle.workload.specs.laws.Placed.{placed-more}
 use Rattle.workload.proofs.placed.place_faults.Statement.{statement}
 use Rattle.workload.proofs.placed.place_faults.Tie as tie
 
-enum-known-faults : tie.Need-enum-known-faults
-enum-known-faults c = search needs
-
-enum-told : tie.Need-enum-told
-enum-told c = search needs
-
 returns : tie.Need-returns
 unfolding faultFrames
 returns c = (rw (c .enum-told .given .1) (sym (append-nil _)), omega (arith, c .before .before .before .pre .1 .0))
-
-lead-of-requires : tie.Need-lead-of-requires
-lead-of-requires c κs = search needs
 
 -- the gap is within its limits
 premise : (c : tie.After-known-told) → (1 ≤ c .before .faults .given .0 .0) × (c .before .faults .given .0 .0 ≤ 1000000)
@@ -32,15 +23,6 @@ premise c = rw (c .before .faults .given .1) at (c .before .before .before .befo
 
 first-fault-requires : tie.Need-first-fault-requires
 first-fault-requires c κs = let p = premise (c .before) in (p .0, p .1, c .lead-of .ensures .1)
-
-put-requires : tie.Need-put-requires
-put-requires c κs = search needs
-
-add-result : tie.Need-add-result
-add-result c = search needs
-
-same-length : tie.Need-same-length
-same-length c = search needs
 
 returns-2 : tie.Need-returns-2
 unfolding faultFrames
@@ -58,12 +40,12 @@ pub place-faults-spec : {M : Type 1} → statement M
 place-faults-spec =
     tie.close
     (tie.spec
-    enum-known-faults
-    enum-told
+    (λ c. search needs)
+    (λ c. search needs)
     returns
-    lead-of-requires
+    (λ c κs. search needs)
     first-fault-requires
-    put-requires
-    add-result
-    same-length
+    (λ c κs. search needs)
+    (λ c. search needs)
+    (λ c. search needs)
     returns-2)

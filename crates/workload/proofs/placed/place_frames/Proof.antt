@@ -21,9 +21,6 @@ abbrev μ-loop : tie.MeasureT-loop
 loop-holds : tie.Need-loop-holds Inv-loop μ-loop
 loop-holds c = (place-none (c .before .before .before .pre .1), sym (length-table _ _))
 
-row-at-requires : tie.Need-row-at-requires Inv-loop μ-loop
-row-at-requires c κs = search needs
-
 -- the row is one of the table
 inside : (c : tie.After-row-at Inv-loop μ-loop) → c .before .before .loop .i < length (tableOf (c .before .before .before .before .before .before .args .rows .now) (c .before .before .before .before .before .before .args .prepared .now))
 inside c = omega (arith, c .before .before .loop .inv .1, c .before .loop-test .taken)
@@ -32,21 +29,12 @@ inside c = omega (arith, c .before .before .loop .inv .1, c .before .loop-test .
 fine : (c : tie.After-row-at Inv-loop μ-loop) → Fine (c .row-at .result .frame)
 fine c = rw (c .row-at .ensures) (c .before .before .before .before .before .before .pre .0 .table .fine (c .before .before .loop .i) (inside c))
 
-is-load-requires : tie.Need-is-load-requires Inv-loop μ-loop
-is-load-requires c κs = search needs
-
 -- there is room for its frame
 room : (c : tie.After-row-at Inv-loop μ-loop) → c .before .before .loop .found < 64
 room c = omega (arith, c .before .before .loop .inv .0 .few, inside c, c .before .before .before .before .before .before .pre .0 .table .few)
 
 sub-at : tie.Need-sub-at Inv-loop μ-loop
 sub-at c = omega (arith, fine (c .before .before .before .before) .group-low)
-
-cast-at : tie.Need-cast-at Inv-loop μ-loop
-cast-at c = search needs
-
-mul-choice : tie.Need-mul-choice Inv-loop μ-loop
-mul-choice c = search needs
 
 array-copy-out-choice : tie.Need-array-copy-out-choice Inv-loop μ-loop
 array-copy-out-choice c = omega (arith, fine (c .before .before .before .before) .group-low, fine (c .before .before .before .before) .group-high)
@@ -56,15 +44,6 @@ first-release-requires c κs = fine (c .before .before .before .before .before .
 
 put-requires : tie.Need-put-requires Inv-loop μ-loop
 put-requires c κs = (omega (arith, c .before .before .before .before .before .before .before .before .before .loop .inv .0 .put .size, room (c .before .before .before .before .before .before .before)), omega (arith, c .before .before .before .before .before .before .before .before .before .loop .inv .0 .put .size))
-
-add-found : tie.Need-add-found Inv-loop μ-loop
-add-found c = search needs
-
-add-i : tie.Need-add-i Inv-loop μ-loop
-add-i c = search needs
-
-loop-less : tie.Need-loop-less Inv-loop μ-loop
-loop-less c = search needs
 
 loop-again : tie.Need-loop-again Inv-loop μ-loop
 unfolding placedFrame
@@ -92,17 +71,17 @@ place-frames-spec =
     Inv-loop
     μ-loop
     loop-holds
-    row-at-requires
-    is-load-requires
+    (λ c κs. search needs)
+    (λ c κs. search needs)
     sub-at
-    cast-at
-    mul-choice
+    (λ c. search needs)
+    (λ c. search needs)
     array-copy-out-choice
     first-release-requires
     put-requires
-    add-found
-    add-i
-    loop-less
+    (λ c. search needs)
+    (λ c. search needs)
+    (λ c. search needs)
     loop-again
     same-length
     returns)

@@ -36,35 +36,14 @@ fine c =
 mul-at : tie.Need-mul-at Inv-loop μ-loop
 mul-at c = omega (arith, few c)
 
-mul-demand-from : tie.Need-mul-demand-from Inv-loop μ-loop
-mul-demand-from c = search needs
-
 shared-slice-read-demand-from : tie.Need-shared-slice-read-demand-from Inv-loop μ-loop
 shared-slice-read-demand-from c = omega (arith, c .before .before .loop .inv .2, c .before .loop-test .taken)
-
-add-demand-from : tie.Need-add-demand-from Inv-loop μ-loop
-add-demand-from c = search needs
-
-mul-demand-from-2 : tie.Need-mul-demand-from-2 Inv-loop μ-loop
-mul-demand-from-2 c = search needs
 
 shared-slice-read-demand-from-2 : tie.Need-shared-slice-read-demand-from-2 Inv-loop μ-loop
 shared-slice-read-demand-from-2 c = omega (arith, c .before .before .before .loop .inv .2, c .before .before .loop-test .taken)
 
-add-demand-from-2 : tie.Need-add-demand-from-2 Inv-loop μ-loop
-add-demand-from-2 c = search needs
-
-mul-demand-from-3 : tie.Need-mul-demand-from-3 Inv-loop μ-loop
-mul-demand-from-3 c = search needs
-
 shared-slice-read-demand-from-3 : tie.Need-shared-slice-read-demand-from-3 Inv-loop μ-loop
 shared-slice-read-demand-from-3 c = omega (arith, c .before .before .before .before .loop .inv .2, c .before .before .before .loop-test .taken)
-
-add-demand-from-3 : tie.Need-add-demand-from-3 Inv-loop μ-loop
-add-demand-from-3 c = search needs
-
-mul-demand-from-4 : tie.Need-mul-demand-from-4 Inv-loop μ-loop
-mul-demand-from-4 c = search needs
 
 shared-slice-read-demand-from-4 : tie.Need-shared-slice-read-demand-from-4 Inv-loop μ-loop
 shared-slice-read-demand-from-4 c = omega (arith, c .before .before .before .before .before .loop .inv .2, c .before .before .before .before .loop-test .taken)
@@ -76,12 +55,6 @@ demand-from-requires c κs = let f = fine (c .before .before .before .before) in
 add-sum : tie.Need-add-sum Inv-loop μ-loop
 unfolding placedAt
 add-sum c = omega (arith, fine (c .before .before .before .before .before) .length-high, c .before .before .before .before .before .before .loop .inv .1, few (c .before .before .before .before .before), c .demand-from .ensures .1)
-
-add-i : tie.Need-add-i Inv-loop μ-loop
-add-i c = search needs
-
-loop-less : tie.Need-loop-less Inv-loop μ-loop
-loop-less c = search needs
 
 loop-again : tie.Need-loop-again Inv-loop μ-loop
 unfolding placedWork placedAt
@@ -109,20 +82,20 @@ placed-work-spec =
     μ-loop
     loop-holds
     mul-at
-    mul-demand-from
+    (λ c. search needs)
     shared-slice-read-demand-from
-    add-demand-from
-    mul-demand-from-2
+    (λ c. search needs)
+    (λ c. search needs)
     shared-slice-read-demand-from-2
-    add-demand-from-2
-    mul-demand-from-3
+    (λ c. search needs)
+    (λ c. search needs)
     shared-slice-read-demand-from-3
-    add-demand-from-3
-    mul-demand-from-4
+    (λ c. search needs)
+    (λ c. search needs)
     shared-slice-read-demand-from-4
     demand-from-requires
     add-sum
-    add-i
-    loop-less
+    (λ c. search needs)
+    (λ c. search needs)
     loop-again
     returns)

@@ -1,6 +1,5 @@
 -- The invariant has the rows whose numbers are put.
-use Prim.Native.Nat.{ℕ, _-_, _/_, _<_}
-use mathlib.Core.Path.{refl, _∙_}
+use Prim.Native.Nat.{_-_, _/_, _<_}
 use native.Mathlib.Omega.{arith}
 use borrow.Author.Needs.{needs}
 use lib.ListN.{length, length-set}
@@ -18,9 +17,6 @@ abbrev μ-loop : tie.MeasureT-loop
 loop-holds : tie.Need-loop-holds Inv-loop μ-loop
 loop-holds c = record { size = c .before .before .pre .1; each = λ m l. absurd (omega arith) }
 
-frame-requires : tie.Need-frame-requires Inv-loop μ-loop
-frame-requires c κs = search needs
-
 -- the row is one of 64
 few : (c : tie.After-frame Inv-loop μ-loop) → c .before .before .loop .i < 64
 few c = let s = c .before .before .before .before .before in omega (arith, c .before .loop-test .taken, accepted-size (s .args .rows .now) (s .pre .0) .most)
@@ -33,44 +29,17 @@ cast-area c =
     let s = c .before .before .before .before .before .before in
     record { fits = rw (c .before .frame .ensures, frame-row (s .args .lengths) (s .args .rows .now) (c .before .before .before .loop .i) (c .before .before .loop-test .taken)) (priority-short (s .args .lengths) (s .args .rows .now) (s .pre .0) (c .before .before .before .loop .i) (c .before .before .loop-test .taken)) }
 
-mul-area : tie.Need-mul-area Inv-loop μ-loop
-mul-area c = search needs
-
 slice-write-area : tie.Need-slice-write-area Inv-loop μ-loop
 slice-write-area c = omega (arith, few (c .before), c .before .before .before .loop .inv .size)
-
-add-area : tie.Need-add-area Inv-loop μ-loop
-add-area c = search needs
-
-mul-area-2 : tie.Need-mul-area-2 Inv-loop μ-loop
-mul-area-2 c = search needs
 
 slice-write-area-2 : tie.Need-slice-write-area-2 Inv-loop μ-loop
 slice-write-area-2 c = simp length-set (omega (arith, few (c .before), c .before .before .before .loop .inv .size))
 
-inverse-of-requires : tie.Need-inverse-of-requires Inv-loop μ-loop
-inverse-of-requires c κs = search needs
-
-add-area-2 : tie.Need-add-area-2 Inv-loop μ-loop
-add-area-2 c = search needs
-
-mul-area-3 : tie.Need-mul-area-3 Inv-loop μ-loop
-mul-area-3 c = search needs
-
 slice-write-area-3 : tie.Need-slice-write-area-3 Inv-loop μ-loop
 slice-write-area-3 c = simp length-set (omega (arith, few (c .before .before), c .before .before .before .before .loop .inv .size))
 
-add-i : tie.Need-add-i Inv-loop μ-loop
-add-i c = search needs
-
-loop-less : tie.Need-loop-less Inv-loop μ-loop
-loop-less c = search needs
-
 loop-again : tie.Need-loop-again Inv-loop μ-loop
 loop-again c = filled-more (c .before .before .before .before .loop .inv) (few (c .before .before)) (c .before .before .frame .ensures) (c .inverse-of .result)
-
-same-length : tie.Need-same-length Inv-loop μ-loop
-same-length c = search needs
 
 returns : tie.Need-returns Inv-loop μ-loop
 returns c = filled-all (c .before .loop .inv) (c .loop-test .left)
@@ -82,20 +51,20 @@ fill-spec =
     Inv-loop
     μ-loop
     loop-holds
-    frame-requires
+    (λ c κs. search needs)
     mul-at
     cast-area
-    mul-area
+    (λ c. search needs)
     slice-write-area
-    add-area
-    mul-area-2
+    (λ c. search needs)
+    (λ c. search needs)
     slice-write-area-2
-    inverse-of-requires
-    add-area-2
-    mul-area-3
+    (λ c κs. search needs)
+    (λ c. search needs)
+    (λ c. search needs)
     slice-write-area-3
-    add-i
-    loop-less
+    (λ c. search needs)
+    (λ c. search needs)
     loop-again
-    same-length
+    (λ c. search needs)
     returns)

@@ -1,32 +1,16 @@
 -- As many rows as the group has.
 use Prim.Native.Nat.{ℕ, _+_, _-_}
-use mathlib.Core.Path.{_≡_, sym, ap, _∙_}
+use mathlib.Core.Path.{_≡_}
 use native.Mathlib.Omega.{arith}
 use borrow.Author.Needs.{needs}
-use lib.ListN.{take, drop}
 use Rattle.workload.proofs.prepared.part_of.Statement.{statement}
 use Rattle.workload.proofs.prepared.part_of.Tie as tie
-
-first-of-requires : tie.Need-first-of-requires
-first-of-requires c κs = search needs
 
 add-from : tie.Need-add-from
 add-from c = omega (arith, c .first-of .ensures, c .before .before .pre .2)
 
-count-of-requires : tie.Need-count-of-requires
-count-of-requires c κs = search needs
-
 add-to : tie.Need-add-to
 add-to c = omega (arith, c .before .first-of .ensures, c .count-of .ensures, c .before .before .before .pre .2)
-
-mul-result : tie.Need-mul-result
-mul-result c = search needs
-
-sub-result : tie.Need-sub-result
-sub-result c = search needs
-
-part-result-start : tie.Need-part-result-start
-part-result-start c = search needs
 
 part-result-end : tie.Need-part-result-end
 part-result-end c = omega (arith, c .before .first-of .ensures, c .count-of .ensures, c .before .before .before .pre .2, c .before .before .before .pre .0)
@@ -42,12 +26,12 @@ pub part-of-spec : {M : Type 1} → statement M
 part-of-spec =
     tie.close
     (tie.spec
-    first-of-requires
+    (λ c κs. search needs)
     add-from
-    count-of-requires
+    (λ c κs. search needs)
     add-to
-    mul-result
-    sub-result
-    part-result-start
+    (λ c. search needs)
+    (λ c. search needs)
+    (λ c. search needs)
     part-result-end
     returns)

@@ -10,32 +10,8 @@ use Rattle.workload.specs.laws.Groups.{prepared-all}
 use Rattle.workload.proofs.prepared.prepare.Statement.{statement}
 use Rattle.workload.proofs.prepared.prepare.Tie as tie
 
-sub-by-group : tie.Need-sub-by-group
-sub-by-group c = search needs
-
-part-by-group-start : tie.Need-part-by-group-start
-part-by-group-start c = search needs
-
-part-by-group-end : tie.Need-part-by-group-end
-part-by-group-end c = search needs
-
 by-group-requires : tie.Need-by-group-requires
 by-group-requires c κs = let s = c .before .before .before in (accepted-fine _ (s .pre .0) _ (s .pre .1), mid-len 0 128 (s .args .area .now) (omega (arith, s .pre .2)))
-
-sub-fill : tie.Need-sub-fill
-sub-fill c = search needs
-
-part-fill-start : tie.Need-part-fill-start
-part-fill-start c = search needs
-
-part-fill-end : tie.Need-part-fill-end
-part-fill-end c = search needs
-
-fill-requires : tie.Need-fill-requires
-fill-requires c κs = search needs
-
-same-length : tie.Need-same-length
-same-length c = search needs
 
 returns : tie.Need-returns
 returns c =
@@ -51,13 +27,13 @@ pub prepare-spec : {M : Type 1} → statement M
 prepare-spec =
     tie.close
     (tie.spec
-    sub-by-group
-    part-by-group-start
-    part-by-group-end
+    (λ c. search needs)
+    (λ c. search needs)
+    (λ c. search needs)
     by-group-requires
-    sub-fill
-    part-fill-start
-    part-fill-end
-    fill-requires
-    same-length
+    (λ c. search needs)
+    (λ c. search needs)
+    (λ c. search needs)
+    (λ c κs. search needs)
+    (λ c. search needs)
     returns)

@@ -7,12 +7,6 @@ use borrow.Author.Needs.{needs}
 use Rattle.workload.proofs.work.demand_from.Statement.{statement}
 use Rattle.workload.proofs.work.demand_from.Tie as tie
 
-releases-before-requires : tie.Need-releases-before-requires
-releases-before-requires c κs = search needs
-
-cast-result : tie.Need-cast-result
-cast-result c = search needs
-
 small : (c : tie.After-releases-before) → c .before .args .length * c .releases-before .result ≤ c .before .args .length * 1000001
 small c = let s = c .before in mul-le-mul-left (s .args .length) (omega (arith, c .releases-before .ensures .1, s .pre .3))
 
@@ -26,7 +20,7 @@ pub demand-from-spec : {M : Type 1} → statement M
 demand-from-spec =
     tie.close
     (tie.spec
-    releases-before-requires
-    cast-result
+    (λ c κs. search needs)
+    (λ c. search needs)
     mul-result
     returns)

@@ -8,15 +8,9 @@ use Rattle.bus_model.specs.Bounds.{distance}
 use Rattle.workload.proofs.work.distance_from.Statement.{statement}
 use Rattle.workload.proofs.work.distance_from.Tie as tie
 
-remainder-requires : tie.Need-remainder-requires
-remainder-requires c κs = search needs
-
 -- a number below two periods, less one
 once : (n p : ℕ) → p ≤ n → n < p + p → (n - p ≡ n % p) × (n - p < p)
 once n p over under = let less : n - p < p = omega arith in (sym (mod-eq-sub-mod over ∙ mod-eq-of-lt less), less)
-
-phase-of-requires : tie.Need-phase-of-requires
-phase-of-requires c κs = search needs
 
 sub-later : tie.Need-sub-later
 sub-later c = omega (arith, c .before .before .remainder .ensures .1)
@@ -36,8 +30,8 @@ pub distance-from-spec : {M : Type 1} → statement M
 distance-from-spec =
     tie.close
     (tie.spec
-    remainder-requires
-    phase-of-requires
+    (λ c κs. search needs)
+    (λ c κs. search needs)
     sub-later
     add-later
     returns

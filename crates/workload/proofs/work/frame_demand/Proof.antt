@@ -8,9 +8,6 @@ use Rattle.bus_model.specs.Bounds.{demand}
 use Rattle.workload.proofs.work.frame_demand.Statement.{statement}
 use Rattle.workload.proofs.work.frame_demand.Tie as tie
 
-distance-from-requires : tie.Need-distance-from-requires
-distance-from-requires c κs = search needs
-
 demand-from-requires : tie.Need-demand-from-requires
 demand-from-requires c κs = let s = c .before in (omega (arith, s .pre .0 .length-high), s .pre .0 .period-low, s .pre .0 .period-high, s .pre .1)
 
@@ -24,6 +21,6 @@ pub frame-demand-spec : {M : Type 1} → statement M
 frame-demand-spec =
     tie.close
     (tie.spec
-    distance-from-requires
+    (λ c κs. search needs)
     demand-from-requires
     returns)

@@ -4,12 +4,9 @@ use Rattle.bus_model.specs.Bounds.{phase}
 use Rattle.workload.proofs.work.phase_of.Statement.{statement}
 use Rattle.workload.proofs.work.phase_of.Tie as tie
 
-remainder-requires : tie.Need-remainder-requires
-remainder-requires c κs = search needs
-
 returns : tie.Need-returns
 unfolding phase
 returns c = c .remainder .ensures
 
 pub phase-of-spec : {M : Type 1} → statement M
-phase-of-spec = tie.close (tie.spec remainder-requires returns)
+phase-of-spec = tie.close (tie.spec (λ c κs. search needs) returns)

@@ -20,9 +20,6 @@ mul-q c = omega (arith, whole c)
 mul-part : tie.Need-mul-part
 mul-part c = omega (arith, part c)
 
-sub-if2 : tie.Need-sub-if2
-sub-if2 c = search needs
-
 cast-result : tie.Need-cast-result
 cast-result c = omega (arith, whole (c .before .before))
 
@@ -31,12 +28,6 @@ returns c =
     let a = c .before .before .args in
     sym (div-eq-of-lt-le (a .p) (c .before .if1 .taken) (omega (arith, c .before .if1 .taken, c .if2 .taken)))
 
-div-result : tie.Need-div-result
-div-result c = search needs
-
-returns-2 : tie.Need-returns-2
-returns-2 c = search needs
-
 pub quotient-spec : {M : Type 1} → statement M
 quotient-spec =
-    tie.close (tie.spec mul-q mul-part sub-if2 cast-result returns div-result returns-2)
+    tie.close (tie.spec mul-q mul-part (λ c. search needs) cast-result returns (λ c. search needs) (λ c. search needs))

@@ -10,12 +10,6 @@ use Rattle.arith.specs.laws.Tests.{by-test}
 use Rattle.workload.proofs.work.releases_before.Statement.{statement}
 use Rattle.workload.proofs.work.releases_before.Tie as tie
 
-add-if1 : tie.Need-add-if1
-add-if1 c = search needs
-
-counts-below-requires : tie.Need-counts-below-requires
-counts-below-requires c κs = search needs
-
 returns : tie.Need-returns
 returns c =
     let s = c .before .before in
@@ -28,18 +22,6 @@ returns c =
     (λ h. let le = leb-true n d h in let none = count-le d (s .pre .0) n 0 (omega arith) in (omega arith, omega arith))
     (λ h. let gt = leb-false n d h in let some = counted d (s .pre .0) n 0 .1 (omega arith) in (omega arith, omega arith))
 
-sub-quotient : tie.Need-sub-quotient
-sub-quotient c = search needs
-
-sub-quotient-2 : tie.Need-sub-quotient-2
-sub-quotient-2 c = search needs
-
-add-quotient : tie.Need-add-quotient
-add-quotient c = search needs
-
-quotient-requires : tie.Need-quotient-requires
-quotient-requires c κs = search needs
-
 returns-2 : tie.Need-returns-2
 unfolding releasesBefore
 returns-2 c =
@@ -51,11 +33,11 @@ pub releases-before-spec : {M : Type 1} → statement M
 releases-before-spec =
     tie.close
     (tie.spec
-    add-if1
-    counts-below-requires
+    (λ c. search needs)
+    (λ c κs. search needs)
     returns
-    sub-quotient
-    sub-quotient-2
-    add-quotient
-    quotient-requires
+    (λ c. search needs)
+    (λ c. search needs)
+    (λ c. search needs)
+    (λ c κs. search needs)
     returns-2)

@@ -10,9 +10,6 @@ use Rattle.workload.proofs.work.remainder.Tie as tie
 returns : tie.Need-returns
 returns c = (sym (mod-eq-of-lt (c .if1 .taken)), c .if1 .taken)
 
-quotient-requires : tie.Need-quotient-requires
-quotient-requires c κs = search needs
-
 -- the whole p are no more than x
 whole : (c : tie.After-quotient) → c .quotient .result * c .before .before .args .p ≤ c .before .before .args .x
 whole c = rw (c .quotient .ensures) (div-mul-le-self (c .before .before .args .x) (c .before .before .args .p))
@@ -34,7 +31,7 @@ remainder-spec =
     tie.close
     (tie.spec
     returns
-    quotient-requires
+    (λ c κs. search needs)
     mul-result
     sub-result
     returns-2)

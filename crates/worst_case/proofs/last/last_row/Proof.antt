@@ -21,15 +21,6 @@ abbrev μ-loop : tie.MeasureT-loop
 loop-holds : tie.Need-loop-holds Inv-loop μ-loop
 loop-holds c = let size = accepted-size (c .before .args .rows .now) (c .before .pre .1) in (refl, omega (arith, size .some, size .whole), last-start _)
 
-later-requires : tie.Need-later-requires Inv-loop μ-loop
-later-requires c κs = search needs
-
-add-i : tie.Need-add-i Inv-loop μ-loop
-add-i c = search needs
-
-loop-less : tie.Need-loop-less Inv-loop μ-loop
-loop-less c = search needs
-
 loop-again : tie.Need-loop-again Inv-loop μ-loop
 loop-again c = (c .before .before .loop .inv .0, omega (arith, c .before .loop-test .taken), last-next _ (c .before .before .loop .inv .2) (c .later .ensures))
 
@@ -48,8 +39,8 @@ last-row-spec =
     Inv-loop
     μ-loop
     loop-holds
-    later-requires
-    add-i
-    loop-less
+    (λ c κs. search needs)
+    (λ c. search needs)
+    (λ c. search needs)
     loop-again
     returns)

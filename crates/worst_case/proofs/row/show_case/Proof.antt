@@ -6,9 +6,6 @@ use Rattle.worst_case.specs.Steps.{CaseWithin, caseShown}
 use Rattle.worst_case.proofs.row.show_case.Statement.{statement}
 use Rattle.worst_case.proofs.row.show_case.Tie as tie
 
-or-zero-requires : tie.Need-or-zero-requires
-or-zero-requires c κs = search needs
-
 show-requires : tie.Need-show-requires
 show-requires c κs =
     let s = c .before .before in
@@ -23,6 +20,6 @@ pub show-case-spec : {M : Type 1} → statement M
 show-case-spec =
     tie.close
     (tie.spec
-    or-zero-requires
+    (λ c κs. search needs)
     show-requires
     returns)

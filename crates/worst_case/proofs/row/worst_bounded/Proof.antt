@@ -9,58 +9,16 @@ use Rattle.worst_case.specs.laws.Answer.{worstDecided, none-due, precise
 use Rattle.worst_case.proofs.row.worst_bounded.Statement.{statement}
 use Rattle.worst_case.proofs.row.worst_bounded.Tie as tie
 
-slice-aggregate-prepare-row : tie.Need-slice-aggregate-prepare-row
-slice-aggregate-prepare-row c = search needs
-
 prepare-row-requires : tie.Need-prepare-row-requires
 prepare-row-requires c κs = (c .before .before .pre .0, (c .before .before .pre .1, search needs))
 
-slice-aggregate-find : tie.Need-slice-aggregate-find
-slice-aggregate-find c = search needs
-
-slice-aggregate-find-2 : tie.Need-slice-aggregate-find-2
-slice-aggregate-find-2 c = search needs
-
 find-requires : tie.Need-find-requires
 find-requires c κs = ready-new (c .before .before .before .before .before .before .args .lengths) (c .before .before .before .prepare-row .ensures .0) (c .before .before .before .prepare-row .ensures .1 .0 .0) (subst FineFaults (sym (c .before .before .before .prepare-row .ensures .1 .0 .1)) fine-never) (c .before .before .before .prepare-row .ensures .1 .1) (c .before .before .before .before .before .before .pre .1)
-
-enum-told : tie.Need-enum-told
-enum-told c = search needs
-
-no-worst-requires : tie.Need-no-worst-requires
-no-worst-requires c κs = search needs
-
-enum-told-2 : tie.Need-enum-told-2
-enum-told-2 c = search needs
-
-no-worst-requires-2 : tie.Need-no-worst-requires-2
-no-worst-requires-2 c κs = search needs
-
-enum-told-3 : tie.Need-enum-told-3
-enum-told-3 c = search needs
-
-no-worst-requires-3 : tie.Need-no-worst-requires-3
-no-worst-requires-3 c κs = search needs
-
-enum-told-4 : tie.Need-enum-told-4
-enum-told-4 c = search needs
-
-no-worst-requires-4 : tie.Need-no-worst-requires-4
-no-worst-requires-4 c κs = search needs
-
-enum-known-bound : tie.Need-enum-known-bound
-enum-known-bound c = search needs
-
-slice-aggregate-first-case : tie.Need-slice-aggregate-first-case
-slice-aggregate-first-case c = search needs
 
 sub-first-case : tie.Need-sub-first-case
 sub-first-case c =
     let a = c .before .before .before .before .before .before .before .before .before .before .before .before .args in
     omega (arith, precise-some (a .lengths) (a .rows .now) (a .i) (c .before .before .before .before .before .before .before .before .before .prepare-row .ensures .0) (c .before .before .before .before .before .before .before .before .before .prepare-row .ensures .1 .0) (c .before .before .before .before .before .find .ensures .0) (c .before .before .bound .given .1) (c .before .before .before .before .before .before .before .before .before .before .before .before .pre .0 .0) (c .before .before .before .before .before .before .before .before .before .before .before .before .pre .0 .1) (c .before .before .before .before .before .before .before .before .before .before .before .before .pre .1))
-
-slice-aggregate-first-case-2 : tie.Need-slice-aggregate-first-case-2
-slice-aggregate-first-case-2 c = search needs
 
 first-case-requires : tie.Need-first-case-requires
 first-case-requires c κs =
@@ -105,23 +63,23 @@ pub worst-bounded-spec : {M : Type 1} → statement M
 worst-bounded-spec =
     tie.close
     (tie.spec
-    slice-aggregate-prepare-row
+    (λ c. search needs)
     prepare-row-requires
-    slice-aggregate-find
-    slice-aggregate-find-2
+    (λ c. search needs)
+    (λ c. search needs)
     find-requires
-    enum-told
-    no-worst-requires
-    enum-told-2
-    no-worst-requires-2
-    enum-told-3
-    no-worst-requires-3
-    enum-told-4
-    no-worst-requires-4
-    enum-known-bound
-    slice-aggregate-first-case
+    (λ c. search needs)
+    (λ c κs. search needs)
+    (λ c. search needs)
+    (λ c κs. search needs)
+    (λ c. search needs)
+    (λ c κs. search needs)
+    (λ c. search needs)
+    (λ c κs. search needs)
+    (λ c. search needs)
+    (λ c. search needs)
     sub-first-case
-    slice-aggregate-first-case-2
+    (λ c. search needs)
     first-case-requires
     show-case-requires
     returns

@@ -5,15 +5,6 @@ use Rattle.worst_case.specs.Answer.{worstRow}
 use Rattle.worst_case.proofs.row.worst_row.Statement.{statement}
 use Rattle.worst_case.proofs.row.worst_row.Tie as tie
 
-all-early-requires : tie.Need-all-early-requires
-all-early-requires c κs = search needs
-
-worst-bounded-requires : tie.Need-worst-bounded-requires
-worst-bounded-requires c κs = search needs
-
-no-worst-requires : tie.Need-no-worst-requires
-no-worst-requires c κs = search needs
-
 returns : tie.Need-returns
 unfolding worstRow
 returns c = rw (sym (c .before .before .all-early .ensures) ∙ c .before .if1 .taken) (c .worst-bounded .ensures)
@@ -26,8 +17,8 @@ pub worst-row-spec : {M : Type 1} → statement M
 worst-row-spec =
     tie.close
     (tie.spec
-    all-early-requires
-    worst-bounded-requires
-    no-worst-requires
+    (λ c κs. search needs)
+    (λ c κs. search needs)
+    (λ c κs. search needs)
     returns
     returns-2)

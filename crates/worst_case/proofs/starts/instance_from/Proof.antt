@@ -10,26 +10,8 @@ use Rattle.worst_case.specs.laws.Starts.{none-released}
 use Rattle.worst_case.proofs.starts.instance_from.Statement.{statement}
 use Rattle.worst_case.proofs.starts.instance_from.Tie as tie
 
-sub-result : tie.Need-sub-result
-sub-result c = search needs
-
 returns : tie.Need-returns
 returns c = none-released _ _ (c .before .before .args .q) (c .before .before .pre .0) (c .if1 .taken)
-
-sub-result-2 : tie.Need-sub-result-2
-sub-result-2 c = search needs
-
-sub-result-3 : tie.Need-sub-result-3
-sub-result-3 c = search needs
-
-add-result : tie.Need-add-result
-add-result c = search needs
-
-div-result : tie.Need-div-result
-div-result c = search needs
-
-sub-result-4 : tie.Need-sub-result-4
-sub-result-4 c = search needs
 
 add-result-2 : tie.Need-add-result-2
 add-result-2 c =
@@ -45,12 +27,12 @@ pub instance-from-spec : {M : Type 1} → statement M
 instance-from-spec =
     tie.close
     (tie.spec
-    sub-result
+    (λ c. search needs)
     returns
-    sub-result-2
-    sub-result-3
-    add-result
-    div-result
-    sub-result-4
+    (λ c. search needs)
+    (λ c. search needs)
+    (λ c. search needs)
+    (λ c. search needs)
+    (λ c. search needs)
     add-result-2
     returns-2)

@@ -21,21 +21,6 @@ long s = search needs
 loop-holds : tie.Need-loop-holds Inv-loop μ-loop
 loop-holds c = (most-none _, omega arith)
 
-mul-greater : tie.Need-mul-greater Inv-loop μ-loop
-mul-greater c = search needs
-
-array-read-greater : tie.Need-array-read-greater Inv-loop μ-loop
-array-read-greater c = search needs
-
-greater-requires : tie.Need-greater-requires Inv-loop μ-loop
-greater-requires c κs = search needs
-
-add-i : tie.Need-add-i Inv-loop μ-loop
-add-i c = search needs
-
-loop-less : tie.Need-loop-less Inv-loop μ-loop
-loop-less c = search needs
-
 loop-again : tie.Need-loop-again Inv-loop μ-loop
 loop-again c =
     (most-next (c .before .before .before .args .t1) (c .before .before .loop .i) (c .before .before .loop .most) (omega (arith, long (c .before .before .before), c .before .loop-test .taken)) (c .greater .ensures) (c .before .before .loop .inv .0), omega (arith, c .before .loop-test .taken))
@@ -50,10 +35,10 @@ meeting-tick-spec =
     Inv-loop
     μ-loop
     loop-holds
-    mul-greater
-    array-read-greater
-    greater-requires
-    add-i
-    loop-less
+    (λ c. search needs)
+    (λ c. search needs)
+    (λ c κs. search needs)
+    (λ c. search needs)
+    (λ c. search needs)
     loop-again
     returns)

@@ -15,9 +15,6 @@ Inv-loop alignments meeting starts₀ i₀ starts i = StartsTo alignments i star
 abbrev μ-loop : tie.MeasureT-loop
 μ-loop alignments meeting starts₀ i₀ starts i = 16 - i
 
-meeting-tick-requires : tie.Need-meeting-tick-requires Inv-loop μ-loop
-meeting-tick-requires c κs = search needs
-
 -- the alignments are as many as the groups
 long : (s : tie.Start Inv-loop μ-loop) → length (s .args .t1) ≡ 16
 long s = search needs
@@ -25,26 +22,8 @@ long s = search needs
 loop-holds : tie.Need-loop-holds Inv-loop μ-loop
 loop-holds c = (starts-none (c .before .args .t1), omega arith)
 
-mul-starts : tie.Need-mul-starts Inv-loop μ-loop
-mul-starts c = search needs
-
-array-read-starts : tie.Need-array-read-starts Inv-loop μ-loop
-array-read-starts c = search needs
-
 sub-starts : tie.Need-sub-starts Inv-loop μ-loop
 sub-starts c = omega (arith, c .before .before .meeting-tick .ensures, alignment-before (c .before .before .before .args .t1) (c .before .loop .i) (omega (arith, long (c .before .before .before), c .loop-test .taken)))
-
-mul-starts-2 : tie.Need-mul-starts-2 Inv-loop μ-loop
-mul-starts-2 c = search needs
-
-array-write-starts : tie.Need-array-write-starts Inv-loop μ-loop
-array-write-starts c = search needs
-
-add-i : tie.Need-add-i Inv-loop μ-loop
-add-i c = search needs
-
-loop-less : tie.Need-loop-less Inv-loop μ-loop
-loop-less c = search needs
 
 loop-again : tie.Need-loop-again Inv-loop μ-loop
 loop-again c = (starts-next (c .before .before .before .args .t1) (long (c .before .before .before)) (c .before .loop .i) (c .before .loop .inv .0) (c .loop-test .taken) (c .before .before .meeting-tick .ensures) refl, omega (arith, c .loop-test .taken))
@@ -58,14 +37,14 @@ starts-of-spec =
     (tie.spec
     Inv-loop
     μ-loop
-    meeting-tick-requires
+    (λ c κs. search needs)
     loop-holds
-    mul-starts
-    array-read-starts
+    (λ c. search needs)
+    (λ c. search needs)
     sub-starts
-    mul-starts-2
-    array-write-starts
-    add-i
-    loop-less
+    (λ c. search needs)
+    (λ c. search needs)
+    (λ c. search needs)
+    (λ c. search needs)
     loop-again
     returns)
