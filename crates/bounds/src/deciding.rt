@@ -12,9 +12,11 @@ ghost use mathlib.Core.Path.{_≡_};
 ghost use mathlib.Core.Bool.{false};
 ghost use Prim.Native.Nat.{_<_};
 ghost use Rattle.bus_model.specs.Judgement.{lacksWindow};
+ghost use Rattle.bus_model.specs.theory.Refine.{free};
 ghost use Rattle.workload.specs.Prepared.{tableOf};
 ghost use Rattle.greatest_work.specs.Ready.{Ready};
 ghost use Rattle.bounds.specs.Find.{meets, enoughFor, decidedAt, boundFor};
+ghost use Rattle.bounds.specs.Search.{Limits};
 
 // Whether the claim, if there is one, meets a bound.
 fn is_met(claim: Found, bound: u32) -> bool
@@ -47,9 +49,11 @@ fn by_level(
     level: usize,
     claim: Found,
     rough: u32,
+    limit: Found,
     memory: &mut [u64],
 ) -> Bound
     requires { ⌜ Ready (now rows) (now prepared) target (now memory) ⌝ }
+    requires { ⌜ Limits (target .faults) (tableOf (now rows) (now prepared)) (target .frame) free limit ⌝ }
     requires { ⌜ (lacksWindow (target .faults) (tableOf (now rows) (now prepared)) (target .frame) ≡ false) × (level < 16) ⌝ }
     ensures { λ r. ⌜ r ≡ decidedAt (target .faults) (tableOf (now (rows .entry)) (now (prepared .entry))) (target .frame) level claim rough ⌝ }
     ensures ready { λ _. ⌜ Ready (now (rows .entry)) (now (prepared .entry)) target (now (memory .exit)) ⌝ }
@@ -59,7 +63,6 @@ fn by_level(
         return Bound::TooMany(rough);
     };
     let free = [Choice::Any; 16];
-    let none = Found::Nothing;
     let bound = refine_own(
         rows,
         prepared,
@@ -68,7 +71,7 @@ fn by_level(
         level + 1,
         0,
         enough,
-        none,
+        limit,
         memory,
     );
     if enough < bound {
@@ -102,5 +105,5 @@ pub fn find(
         return Bound::Approximate(rough);
     }
     let level = deepest_level(rows, prepared, target);
-    by_level(rows, prepared, target, level, claim, rough, memory)
+    by_level(rows, prepared, target, level, claim, rough, limit, memory)
 }

@@ -29,7 +29,7 @@ ghost use Rattle.bus_model.specs.theory.Refine.{free};
 ghost use Rattle.bus_model.specs.theory.Work.{RefinedBy};
 ghost use Rattle.workload.specs.Prepared.{tableOf};
 ghost use Rattle.greatest_work.specs.Ready.{Ready};
-ghost use Rattle.response_time.specs.Load.{OwnFixed, WindowWithin, Reaches};
+ghost use Rattle.response_time.specs.Load.{OwnFixed, Reaches};
 ghost use Rattle.bounds.specs.Search.{OwnOpen, Limits, Settles};
 
 // Up to which instance it is not shown in the scenario as it is. Where it is not asked, it does not look.
@@ -151,8 +151,8 @@ fn refine(
     }
 }
 
-// A length that the scenario's window does not exceed: the one given, or else the window itself.
-fn limit_of(
+// How many instances are released before a limit of the scenario's window, of which nothing is shown at first: the limit given, or else the window.
+fn reach_of(
     rows: &[u32],
     prepared: &[u32],
     target: Target,
@@ -163,17 +163,19 @@ fn limit_of(
     requires { ⌜ Ready (now rows) (now prepared) target (now memory) ⌝ }
     requires { ⌜ Limits (target .faults) (tableOf (now rows) (now prepared)) (target .frame) choices limit ⌝ }
     requires { ⌜ ((l : ℕ) × (busyWindow (target .faults) (tableOf (now rows) (now prepared)) (target .frame) choices ≡ At l)) ⌝ }
-    ensures { λ r. ⌜ WindowWithin (target .faults) (tableOf (now (rows .entry)) (now (prepared .entry))) (target .frame) choices r ⌝ }
+    ensures { λ r. ⌜ ((best : ℕ) → Reaches (target .faults) (tableOf (now (rows .entry)) (now (prepared .entry))) (target .frame) choices best r) ⌝ }
     ensures ready { λ _. ⌜ Ready (now (rows .entry)) (now (prepared .entry)) target (now (memory .exit)) ⌝ }
 {
-    match limit {
-        Found::At(l) => l,
-        Found::Nothing => or_zero(busy_window(rows, prepared, target, choices, memory)),
+    if let Found::At(l) = limit {
+        return reach_before(rows, prepared, target, choices, l, memory);
     }
+    let window = or_zero(busy_window(rows, prepared, target, choices, memory));
+    reach_before(rows, prepared, target, choices, window, memory)
 }
 
-// The same where the target's own group is still open: it takes each of its alignments, the windows of which are taken first. `limit`, where
-// there is one, is not below any of them.
+// The same where the target's own group is still open: it takes each of its alignments, rising, but first the one at which the target itself is
+// released: its response is mostly the greatest there, so that of most others it is shown at once that theirs is not greater. `limit`, where
+// there is one, is not below any of their windows.
 pub fn refine_own(
     rows: &[u32],
     prepared: &[u32],
@@ -196,11 +198,11 @@ pub fn refine_own(
     let own = k.group as usize;
     let fewer = left - 1;
     let mut most = best;
-    let mut a = or_zero(next_of(rows, prepared, target, own, 0));
+    let mut a = k.offset % k.period;
+    let mut after: u32 = 0;
     loop {
         let finer = with_choice(choices, own, a);
-        let within = limit_of(rows, prepared, target, finer, limit, memory);
-        let reach = reach_before(rows, prepared, target, finer, within, memory);
+        let reach = reach_of(rows, prepared, target, finer, limit, memory);
         let fixing = Fixing {
             group: own,
             alignment: a,
@@ -220,11 +222,12 @@ pub fn refine_own(
         if enough < most {
             return most;
         }
-        let found = next_of(rows, prepared, target, own, a + 1);
+        let found = next_of(rows, prepared, target, own, after);
         let Found::At(b) = found else {
             return most;
         };
         a = b;
+        after = b + 1;
     }
 }
 
@@ -259,8 +262,7 @@ pub fn is_exceeded(
                 memory,
             );
     };
-    let limit = limit_of(rows, prepared, target, choices, Found::Nothing, memory);
-    let reach = reach_before(rows, prepared, target, choices, limit, memory);
+    let reach = reach_of(rows, prepared, target, choices, Found::Nothing, memory);
     let k = target.frame;
     let fixing = Fixing {
         group: k.group as usize,

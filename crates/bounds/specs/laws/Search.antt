@@ -2,9 +2,10 @@
 -- and the choices of a search that fixes one group more.
 use Prim.Native.Nat.{ℕ, suc, _+_, _-_, _%_, _≤_, _<_, max}
 use mathlib.Core.Path.{_≡_, refl, sym, ap, subst, _∙_}
-use mathlib.Core.List.{List, _∷_, List·Memᴰ as Mem}
+use mathlib.Core.List.{List, [], _∷_, List·Memᴰ as Mem, List·Memᴰ·not-nil}
 use mathlib.Core.Bool.{Bool, true, false, cond, _||_}
 use mathlib.Core.Logic.{_≢_}
+use native.Mathlib.Nat.{sub-zero}
 use native.Mathlib.Omega.{arith}
 use native.Mathlib.Numerals.{add-one}
 use borrow.Author.Tests.{eqb-true, eqb-false, eq-eqb, ne-eqb, le-leb, lt-leb, lt-ltb, le-ltb, ltb-true, ltb-false}
@@ -12,30 +13,33 @@ use lib.Dec.{T, eqb, ltb}
 use lib.ListN.{length, set, length-set}
 use Rattle.arith.specs.declared.Found.{Found}
 use Rattle.arith.specs.declared.Found.the-variants.{At, Nothing}
-use Rattle.arith.specs.Lists.{greatest, exists, range}
+use Rattle.arith.specs.Lists.{greatest, exists, keep, range}
 use Rattle.arith.specs.Least.{least, orZero, isNone}
 use Rattle.arith.specs.laws.Tests.{same-test, by-test}
 use Rattle.arith.specs.laws.Members.{of-range, exists-mem, of-exists}
-use Rattle.arith.specs.laws.Walks.{Walk, greatest-more, walk-more, walk-end}
+use Rattle.arith.specs.laws.Least.{least-within}
+use Rattle.arith.specs.laws.Sums.{le-greatest}
+use Rattle.arith.specs.laws.Walks.{Walk, greatest-more, walk-more, walk-end, keep-next, keep-end}
 use Rattle.bus_model.specs.declared.Frame.{Frame}
 use Rattle.bus_model.specs.declared.Faults.{Faults}
 use Rattle.bus_model.specs.declared.Choice.{Choice}
 use Rattle.bus_model.specs.declared.Choice.the-variants.{Fixed, Any}
 use Rattle.bus_model.specs.Frame.{row}
 use Rattle.bus_model.specs.Valid.{ValidFrame, Valid}
-use Rattle.bus_model.specs.Bounds.{groups, alignments, orEmpty, choiceOf, ownGroup, scenarios, busyWindow, scenarioResponse, approximateBound}
+use Rattle.bus_model.specs.Bounds.{groups, phase, alignments, orEmpty, choiceOf, ownGroup, scenarios, busyWindow, scenarioResponse, approximateBound}
 use Rattle.bus_model.specs.Levels.{levelBound}
 use Rattle.bus_model.specs.Judgement.{lacksWindow, tooManyScenarios, deepestLevel}
-use Rattle.bus_model.specs.theory.Frames.{group-listed}
+use Rattle.bus_model.specs.theory.Frames.{group-listed, self-ahead}
+use Rattle.bus_model.specs.theory.Alignment.{phase-aligned, or-empty}
 use Rattle.bus_model.specs.theory.Work.{RefinedBy}
 use Rattle.bus_model.specs.theory.Response.{window-refine, own-distance}
 use Rattle.bus_model.specs.theory.Levels.{lastLevel, level-last, deepest-last, deepest-before}
 use Rattle.bus_model.specs.theory.Judged.{has-windows}
 use Rattle.bus_model.specs.theory.Visits.{isAlignment}
 use Rattle.bus_model.specs.theory.Refine.{free, set-same, own-scenarios, own-kept, refines-group}
-use Rattle.bus_model.specs.theory.OpenGroups.{nextOpen, fixingMore, next-open, free-open, free-refined, more-refined, more-end, more-none, more-turn, more-pruned, more-window, approximate-more}
+use Rattle.bus_model.specs.theory.OpenGroups.{nextOpen, fixingMore, next-open, free-open, free-refined, more-refined, more-end, more-none, more-step, more-turn, more-pruned, more-window, approximate-more}
 use Rattle.bus_model.specs.theory.LevelSearch.{level-found}
-use Rattle.bus_model.specs.theory.Turns.{turn, firstTurn, first-aligned, turned, window-alike, alike-turn, visit-first, found-listed, first-listed}
+use Rattle.bus_model.specs.theory.Turns.{turn, firstTurn, first-aligned, turned, turned-alignment, window-alike, alike-turn, visit-first, found-listed, first-listed}
 use Rattle.workload.specs.Prepared.{FineTable, framesIn, hyperIn, partOf, tableOf, Prepared, InTable}
 use Rattle.alignment_walk.specs.Walk.{visits}
 use Rattle.alignment_walk.specs.laws.Walk.{visits-factor}
@@ -78,6 +82,13 @@ pub record Best (fs : List Frame) (k : Frame) (j : ℕ) (f : ℕ → ℕ) (from 
   pub walk : Walk (greatest f) max (isAlignment fs k j) (turn fs k j) (max from (greatest f (orEmpty (firstTurn fs k j)))) most a
   pub listed : Mem a (orEmpty (alignments fs k j))
 
+-- The loop stands at a, an alignment that it began with or the last before n: `most` and its value are the greatest of `from`, the values f of the
+-- alignments before n, and that of the one that it began with.
+pub record BestFrom (fs : List Frame) (k : Frame) (j : ℕ) (f : ℕ → ℕ) (from most a n : ℕ) : Type 0 where
+  pub inside : n ≤ turn fs k j
+  pub listed : Mem a (orEmpty (alignments fs k j))
+  pub is : max (max most (f a)) (greatest f (keep (isAlignment fs k j) (range n (turn fs k j - n)))) ≡ max from (greatest f (orEmpty (firstTurn fs k j)))
+
 module _ (fs : List Frame) (k : Frame) (j : ℕ) (f : ℕ → ℕ) where
   abbrev passes : ℕ → Bool
   passes = isAlignment fs k j
@@ -112,6 +123,37 @@ module _ (fs : List Frame) (k : Frame) (j : ℕ) (f : ℕ → ℕ) where
   best-above {from} {most} {a} {all} {enough} {r} best whole found above =
       let here : enough < max most (f a) = settled-whole enough (max most (f a)) r found above in
       settled-above enough (max from all) r (reached most (f a) _ here (best .walk .is ∙ ap (max from) whole)) above
+
+  -- ---- the same, where it begins with any one
+
+  -- It starts at any, where there is one in the first turn.
+  pub from-first : {from a b : ℕ} → Mem b (firstTurn fs k j) → Mem a (orEmpty (alignments fs k j)) → f a ≤ greatest f (orEmpty (firstTurn fs k j)) → BestFrom fs k j f from from a 0
+  unfolding firstTurn orEmpty
+  from-first {from} {a} {b} some listed low = record { inside = omega arith; listed = listed; is = rw sub-zero (go (keep (passes) (range 0 (turn fs k j))) some low) }
+    where
+      go : (xs : List ℕ) → Mem b xs → f a ≤ greatest f (orEmpty xs) → max (max from (f a)) (greatest f xs) ≡ max from (greatest f (orEmpty xs))
+      go [] m le = absurd (List·Memᴰ·not-nil m)
+      go (x ∷ xs) m le = omega arith
+
+  module _ {from most next a n : ℕ} (best : BestFrom fs k j f from most a n) (more : next ≡ max most (f a)) where
+    -- It goes on to the next.
+    pub from-more : Valid fs → {b : ℕ} → least (passes) (end - n) n ≡ At b → BestFrom fs k j f from next b (b + 1)
+    unfolding greatest
+    from-more valid {b} is =
+        let (low, high, t) = least-within (passes) (end) is in
+        let then = rw (keep-next (passes) (end) n b is) at (best .is) in
+        record { inside = omega arith; listed = found-listed valid k j n is; is = rw add-one (omega arith) }
+
+    -- It ends after the last.
+    pub from-end : least (passes) (end - n) n ≡ Nothing → next ≡ max from (greatest f (orEmpty (firstTurn fs k j)))
+    unfolding greatest
+    from-end none = let ended = rw (keep-end (passes) (end) n none) at (best .is) in omega arith
+
+  -- It may end at a value above `enough`.
+  pub from-above : {from most a n all enough r : ℕ} → BestFrom fs k j f from most a n → greatest f (orEmpty (firstTurn fs k j)) ≡ all → Settles enough (max most (f a)) r → enough < r → Settles enough (max from all) r
+  from-above {from} {most} {a} {n} {all} {enough} {r} best whole found above =
+      let here : enough < max most (f a) = settled-whole enough (max most (f a)) r found above in
+      settled-above enough (max from all) r (omega (arith, best .is, whole)) above
 
 -- ---- windows of the approximate bound
 
@@ -178,6 +220,10 @@ module _ {fs : List Frame} (accepted : FineTable fs) {k : Frame} (table : InTabl
 
   pub own-group : (1 ≤ k .group) × (k .group ≤ 16)
   own-group = (valid-self .group-low, valid-self .group-high)
+
+  -- Its own release is one of its group's alignments.
+  own-aligned : Mem (phase k) (alignments fs k (k .group))
+  own-aligned = subst (λ (f : Frame). Mem (phase f) (alignments fs f (f .group))) (sym (table .is)) (phase-aligned (accepted .valid) (row fs (table .at)) (row fs (table .at) .group) (self-ahead fs (table .at) (table .inside)))
 
   -- Where there is a window with all groups open, none lacks.
   pub lacks-none : (faults : Faults) {l : ℕ} → busyWindow faults fs k free ≡ At l → lacksWindow faults fs k ≡ false
@@ -288,6 +334,14 @@ module _ {fs : List Frame} (accepted : FineTable fs) {k : Frame} (table : InTabl
       pub own-next : nextOpen k cs ≡ At (k .group)
       unfolding nextOpen
       own-next = rw (start .any)
+
+      -- The loop over its alignments starts at the one at which k itself is released.
+      pub own-first : (faults : Faults) (m : ℕ) {from : ℕ} → BestFrom fs k (k .group) (λ a. fixingMore faults fs k m (set cs (k .group - 1) (Fixed a))) from from (phase k) 0
+      own-first faults m =
+          let listed : Mem (phase k) (alignments fs k (k .group)) = own-aligned in
+          from-first fs k (k .group) _ (turned-alignment (accepted .valid) k (k .group) listed) (or-empty listed)
+          (subst (λ (n : ℕ). fixingMore faults fs k m (set cs (k .group - 1) (Fixed (phase k))) ≤ n) (sym (more-step valid-self cs long faults fs m own-next) ∙ sym (open-more faults m own-next))
+          (le-greatest (λ a. fixingMore faults fs k m (set cs (k .group - 1) (Fixed a))) (or-empty listed)))
 
       module _ {a : ℕ} (m : Mem a (orEmpty (alignments fs k (k .group)))) {cs′ : List Choice} (is : cs′ ≡ set cs (k .group - 1) (Fixed a)) where
         own-refines : RefinedBy fs k cs cs′

@@ -15,7 +15,7 @@ returns c =
 refine-own-requires : tie.Need-refine-own-requires
 refine-own-requires c κs =
     let p = c .before .before .before .before .before .before .before .before .pre in
-    (p .0, (free-start (p .0 .prepared .filled .table) (p .0 .listed), (tt, (p .1 .0, omega arith))))
+    (p .0, (free-start (p .0 .prepared .filled .table) (p .0 .listed), (p .1 .0, (p .1 .1 .0, omega arith))))
 
 returns-2 : tie.Need-returns-2
 returns-2 c =

@@ -47,7 +47,7 @@ deepest-level-requires c κs =
 by-level-requires : tie.Need-by-level-requires
 by-level-requires c κs =
     let a = c .before .before .before .before .before .before .before .before .before .before .before .before .before .before .before .before .before .before .before .before .args in
-    (c .before .before .before .before .before .before .refine-own .ensures .1, (has (c .before .before .before .before .before .before .before .before), omega (arith, c .before .deepest-level .ensures, deepest-le (tableOf (a .rows .now) (a .prepared .now)) (a .target .frame))))
+    (c .before .before .before .before .before .before .refine-own .ensures .1, (found-limits _ _ _ _ _ (c .before .before .before .before .before .before .before .before .before .before .before .before .before .before .before .busy-window .ensures .0), (has (c .before .before .before .before .before .before .before .before), omega (arith, c .before .deepest-level .ensures, deepest-le (tableOf (a .rows .now) (a .prepared .now)) (a .target .frame)))))
 
 returns-3 : tie.Need-returns-3
 unfolding boundFor

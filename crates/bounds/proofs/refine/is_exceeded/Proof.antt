@@ -48,28 +48,25 @@ fixed c = (c .own .given .0 .0, sym (c .before .before .own-choice .ensures) ∙
 again : (c : tie.After-own) → set (c .before .before .before .before .before .before .args .choices) (c .before .before .before .before .before .before .args .target .frame .group - 1) (Fixed (c .own .given .0 .0)) ≡ c .before .before .before .before .before .before .args .choices
 again c = let s = c .before .before .before .before .before .before in own-again (s .args .target .frame) (s .args .choices) (group s .0, omega (arith, group s .1, long s)) (sym (c .before .before .own-choice .ensures) ∙ c .own .given .1)
 
-limit-of-requires : tie.Need-limit-of-requires
-limit-of-requires c κs =
+reach-of-requires : tie.Need-reach-of-requires
+reach-of-requires c κs =
     let s = c .before .before .before .before .before .before .before .before in
     let p = s .pre in
     (p .0, (tt, refined-window (p .0 .prepared .filled .table) (p .0 .listed) _ (s .args .choices) (long s) (p .1 .0) (p .1 .1) (fixed (c .before .before))))
 
-reach-before-requires : tie.Need-reach-before-requires
-reach-before-requires c κs = (c .before .before .before .limit-of .ensures .1, c .before .before .before .limit-of .ensures .0)
-
 refine-requires : tie.Need-refine-requires
 refine-requires c κs =
-    let o = c .before .before .before .before .before .before .before .before .before .before in
-    let s = c .before .before .before .before .before .before .before .before .before .before .before .before .before .before .before .before in
-    (c .before .before .before .before .before .before .before .limit-of .ensures .1, (group s, (subst (OwnFixed (s .args .target .frame)) (sym (again o)) (fixed o), subst (λ (cs : List Choice). Reaches (s .args .target .faults) (tableOf (s .args .rows .now) (s .args .prepared .now)) (s .args .target .frame) cs (s .args .claim) (c .before .before .before .reach-before .result)) (sym (again o)) (c .before .before .before .reach-before .ensures (s .args .claim)))))
+    let o = c .before .before .before .before .before .before .before .before in
+    let s = c .before .before .before .before .before .before .before .before .before .before .before .before .before .before in
+    (c .before .before .before .before .before .reach-of .ensures .1, (group s, (subst (OwnFixed (s .args .target .frame)) (sym (again o)) (fixed o), subst (λ (cs : List Choice). Reaches (s .args .target .faults) (tableOf (s .args .rows .now) (s .args .prepared .now)) (s .args .target .frame) cs (s .args .claim) (c .before .before .before .before .before .reach-of .result)) (sym (again o)) (c .before .before .before .before .before .reach-of .ensures .0 (s .args .claim)))))
 
 same-length-2 : tie.Need-same-length-2
-same-length-2 c = c .before .before .refine .ensures .1 .remembered .size ∙ sym (c .before .before .before .before .before .before .before .before .before .before .before .before .before .before .before .before .before .before .before .pre .0 .remembered .size)
+same-length-2 c = c .before .before .refine .ensures .1 .remembered .size ∙ sym (c .before .before .before .before .before .before .before .before .before .before .before .before .before .before .before .before .before .pre .0 .remembered .size)
 
 returns-2 : tie.Need-returns-2
 returns-2 c =
-    let s = c .before .before .before .before .before .before .before .before .before .before .before .before .before .before .before .before .before .before .before in
-    (settled-test (s .args .claim) _ _ (c .before .before .refine .ensures .0) ∙ ap (λ (cs : List Choice). ltb (s .args .claim) (fixingMore (s .args .target .faults) (tableOf (s .args .rows .now) (s .args .prepared .now)) (s .args .target .frame) 16 cs)) (again (c .before .before .before .before .before .before .before .before .before .before .before .before .before)), c .before .before .refine .ensures .1)
+    let s = c .before .before .before .before .before .before .before .before .before .before .before .before .before .before .before .before .before in
+    (settled-test (s .args .claim) _ _ (c .before .before .refine .ensures .0) ∙ ap (λ (cs : List Choice). ltb (s .args .claim) (fixingMore (s .args .target .faults) (tableOf (s .args .rows .now) (s .args .prepared .now)) (s .args .target .frame) 16 cs)) (again (c .before .before .before .before .before .before .before .before .before .before .before)), c .before .before .refine .ensures .1)
 
 pub is-exceeded-spec : {M : Type 1} → statement M
 is-exceeded-spec =
@@ -81,8 +78,7 @@ is-exceeded-spec =
     refine-own-requires
     same-length
     returns
-    limit-of-requires
-    reach-before-requires
+    reach-of-requires
     (λ c. search needs)
     refine-requires
     same-length-2
