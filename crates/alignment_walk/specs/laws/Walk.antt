@@ -3,7 +3,7 @@
 use Prim.Native.Nat.{ℕ, zero, suc, _+_, _-_, _%_, _≤_, _<_, max}
 use mathlib.Core.Path.{_≡_, refl, sym, ap, fun-ext, _∙_}
 use mathlib.Core.Bool.{Bool, true, false, cond}
-use mathlib.Core.List.{List, _∷_, List·Memᴰ as Mem}
+use mathlib.Core.List.{List, [], _∷_, List·Memᴰ as Mem}
 use native.Mathlib.Omega.{arith}
 use native.Mathlib.Nat.{sub-zero}
 use native.Mathlib.Numerals.{add-one}
@@ -19,10 +19,16 @@ use Rattle.bus_model.specs.declared.Frame.{Frame}
 use Rattle.bus_model.specs.Valid.{Valid}
 use Rattle.bus_model.specs.Pattern.{ofGroup, hyperperiod}
 use Rattle.bus_model.specs.Bounds.{groups, ahead, alignments, orEmpty, scenarioCount}
+use Rattle.bus_model.specs.examples.Compute.{everything}
 use Rattle.bus_model.specs.theory.Turns.{turn, firstTurn, turned-alignment}
 use Rattle.workload.specs.Prepared.{isInstant, instantsIn}
 use Rattle.alignment_walk.specs.Walk.{step, onFrom, visitsFrom, visits, Rising}
 use Rattle.alignment_walk.specs.laws.Parts.{length-or-empty}
+
+-- Of frames released at 0, 4, 8, .. and at 1, 4, 7, .. it visits instants a tick apart both, and equal ones once.
+visits-two : visits (record { group = 1; priority = 1; length = 10; period = 4; offset = 0 } ∷ record { group = 1; priority = 2; length = 10; period = 3; offset = 1 } ∷ []) 9 ≡ 0 ∷ 1 ∷ 4 ∷ 7 ∷ 8 ∷ []
+unfolding everything visitsFrom onFrom
+visits-two = refl
 
 -- From any tick on the walk visits the instants from there on, if it may take as many steps as there are ticks.
 visits-from : (n : ℕ) (gs : List Frame) (end a : ℕ) → end - a ≤ n → visitsFrom n gs end a ≡ keep (isInstant gs) (range a (end - a))

@@ -109,8 +109,8 @@ module _ {fs : List Frame} {k : Frame} where
   pub told-is : {memory : List ℕ} → Remembered fs k memory → {j n w : ℕ} → Told memory j n w → w ≡ greatestWork fs k (j + 1) n
   told-is {memory} p {j} {n} t =
       let v = getD memory (t .place) 0 in
-      let (group, inside) = and-both (eqb (groupIn v) j) (leb (lowIn v) n && leb n (highIn v)) (t .on) in
-      let (low, high) = and-both (leb (lowIn v) n) (leb n (highIn v)) inside in
+      let (group, inside) = and-both (eqb (groupIn v) j) _ (t .on) in
+      let (low, high) = and-both (leb (lowIn v) n) _ inside in
       t .is ∙ sym (p .stairs (t .place) (t .inside) .is n (leb-true _ _ low) (leb-true _ _ high)) ∙ ap (λ (i : ℕ). greatestWork fs k (i + 1) n) (eqb-true _ _ group)
 
   -- A stair with the same work may be widened, since the greatest work does not fall.

@@ -120,12 +120,7 @@ module _ {fs : List Frame} (table : FineTable fs) (k : Frame) (cs : List Choice)
   frames-fine : (search : Search) (g : Placed) → Mem g (placedFrames fs k search cs) → FineOne g
   frames-fine search g m = let (x, l, e) = of-map (placedFrame cs) (keep (isLoad search k) fs) m in rw e (frame-fine (load-fine search x l))
 
-  -- Their work is not below that of the better frames, for a start,
-  pub better-above : (q n : ℕ) → work fs k (better fs k) cs n ≤ placedWork (placedFrames fs k (Instance q) cs) n
-  unfolding better
-  better-above q n = above fs k (keep (isLoad (Instance q) k) fs) (load-fine (Instance q)) cs n
-
-  -- and it is the work where every group's alignment is fixed, for a start and for a window.
+  -- Where every group's alignment is fixed, their work is that of the better frames, for a start, and of those ahead, for a window.
   module _ (fixed : AllFixed cs) (n : ℕ) where
     pub better-exact : (q : ℕ) → work fs k (better fs k) cs n ≡ placedWork (placedFrames fs k (Instance q) cs) n
     unfolding better
@@ -134,6 +129,11 @@ module _ {fs : List Frame} (table : FineTable fs) (k : Frame) (cs : List Choice)
     pub ahead-exact : work fs k (ahead fs k) cs n ≡ placedWork (placedFrames fs k Window cs) n
     unfolding ahead
     ahead-exact = exact fs k (keep (isLoad Window k) fs) (load-fine Window) cs n fixed
+
+  -- Elsewhere it is not below that of the better frames, for a start.
+  pub better-above : (q n : ℕ) → work fs k (better fs k) cs n ≤ placedWork (placedFrames fs k (Instance q) cs) n
+  unfolding better
+  better-above q n = above fs k (keep (isLoad (Instance q) k) fs) (load-fine (Instance q)) cs n
 
 -- ---- the faults behind them
 
