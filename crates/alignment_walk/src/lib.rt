@@ -4,11 +4,10 @@ use arith::choose;
 use arith::lesser;
 use bus_model::Frame;
 use workload::GROUP_ROWS;
-use workload::index;
+use workload::listed_row;
 use workload::phase_of;
 use workload::quotient;
 use workload::releases_before;
-use workload::row_at;
 ghost use mathlib.Core.Path.{_≡_};
 ghost use mathlib.Core.Bool.{cond};
 ghost use mathlib.Core.List.{List·Memᴰ as Mem};
@@ -50,7 +49,7 @@ pub fn next_alignment(rows: &[u32], prepared: &[u32], part: &[u32], after: u32, 
     let mut best = end;
     let mut i = 0;
     while i < part.len() {
-        let r = row_at(rows, prepared, index(part[i]));
+        let r = listed_row(rows, prepared, part, i);
         best = lesser(best, next_release(r.frame, after, r.inverse));
         i += 1;
     }
@@ -104,7 +103,7 @@ fn begin(
     let mut whole: u64 = 0;
     let mut i = 0;
     while i < part.len() {
-        let r = row_at(rows, prepared, index(part[i]));
+        let r = listed_row(rows, prepared, part, i);
         let g = r.frame;
         let times = quotient(n, g.period, r.inverse);
         notes[i] = g.length;

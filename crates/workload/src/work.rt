@@ -1,9 +1,13 @@
 // The work that a group's frames bring in the first n ticks after one of its alignments.
+use crate::prepared::Row;
 use crate::prepared::row_at;
 use bus_model::Frame;
 ghost use mathlib.Core.Path.{_≡_};
+ghost use mathlib.Core.List.{List·Memᴰ as Mem};
 ghost use Prim.Native.Nat.{_-_, _*_, _/_, _%_, _≤_, _<_, min};
+ghost use lib.ListN.{length, getD};
 ghost use Rattle.arith.specs.Releases.{releasesBefore};
+ghost use Rattle.bus_model.specs.Frame.{row};
 ghost use Rattle.bus_model.specs.Bounds.{phase, distance, demand, workAt};
 ghost use Rattle.workload.specs.Prepared.{Fine, FinePart, framesIn, tableOf};
 
@@ -106,7 +110,18 @@ pub fn frame_demand(g: Frame, a: u32, n: u32, inverse: u32) -> u64
     demand_from(g.length, g.period, d, n, inverse)
 }
 
-// That of the frames in some rows.
+// The row that stands at place i of some rows.
+pub fn listed_row(rows: &[u32], prepared: &[u32], part: &[u32], i: usize) -> Row
+    requires { ⌜ FinePart (now rows) (now prepared) (now part) ⌝ }
+    requires { ⌜ i < length (now part) ⌝ }
+    ensures { λ r. ⌜ r .frame ≡ row (tableOf (now (rows .entry)) (now (prepared .entry))) (getD (now (part .entry)) i 0) ⌝ }
+    ensures listed { λ r. ⌜ Mem (r .frame) (framesIn (tableOf (now (rows .entry)) (now (prepared .entry))) (now (part .entry))) ⌝ }
+    ensures fine { λ r. ⌜ Fine (r .frame) ⌝ }
+{
+    row_at(rows, prepared, index(part[i]))
+}
+
+// The work of the frames in some rows.
 pub fn work_in(rows: &[u32], prepared: &[u32], part: &[u32], a: u32, n: u32) -> u64
     requires { ⌜ FinePart (now rows) (now prepared) (now part) ⌝ }
     requires { ⌜ n ≤ 1000001 ⌝ }
@@ -116,7 +131,7 @@ pub fn work_in(rows: &[u32], prepared: &[u32], part: &[u32], a: u32, n: u32) -> 
     let mut sum: u64 = 0;
     let mut i = 0;
     while i < part.len() {
-        let r = row_at(rows, prepared, index(part[i]));
+        let r = listed_row(rows, prepared, part, i);
         sum += frame_demand(r.frame, a, n, r.inverse);
         i += 1;
     }

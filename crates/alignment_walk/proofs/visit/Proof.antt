@@ -1,27 +1,24 @@
 -- The loop goes through the rows, adds what the rest asks for, notes the wait for the next release of the frame in each, and keeps the least.
-use Prim.Native.Nat.{ℕ, _+_, _-_, _*_, _≤_, max}
-use mathlib.Core.Path.{_≡_, refl, sym, ap, _∙_}
+use Prim.Native.Nat.{_+_, _-_, _≤_}
+use mathlib.Core.Path.{_≡_, _∙_}
 use native.Mathlib.Omega.{arith}
-use native.Mathlib.Nat.{add-zero, max-zero, zero-add, zero-max}
 use borrow.Author.Needs.{needs}
 use lib.ListN.{length, getD}
-use Rattle.arith.specs.Lists.{sum, greatest}
-use Rattle.arith.specs.laws.Walks.{Through, through-start, through-more, through-end, sum-more, greatest-more}
 use Rattle.bus_model.specs.declared.Frame.{Frame}
 use Rattle.bus_model.specs.Frame.{row}
-use Rattle.workload.specs.Prepared.{Fine, framesIn, tableOf}
-use Rattle.workload.specs.laws.Fine.{part-fine}
-use Rattle.alignment_walk.specs.Steps.{nextRelease, waitFrom, extraDemand, NotesOf}
-use Rattle.alignment_walk.specs.laws.Parts.{next-late, lead, next-or-end}
+use Rattle.workload.specs.Prepared.{Fine, tableOf}
+use Rattle.workload.specs.laws.Fine.{part-listed, SumTo, sum-none, sum-next, sum-all}
+use Rattle.alignment_walk.specs.Steps.{waitFrom, extraDemand, NotesOf}
+use Rattle.alignment_walk.specs.laws.Parts.{next-late, FirstTo, first-none, first-next, next-or-end}
 use Rattle.alignment_walk.specs.laws.Steps.{NotedTo, NotedFrom, note-none, note-more, note-left, note-all, extra-small, wait-rest, wait-next}
 use Rattle.alignment_walk.proofs.visit.Statement.{statement}
 use Rattle.alignment_walk.proofs.visit.Tie as tie
 
 abbrev Inv-loop : tie.InvT-loop
 Inv-loop rows prepared part gap a n end notes waits₀ extra₀ least₀ i₀ waits extra least i =
-    Through (λ ms. sum (extraDemand a n) (framesIn (tableOf rows prepared) ms)) _+_ part (sum (extraDemand a n) (framesIn (tableOf rows prepared) part)) extra i
-    × Through (λ ms. lead (a + 1) end (framesIn (tableOf rows prepared) ms)) (λ b. max (end - b)) part (lead (a + 1) end (framesIn (tableOf rows prepared) part)) (a + least) i
-    × (extra ≤ 400 * i) × (least ≤ end - a)
+    SumTo (extraDemand a n) 400 (tableOf rows prepared) part extra i
+    × FirstTo (a + 1) end (tableOf rows prepared) part (a + least) i
+    × (least ≤ end - a)
     × NotedTo (waitFrom a (a + 1)) (tableOf rows prepared) part waits i × NotedFrom (waitFrom (a - gap) a) (tableOf rows prepared) part waits i
 
 abbrev μ-loop : tie.MeasureT-loop
@@ -30,14 +27,7 @@ abbrev μ-loop : tie.MeasureT-loop
 loop-holds : tie.Need-loop-holds Inv-loop μ-loop
 loop-holds c =
     let s = c .before .before .before in
-    let none : s .args .end - (s .args .a + (s .args .end - s .args .a)) ≡ 0 = omega (arith, s .pre .1 .0) in (
-      through-start _ _ _ _ (zero-add _),
-      through-start _ _ _ _ (rw none (zero-max _)),
-      omega arith,
-      omega arith,
-      note-none (s .pre .1 .1 .1 .size),
-      record { each = λ j late l. s .pre .1 .1 .1 .each j l },
-    )
+    (sum-none, first-none (omega (arith, s .pre .1 .0)), omega arith, note-none (s .pre .1 .1 .1 .size), record { each = λ j late l. s .pre .1 .1 .1 .each j l })
 
 -- the frame of the row
 abbrev frame : (c : tie.In-loop Inv-loop μ-loop) → Frame
@@ -45,7 +35,7 @@ frame c = let s = c .before .before .before .before .before in row (tableOf (s .
 
 -- it is within its limits
 fine : (c : tie.In-loop Inv-loop μ-loop) → Fine (frame c)
-fine c = part-fine (c .before .before .before .before .before .pre .0) (c .loop-test .taken) refl
+fine c = let s = c .before .before .before .before .before in s .pre .0 .fine _ (part-listed (tableOf (s .args .rows .now) (s .args .prepared .now)) (s .args .part .now) (c .loop-test .taken))
 
 -- and one of 64
 few : (c : tie.In-loop Inv-loop μ-loop) → c .before .loop .i + 1 ≤ 64
@@ -57,7 +47,7 @@ notes c = c .before .before .before .before .before .pre .1 .1 .0 .each (c .befo
 
 -- how long it is waited for from the last alignment
 noted : (c : tie.In-loop Inv-loop μ-loop) → let a = c .before .before .before .before .before .args in getD (c .before .loop .waits) (c .before .loop .i) 0 ≡ waitFrom (a .a - a .gap) (a .a) (frame c)
-noted c = c .before .loop .inv .5 .each (c .before .loop .i) (omega arith) (c .loop-test .taken)
+noted c = c .before .loop .inv .4 .each (c .before .loop .i) (omega arith) (c .loop-test .taken)
 
 -- and from this one
 waited : (c : tie.In-loop Inv-loop μ-loop) → let a = c .before .before .before .before .before .args in getD (c .before .loop .waits) (c .before .loop .i) 0 - a .gap ≡ waitFrom (a .a) (a .a) (frame c)
@@ -77,7 +67,7 @@ extra c =
     (is, omega (arith, is, extra-small (fine i) (s .args .a) (s .args .n)))
 
 add-extra : tie.Need-add-extra Inv-loop μ-loop
-add-extra c = omega (arith, extra (c), c .before .before .before .before .before .loop .inv .2, few (c .before .before .before .before))
+add-extra c = omega (arith, extra c, c .before .before .before .before .before .loop .inv .0 .small, few (c .before .before .before .before))
 
 loop-again : tie.Need-loop-again Inv-loop μ-loop
 loop-again c =
@@ -88,28 +78,20 @@ loop-again c =
     let a = s .args in
     let asked = extra (c .before .before .before) in
     let later = rw (notes i .period) at (c .before .wait-after .ensures) ∙ wait-next (fine i) (a .a) (waited i) in (
-      through-more _ _ _ _ 0 (l .inv .0) less
-          (λ ms. sum-more (extraDemand (a .a) (a .n)) (l .extra) _ (ap (λ (x : ℕ). l .extra + x) (asked .0)) (framesIn (tableOf (a .rows .now) (a .prepared .now)) ms)),
-      through-more _ _ _ _ 0 (l .inv .1) less
-          (λ ms. greatest-more (λ g. a .end - nextRelease (a .a + 1) g) (a .end - (a .a + l .least)) _ (omega (arith, c .lesser .ensures, later, next-late (fine i) (a .a + 1))) (framesIn (tableOf (a .rows .now) (a .prepared .now)) ms)),
-      omega (arith, l .inv .2, asked .1),
-      omega (arith, l .inv .3, c .lesser .ensures),
-      note-more _ (l .inv .4) (omega (arith, few i)) later,
-      note-left _ (l .inv .5),
+      sum-next (l .inv .0) less (asked .0) (asked .1),
+      first-next {x = a .a + c .before .wait-after .result} (l .inv .1) less (omega (arith, later, next-late (fine i) (a .a + 1))) (omega (arith, c .lesser .ensures)),
+      omega (arith, l .inv .2, c .lesser .ensures),
+      note-more _ (l .inv .3) (omega (arith, few i)) later,
+      note-left _ (l .inv .4),
     )
 
 returns : tie.Need-returns Inv-loop μ-loop
-unfolding sum greatest
 returns c =
     let s = c .before .before .before .before .before in
     let l = c .before .loop in
-    let over = c .loop-test .left in (
-      sym (add-zero _) ∙ through-end _ _ _ _ (l .inv .0) over,
-      (
-        next-or-end _ _ _ (s .pre .0) _ _ (sym (max-zero _) ∙ through-end _ _ _ _ (l .inv .1) over) (omega (arith, l .inv .3, s .pre .1 .0)),
-        ((omega (arith, l .inv .2, l .inv .0 .inside, s .pre .0 .few), l .inv .3), note-all (l .inv .4) over),
-      ),
-    )
+    let over = c .loop-test .left in
+    let all = sum-all (l .inv .0) over (s .pre .0 .few) in
+    (all .0, (next-or-end (s .pre .0) (l .inv .1) over (omega (arith, l .inv .2, s .pre .1 .0)), ((all .1, l .inv .2), note-all (l .inv .3) over)))
 
 pub visit-spec : {M : Type 1} → statement M
 visit-spec =

@@ -1,23 +1,25 @@
 -- The frames in some rows: their next releases, and the instants that these give.
-use Prim.Native.Nat.{ℕ, _+_, _-_, _*_, _/_, _%_, _≤_, _<_, max}
+use Prim.Native.Nat.{ℕ, _+_, _-_, _*_, _/_, _%_, _≤_, _<_, min, max}
 use mathlib.Core.Path.{_≡_, refl, sym, ap, _∙_}
 use mathlib.Core.List.{List, [], _∷_}
 use mathlib.Core.Bool.{Bool}
 use native.Mathlib.Omega.{arith}
 use native.Mathlib.Decide.{decLe}
-use native.Mathlib.Nat.{mul-le-mul-right, mod-add-div', add-mod-right, add-mul-mod-self-right, mod-eq-of-lt}
+use native.Mathlib.Nat.{mul-le-mul-right, mod-add-div', add-mod-right, add-mul-mod-self-right, mod-eq-of-lt, max-zero, zero-max}
 use lib.Dec.{T}
-use lib.ListN.{length}
+use lib.ListN.{length, getD}
 use Rattle.arith.specs.Lists.{greatest}
 use Rattle.arith.specs.Least.{least}
 use Rattle.arith.specs.Releases.{releasesBefore}
 use Rattle.arith.specs.laws.Members.{exists-mem, of-exists}
 use Rattle.arith.specs.laws.Sums.{le-greatest, greatest-exceeds}
+use Rattle.arith.specs.laws.Walks.{Through, through-start, through-more, through-end, greatest-more}
 use Rattle.arith.specs.laws.Releases.{count-le, next-after}
 use Rattle.arith.specs.laws.Least.{least-here, least-skip, least-none, least-within}
 use Rattle.arith.specs.declared.Found.{Found}
 use Rattle.arith.specs.declared.Found.the-variants.{At, Nothing}
 use Rattle.bus_model.specs.declared.Frame.{Frame}
+use Rattle.bus_model.specs.Frame.{row}
 use Rattle.bus_model.specs.Bounds.{phase, isReleasedAt, distance, orEmpty}
 use Rattle.bus_model.specs.theory.Frames.{phase-fits}
 use Rattle.bus_model.specs.theory.Alignment.{released-at, released-turn, distance-lt, distance-reaches}
@@ -79,41 +81,55 @@ module _ {g : Frame} (fine : Fine g) where
   wait-first a inside = ap (λ (x : ℕ). x - a) (next-phase ∙ next-stays 0 a (omega arith) (omega (arith, next-phase)))
 
 -- how long before e that is, for the frame that is released first
-abbrev pub lead : ℕ → ℕ → List Frame → ℕ
+abbrev lead : ℕ → ℕ → List Frame → ℕ
 lead a e = greatest (λ g. e - nextRelease a g)
 
-module _ (rows p part : List ℕ) (fine : FinePart rows p part) (a e : ℕ) where
+-- a loop through some rows has the first next release of the frames before place i, cut at e
+pub record FirstTo (a e : ℕ) (fs : List Frame) (part : List ℕ) (best i : ℕ) : Type 0 where
+  pub through : Through (λ ms. lead a e (framesIn fs ms)) (λ b. max (e - b)) part (lead a e (framesIn fs part)) best i
+
+module _ {a e : ℕ} {fs : List Frame} {part : List ℕ} {best : ℕ} where
+  pub first-none : e ≤ best → FirstTo a e fs part best 0
+  first-none over = let none : e - best ≡ 0 = omega arith in record { through = through-start _ _ _ _ (rw none (zero-max _)) }
+
+  pub first-next : {i x next : ℕ} → FirstTo a e fs part best i → i < length part → x ≡ nextRelease a (row fs (getD part i 0)) → next ≡ min best x → FirstTo a e fs part next (i + 1)
+  first-next s less is least = record { through = through-more _ _ _ _ 0 (s .through) less (λ ms. greatest-more (λ g. e - nextRelease a g) (e - best) _ (omega arith) (framesIn fs ms)) }
+
+module _ {rows p part : List ℕ} (fine : FinePart rows p part) {a e best i : ℕ} (first : FirstTo a e (tableOf rows p) part best i) (over : length part ≤ i) where
   abbrev fs : List Frame
   fs = tableOf rows p
 
+  is : e - best ≡ lead a e (framesIn fs part)
+  unfolding greatest
+  is = sym (max-zero _) ∙ through-end _ _ _ _ (first .through) over
+
   -- No instant at a or later comes before that release.
-  none-before : {best m : ℕ} → e - best ≡ lead a e (framesIn fs part) → a ≤ m → m < best → m < e → ¬ T (isInstant (framesIn fs part) m)
-  none-before {best} {m} is low less inside t =
+  none-before : {m : ℕ} → a ≤ m → m < best → m < e → ¬ T (isInstant (framesIn fs part) m)
+  none-before {m} low less inside t =
       let (g, l, u) = of-exists (isReleasedAt m) (framesIn fs part) t in
-      omega (arith, next-first (fine .fine g l) a m low u, le-greatest (λ (h : Frame). e - nextRelease a h) l)
+      omega (arith, is, next-first (fine .fine g l) a m low u, le-greatest (λ (h : Frame). e - nextRelease a h) l)
 
   -- The search for an instant finds it, where it is below e.
-  pub next-is : {best : ℕ} → e - best ≡ lead a e (framesIn fs part) → best < e → At best ≡ least (isInstant (framesIn fs part)) (e - a) a
-  next-is {best} is inside =
+  pub next-is : best < e → At best ≡ least (isInstant (framesIn fs part)) (e - a) a
+  next-is inside =
       let p = isInstant (framesIn fs part) in
-      let (g, l, less) = greatest-exceeds (λ (h : Frame). e - nextRelease a h) (e - best - 1) (framesIn fs part) (omega arith) in
-      let same : nextRelease a g ≡ best = omega (arith, le-greatest (λ (h : Frame). e - nextRelease a h) l) in
+      let (g, l, less) = greatest-exceeds (λ (h : Frame). e - nextRelease a h) (e - best - 1) (framesIn fs part) (omega (arith, is)) in
+      let same : nextRelease a g ≡ best = omega (arith, is, le-greatest (λ (h : Frame). e - nextRelease a h) l) in
       let late : a ≤ best = omega (arith, next-after (phase g) (fine .fine g l .period-low) a) in
       let passes : T (p best) = rw same at (exists-mem (isReleasedAt (nextRelease a g)) l (next-released (fine .fine g l) a)) in
-      sym (least-skip p e a best late (omega arith) (λ m low less. none-before is low less (omega arith)) ∙ least-here p e best inside passes)
+      sym (least-skip p e a best late (omega arith) (λ m low less. none-before low less (omega arith)) ∙ least-here p e best inside passes)
 
   -- Elsewhere it finds none.
-  pub next-none : {best : ℕ} → e - best ≡ lead a e (framesIn fs part) → e ≤ best → Nothing ≡ least (isInstant (framesIn fs part)) (e - a) a
-  next-none {best} is over =
-      sym (least-none (isInstant (framesIn fs part)) (e - a) a (λ m low high. none-before is low (omega arith) (omega arith)))
+  pub next-none : e ≤ best → Nothing ≡ least (isInstant (framesIn fs part)) (e - a) a
+  next-none high = sym (least-none (isInstant (framesIn fs part)) (e - a) a (λ m low less. none-before low (omega arith) (omega arith)))
 
   -- So that release, cut at e, is what the search ends with.
-  pub next-or-end : {best : ℕ} → e - best ≡ lead a e (framesIn fs part) → best ≤ e → best ≡ orEnd e (least (isInstant (framesIn fs part)) (e - a) a)
+  pub next-or-end : best ≤ e → best ≡ orEnd e (least (isInstant (framesIn fs part)) (e - a) a)
   unfolding orEnd
-  next-or-end {best} is low =
+  next-or-end low =
       elim (decLe e best) [
-        | yes over ↦ rw (← next-none is over) (omega arith)
-        | no under ↦ rw (← next-is is (omega arith))
+        | yes high ↦ rw (← next-none high) (omega arith)
+        | no under ↦ rw (← next-is (omega arith))
       ]
 
 -- ---- a search below e that ended at m

@@ -3,7 +3,7 @@ use Prim.Native.Nat.{ℕ, _+_, _-_, _/_, _%_, _≤_, _<_}
 use mathlib.Core.Path.{_≡_, refl, ap, _∙_}
 use mathlib.Core.Logic.{_≢_}
 use mathlib.Core.Bool.{Bool, true, false, cond}
-use mathlib.Core.List.{List, [], _∷_, List·Memᴰ as Mem, List·Memᴰ·head as here, List·Memᴰ·tail as there, Memᴰ·map}
+use mathlib.Core.List.{List, [], _∷_, List·Memᴰ as Mem, List·Memᴰ·head as here, List·Memᴰ·tail as there}
 use native.Mathlib.Omega.{arith}
 use native.Mathlib.Decide.{decLe}
 use native.Mathlib.Nat.{mod-lt, mod-add-div', mul-le-mul-right, mul-le-mul, div-le-self}
@@ -16,7 +16,7 @@ use Rattle.arith.specs.Lists.{sum}
 use Rattle.arith.specs.Least.{least}
 use Rattle.arith.specs.Releases.{releasesBefore}
 use Rattle.arith.specs.declared.Found.the-variants.{At}
-use Rattle.arith.specs.laws.Members.{exists-mem, mem-getD}
+use Rattle.arith.specs.laws.Members.{exists-mem}
 use Rattle.arith.specs.laws.Least.{least-within, least-le}
 use Rattle.arith.specs.laws.Releases.{counted, count-le, next-after}
 use Rattle.bus_model.specs.declared.Frame.{Frame}
@@ -25,7 +25,7 @@ use Rattle.bus_model.specs.Bounds.{phase, isReleasedAt, distance, demand, workA
 use Rattle.bus_model.specs.theory.Alignment.{distance-lt}
 use Rattle.workload.specs.Prepared.{Fine, FinePart, framesIn, tableOf, isInstant}
 use Rattle.alignment_walk.specs.Steps.{nextRelease, waitFrom, restOf, wholeDemand, extraDemand, NotesOf, Notes, Noted}
-use Rattle.workload.specs.laws.Fine.{of-fine}
+use Rattle.workload.specs.laws.Fine.{of-fine, part-listed}
 use Rattle.alignment_walk.specs.laws.Parts.{next-released, next-late, next-distance, next-stays, next-period, next-phase}
 
 -- ---- the demand
@@ -178,7 +178,7 @@ module _ {rows p part : List ℕ} (fine : FinePart rows p part) (a e : ℕ) {b :
   noted-next last noted = record {
     size = noted .size;
     each = λ i l.
-        let m = Memᴰ·map (row fs) (mem-getD part i 0 l) in
+        let m = part-listed fs part l in
         let (low, high, t) = least-within _ _ found in
         noted .each i l ∙ ap (λ (t : ℕ). t - last) (next-stays (fine .fine _ m) a b low (next-inside m));
   }
