@@ -22,9 +22,6 @@ same s = omega (arith, s .pre .1 .0)
 part-of-requires : tie.Need-part-of-requires
 part-of-requires c κs = let s = c .before .before in (s .pre .0 .filled .size, less s, s .pre .0 .by-group .inside (s .args .group - 1) (less s))
 
-cycle-of-requires : tie.Need-cycle-of-requires
-cycle-of-requires c κs = let s = c .before .before .before in (s .pre .0 .filled .size, less s)
-
 next-alignment-requires : tie.Need-next-alignment-requires
 next-alignment-requires c κs =
     let s = c .before .before .before .before in
@@ -45,6 +42,6 @@ next-of-spec =
     (tie.spec
     (λ c. search needs)
     part-of-requires
-    cycle-of-requires
+    (λ c κs. search needs)
     next-alignment-requires
     returns)

@@ -1,7 +1,6 @@
 -- The loop goes through the rows and adds up the demand of the frame in each.
 use Prim.Native.Nat.{ℕ, _-_}
 use mathlib.Core.Path.{ap, _∙_}
-use native.Mathlib.Omega.{arith}
 use borrow.Author.Needs.{needs}
 use lib.ListN.{length}
 use Rattle.bus_model.specs.declared.Frame.{Frame}
@@ -19,9 +18,6 @@ abbrev μ-loop : tie.MeasureT-loop
 
 loop-holds : tie.Need-loop-holds Inv-loop μ-loop
 loop-holds c = sum-none
-
-add-sum : tie.Need-add-sum Inv-loop μ-loop
-add-sum c = let s = c .before .before .before .before .before .before .before in omega (arith, c .before .before .before .loop .inv .small, c .before .before .loop-test .taken, c .frame-demand .ensures .1, s .pre .0 .few)
 
 loop-again : tie.Need-loop-again Inv-loop μ-loop
 loop-again c =
@@ -42,7 +38,7 @@ work-in-spec =
     loop-holds
     (λ c κs. search needs)
     (λ c κs. search needs)
-    add-sum
+    (λ c. search needs)
     (λ c. search needs)
     (λ c. search needs)
     loop-again
