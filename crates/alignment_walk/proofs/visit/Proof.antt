@@ -45,25 +45,23 @@ few c = omega (arith, c .loop-test .taken, c .before .before .before .before .be
 notes : (c : tie.In-loop Inv-loop μ-loop) → NotesOf (c .before .before .before .before .before .args .n) (frame c) (c .before .before .before .before .before .args .notes .now) (c .before .loop .i)
 notes c = c .before .before .before .before .before .pre .1 .1 .0 .each (c .before .loop .i) (c .loop-test .taken)
 
--- how long it is waited for from the last alignment
-noted : (c : tie.In-loop Inv-loop μ-loop) → let a = c .before .before .before .before .before .args in getD (c .before .loop .waits) (c .before .loop .i) 0 ≡ waitFrom (a .a - a .gap) (a .a) (frame c)
-noted c = c .before .loop .inv .4 .each (c .before .loop .i) (omega arith) (c .loop-test .taken)
-
--- and from this one
-waited : (c : tie.In-loop Inv-loop μ-loop) → let a = c .before .before .before .before .before .args in getD (c .before .loop .waits) (c .before .loop .i) 0 - a .gap ≡ waitFrom (a .a) (a .a) (frame c)
-waited c = omega (arith, noted c, next-late (fine c) (c .before .before .before .before .before .args .a), c .before .before .before .before .before .pre .1 .0)
+-- how long it is waited for, from the last alignment and from this one
+waited : (c : tie.In-loop Inv-loop μ-loop) → let a = c .before .before .before .before .before .args in let w = getD (c .before .loop .waits) (c .before .loop .i) 0 in (a .gap ≤ w) × (w - a .gap ≡ waitFrom (a .a) (a .a) (frame c))
+waited c =
+    let s = c .before .before .before .before .before in
+    let is = c .before .loop .inv .4 .each (c .before .loop .i) (omega arith) (c .loop-test .taken) in
+    let late = next-late (fine c) (s .args .a) in
+    (omega (arith, s .pre .1 .0), omega (arith, s .pre .1 .0))
 
 sub-wait : tie.Need-sub-wait Inv-loop μ-loop
-sub-wait c =
-    let i = c .before in
-    omega (arith, noted i, next-late (fine i) (c .before .before .before .before .before .before .args .a), c .before .before .before .before .before .before .pre .1 .0)
+sub-wait c = omega (arith, waited (c .before) .0)
 
 -- what the rest asks for
 extra : (c : tie.After-in-rest Inv-loop μ-loop) → let i = c .before .before .before .before in let s = c .before .before .before .before .before .before .before .before .before in (c .in-rest .result ≡ extraDemand (s .args .a) (s .args .n) (frame i)) × (c .in-rest .result ≤ 400)
 extra c =
     let i = c .before .before .before .before in
     let s = c .before .before .before .before .before .before .before .before .before in
-    let is = rw (notes i .length, notes i .rest) at (c .in-rest .ensures) ∙ wait-rest (fine i) (s .args .a) (waited i) (s .args .n) in
+    let is = rw (notes i .length, notes i .rest) at (c .in-rest .ensures) ∙ wait-rest (fine i) (s .args .a) (waited i .1) (s .args .n) in
     (is, omega (arith, is, extra-small (fine i) (s .args .a) (s .args .n)))
 
 add-extra : tie.Need-add-extra Inv-loop μ-loop
@@ -77,7 +75,7 @@ loop-again c =
     let less = c .before .before .before .before .before .before .before .loop-test .taken in
     let a = s .args in
     let asked = extra (c .before .before .before) in
-    let later = rw (notes i .period) at (c .before .wait-after .ensures) ∙ wait-next (fine i) (a .a) (waited i) in (
+    let later = rw (notes i .period) at (c .before .wait-after .ensures) ∙ wait-next (fine i) (a .a) (waited i .1) in (
       sum-next (l .inv .0) less (asked .0) (asked .1),
       first-next {x = a .a + c .before .wait-after .result} (l .inv .1) less (omega (arith, later, next-late (fine i) (a .a + 1))) (omega (arith, c .lesser .ensures)),
       omega (arith, l .inv .2, c .lesser .ensures),
