@@ -1,7 +1,6 @@
 -- The tool's call under the premise that faults begin at least g ticks apart (document 02, request 9).
 use Prim.Native.Nat.{ℕ}
 use mathlib.Core.List.{List}
-use lib.IntN.{ℤ, pos}
 use Rattle.table_checks.specs.declared.Checked.{Checked}
 use Rattle.table_checks.specs.declared.Checked.the-variants.{Passed, Failed}
 use Rattle.frame_table.specs.Text.{fieldsOf}
@@ -13,9 +12,6 @@ use Rattle.row_judgement.specs.declared.Explained.{Explained}
 use Rattle.row_judgement.specs.Refusal.{ofTable}
 use Rattle.row_judgement.specs.Judge.{judgeFaults}
 use Rattle.row_judgement.specs.Explain.{explainFaults}
-use Rattle.certifier.specs.declared.Listed.{Listed}
-use Rattle.certifier.specs.declared.Listed.the-variants.{Written, NotListed}
-use Rattle.certifier.specs.Encode.{encodeRefusal}
 use Rattle.certifier.specs.ExplainEntry.{turnedBack}
 
 -- lengths and table as bytes: the checks on files, then those on lengths and rows, 9, 17
@@ -33,8 +29,3 @@ explainFaultsRead Passed ls file r g = explainFaults ls (fieldsOf file) r g
 
 unfoldable pub explainFaultsFile : List ℕ → List ℕ → ℕ → ℕ → Explained
 explainFaultsFile lengths file r g = explainFaultsRead (inputCheck lengths file) (lengthsOf lengths) file r g
-
--- how many bytes of a listing were written
-unfoldable pub encodeListed : Listed → ℤ
-encodeListed (Written n) = pos n
-encodeListed (NotListed f) = encodeRefusal f

@@ -3,6 +3,7 @@ pub mod Small
 pub mod Encoding
 pub mod Listing
 pub mod Answers
+pub mod FaultsListing
 pub mod SimulateEntry
 pub mod Before
 pub mod Ungrouped

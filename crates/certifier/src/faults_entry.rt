@@ -16,8 +16,9 @@ ghost use Rattle.table_checks.specs.Checks.{Loadable};
 ghost use Rattle.frame_table.specs.Table.{readCheck};
 ghost use Rattle.certifier.specs.Encode.{encodeJudged};
 ghost use Rattle.certifier.specs.ExplainEntry.{encodeExplained, shownAfter};
-ghost use Rattle.certifier.specs.FaultsEntry.{judgeFaultsRead, judgeFaultsFile, explainFaultsRead, explainFaultsFile, encodeListed};
-ghost use Rattle.certifier.specs.FaultsListing.{listFaultsFile, listedFile};
+ghost use Rattle.certifier.specs.FaultsEntry.{judgeFaultsRead, judgeFaultsFile, explainFaultsRead, explainFaultsFile};
+ghost use Rattle.certifier.specs.FaultsListing.{listedFile, listedReturns, listFaultsReturns};
+ghost use Rattle.certifier.specs.LogEntry.{encodeAnswered};
 ghost use Rattle.certifier.specs.Steps.{CountableListing};
 
 // Judges the claim of a row of the table, by the lengths, where faults begin at least `gap` ticks apart.
@@ -94,7 +95,7 @@ pub extern "C" fn certifier_list_faults(
     gap: u64,
     out: &mut [u8],
 ) -> i64
-    ensures { λ r. ⌜ r ≡ encodeListed (listFaultsFile (now (lengths .entry)) (now (table .entry)) gap (now (out .entry))) ⌝ }
+    ensures { λ r. ⌜ r ≡ encodeAnswered (listFaultsReturns (now (lengths .entry)) (now (table .entry)) gap (now (out .entry))) ⌝ }
     ensures { λ _. ⌜ now (out .exit) ≡ listedFile (now (lengths .entry)) (now (table .entry)) gap (now (out .entry)) ⌝ }
 {
     encode_listed(list_faults(lengths, table, gap, out))
@@ -103,7 +104,7 @@ pub extern "C" fn certifier_list_faults(
 // How many bytes were written, or the refusal.
 fn encode_listed(listed: Listed) -> i64
     requires { ⌜ CountableListing listed ⌝ }
-    ensures { λ r. ⌜ r ≡ encodeListed listed ⌝ }
+    ensures { λ r. ⌜ r ≡ encodeAnswered (listedReturns listed) ⌝ }
 {
     match listed {
         Listed::Written(n) => n as i64,

@@ -12,13 +12,14 @@ use table_checks::Checked;
 ghost use mathlib.Core.Path.{_≡_};
 ghost use Rattle.table_checks.specs.Checks.{Loadable, Accepted};
 ghost use Rattle.frame_table.specs.Table.{readCheck};
-ghost use Rattle.certifier.specs.FaultsListing.{listedBy, listFaultsRows, listedRows, listFaultsRead, listedRead, listFaultsFile, listedFile};
+ghost use Rattle.certifier.specs.FaultsListing.{listedBy, listFaultsRows, listedRows, listFaultsRead, listedRead, listFaultsFile, listedFile, listedReturns, listFaultsReturns};
 
 // Lists the judgements of the table in a file, by the lengths in another, where faults begin at least `gap` ticks apart. A refusal leaves the
 // output as it is.
 pub fn list_faults(lengths: &[u8], table: &[u8], gap: u64, out: &mut [u8]) -> Listed
     ensures { λ r. ⌜ r ≡ listFaultsFile (now (lengths .entry)) (now (table .entry)) gap (now (out .entry)) ⌝ }
     ensures { λ _. ⌜ now (out .exit) ≡ listedFile (now (lengths .entry)) (now (table .entry)) gap (now (out .entry)) ⌝ }
+    ensures in_numbers { λ r. ⌜ listedReturns r ≡ listFaultsReturns (now (lengths .entry)) (now (table .entry)) gap (now (out .entry)) ⌝ }
 {
     let loaded = lengths_file::read(lengths);
     let checked = loaded.checked;

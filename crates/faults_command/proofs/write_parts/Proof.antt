@@ -11,7 +11,7 @@ returns c =
     let xs : List ℕ = c .before .before .before .before .before .before .before .before .before .before .before .before .before .args .input .now in
     let end = c .before .before .before .before .before .before .before .before .before .before .lengths-end .ensures in
     let l = c .before .before .before .before .before .before .list-faults .ensures in
-    rw (← first-part xs _ end, ← second-part xs _ end, ← l .0, ← l .1) (c .before .before .write-listed .ensures)
+    rw (← first-part xs _ end, ← second-part xs _ end, ← l .0, ← l .1 .0) (c .before .before .write-listed .ensures)
 
 pub write-parts-spec : {M : Type 1} → statement M
 write-parts-spec =

@@ -43,7 +43,7 @@ number-range NoWindow = omega arith
 number-range TooManyScenarios = omega arith
 number-range GapOutside = omega arith
 
-number-some : (cause : Cause) → numberOf cause ≡ 0 → ⊥
+pub number-some : (cause : Cause) → numberOf cause ≡ 0 → ⊥
 number-some cause e = let r = number-range cause in omega arith
 
 -- the cause with a number: the table's, or one of these

@@ -2,7 +2,7 @@
 use mathlib.Core.Path.{sym, ap, subst, _∙_}
 use borrow.Author.Needs.{needs}
 use Rattle.arith.specs.laws.Signed.{kept}
-use Rattle.certifier.specs.FaultsEntry.{encodeListed}
+use Rattle.certifier.specs.LogEntry.{encodeAnswered}
 use Rattle.certifier.specs.Steps.{CountableListing}
 use Rattle.certifier.specs.laws.Answers.{faults-countable}
 use Rattle.certifier.proofs.faults_entry.certifier_list_faults.Statement.{statement}
@@ -15,8 +15,8 @@ encode-listed-requires c κs =
 
 returns : tie.Need-returns
 returns c =
-    let both = c .before .before .before .list-faults .ensures in
-    (kept _ (c .encode-listed .ok) ∙ c .encode-listed .ensures ∙ ap encodeListed (both .0), both .1)
+    let e = c .before .before .before .list-faults .ensures in
+    (kept _ (c .encode-listed .ok) ∙ c .encode-listed .ensures ∙ ap encodeAnswered (e .1 .1), e .1 .0)
 
 pub certifier-list-faults-spec : {M : Type 1} → statement M
 certifier-list-faults-spec = tie.close (tie.spec (λ c κs. search needs) encode-listed-requires (λ c. search needs) returns)

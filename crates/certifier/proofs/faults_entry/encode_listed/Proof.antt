@@ -3,8 +3,12 @@ use Prim.Native.Nat.{_^_, _<_}
 use mathlib.Core.Path.{subst, _∙_}
 use native.Mathlib.Omega.{arith}
 use borrow.Author.Needs.{needs}
+use borrow.Author.Tests.{ne-eqb}
 use Rattle.arith.specs.laws.Signed.{toZ-pos, kept}
-use Rattle.certifier.specs.FaultsEntry.{encodeListed}
+use Rattle.row_judgement.specs.laws.Returns.{number-some}
+use Rattle.certifier.specs.FaultsListing.{listedReturns}
+use Rattle.certifier.specs.LogEntry.{encodeAnswered}
+use Rattle.certifier.specs.Encode.{encodeRefusal}
 use Rattle.certifier.specs.Steps.{CountableListing}
 use Rattle.certifier.proofs.faults_entry.encode_listed.Statement.{statement}
 use Rattle.certifier.proofs.faults_entry.encode_listed.Tie as tie
@@ -17,12 +21,12 @@ cast-result : tie.Need-cast-result
 cast-result c = record { sfits = omega (arith, small c) }
 
 returns : tie.Need-returns
-unfolding encodeListed
+unfolding encodeAnswered listedReturns
 returns c = rw (c .before .listed .given .1) (toZ-pos _ (omega (arith, small c)))
 
 returns-2 : tie.Need-returns-2
-unfolding encodeListed
-returns-2 c = rw (c .before .before .listed2 .given .1) (kept _ (c .encode-refusal .ok) ∙ c .encode-refusal .ensures)
+unfolding encodeAnswered listedReturns encodeRefusal
+returns-2 c = rw (c .before .before .listed2 .given .1, ne-eqb _ 0 (number-some (c .before .before .listed2 .given .0 .0 .cause))) (kept _ (c .encode-refusal .ok) ∙ c .encode-refusal .ensures)
 
 pub encode-listed-spec : {M : Type 1} → statement M
 encode-listed-spec =

@@ -4,6 +4,7 @@ use borrow.Author.Needs.{needs}
 use Rattle.lengths_file.specs.laws.Input.{ReadLengths, lengths-read, lengths-refused}
 use Rattle.certifier.specs.declared.Listed.the-variants.{NotListed}
 use Rattle.certifier.specs.FaultsListing.{listFaultsRead, listedRead}
+use Rattle.certifier.specs.laws.FaultsListing.{listed-told}
 use Rattle.certifier.proofs.faults_listing.list_faults.Statement.{statement}
 use Rattle.certifier.proofs.faults_listing.list_faults.Tie as tie
 
@@ -18,12 +19,13 @@ returns : tie.Need-returns
 unfolding listFaultsRead listedRead
 returns c =
     let s = c .before .before .before .before .before .before .before .before in
-    rw (lengths-refused _ (s .args .table .now) (c .before .before .before .before .read .ensures .0) (c .before .before .checked .given .1)) (ap NotListed (c .of-table .ensures), refl)
+    listed-told _ _ _ _ (
+    rw (lengths-refused _ (s .args .table .now) (c .before .before .before .before .read .ensures .0) (c .before .before .checked .given .1)) (ap NotListed (c .of-table .ensures), refl))
 
 returns-2 : tie.Need-returns-2
 returns-2 c =
     let l = loaded (c .before .before .before .before) in
-    rw (l .passed, ← l .is) (c .before .before .list-faults-table .ensures)
+    listed-told _ _ _ _ (rw (l .passed, ← l .is) (c .before .before .list-faults-table .ensures))
 
 pub list-faults-spec : {M : Type 1} → statement M
 list-faults-spec =
