@@ -1,13 +1,11 @@
 // The entry for C that gives the busiest stretch of a log, and the sheet of its rows.
+use crate::encode::encode_turned;
 use log_load::Answer;
-use log_load::Refusal;
 ghost use mathlib.Core.Path.{_≡_};
-ghost use Prim.Native.Nat.{ℕ, _+_, _*_, _≤_};
-ghost use lib.IntN.{pos, negℤ};
+ghost use Prim.Native.Nat.{ℕ, _≤_};
 ghost use Rattle.frame_table.specs.Text.{fieldsOf};
 ghost use Rattle.log_check.specs.Check.{linesOf};
 ghost use Rattle.log_load.specs.declared.Answer.the-variants.{Done};
-ghost use Rattle.log_load.specs.Refusal.{numberOf};
 ghost use Rattle.log_load.specs.Sheet.{sheetOf};
 ghost use Rattle.log_load.specs.Answer.{fileAnswer, areaAfter};
 ghost use Rattle.log_load.specs.Returns.{answerReturns, fileReturns};
@@ -35,15 +33,9 @@ fn encode_sheet(answer: Answer) -> i64
 {
     match answer {
         Answer::Done(n) => n as i64,
-        Answer::Refused(refusal) => encode_sheet_refusal(refusal),
+        Answer::Refused(refusal) => {
+            let cause = refusal.cause;
+            encode_turned(log_load::number(cause), refusal.place)
+        }
     }
-}
-
-// Minus (number × 10000 + place).
-fn encode_sheet_refusal(refusal: Refusal) -> i64
-    ensures { λ r. ⌜ r ≡ negℤ (pos (numberOf (refusal .cause) * 10000 + refusal .place)) ⌝ }
-{
-    let cause = refusal.cause;
-    let n = log_load::number(cause) as u64 * 10_000 + refusal.place as u64;
-    -(n as i64)
 }

@@ -14,7 +14,7 @@ use row_judgement::verdict;
 use table_checks::Checked;
 ghost use mathlib.Core.Path.{_≡_};
 ghost use Prim.Native.Nat.{ℕ, _+_, _*_, _≤_};
-ghost use lib.IntN.{pos, _+ℤ_};
+ghost use lib.IntN.{pos, _+ℤ_, negℤ};
 ghost use Rattle.table_checks.specs.Checks.{Loadable};
 ghost use Rattle.frame_table.specs.Text.{fieldsOf};
 ghost use Rattle.frame_table.specs.Table.{readCheck, areaAfter};
@@ -104,12 +104,19 @@ pub fn encode_judgement_of(lengths: [[u32; 9]; 2], rows: &[u32], row: u64) -> i6
     encode_judged(judge(lengths, rows, row))
 }
 
-// Minus (number × 10000 + place).
+// A refusal in one number.
 pub fn encode_refusal(refusal: Refusal) -> i64
     ensures { λ r. ⌜ r ≡ encodeRefusal refusal ⌝ }
 {
     let cause = refusal.cause;
-    let n = row_judgement::number(cause) as u64 * 10_000 + refusal.place as u64;
+    encode_turned(row_judgement::number(cause), refusal.place)
+}
+
+// Minus (number × 10000 + place).
+pub fn encode_turned(number: u32, place: u32) -> i64
+    ensures { λ r. ⌜ r ≡ negℤ (pos (number * 10000 + place)) ⌝ }
+{
+    let n = number as u64 * 10_000 + place as u64;
     -(n as i64)
 }
 

@@ -1,15 +1,12 @@
 // The entry for C that checks a bus log against its table.
-use log_check::Cause;
+use crate::encode::encode_turned;
 use log_check::GROUPS;
 use log_check::LogChecked;
 use log_check::Outcome;
-use log_check::Refusal;
 ghost use mathlib.Core.Path.{_≡_};
 ghost use mathlib.Core.List.{_++_};
-ghost use Prim.Native.Nat.{_+_, _*_, _≤_};
-ghost use lib.IntN.{pos, negℤ};
+ghost use Prim.Native.Nat.{_≤_};
 ghost use lib.ListN.{length, drop};
-ghost use Rattle.log_check.specs.Refusal.{numberOf};
 ghost use Rattle.log_check.specs.Returns.{asShown, logReturns, filesReturns};
 ghost use Rattle.certifier.specs.LogEntry.{startsAnswered, encodeAnswered, startsArea};
 
@@ -34,7 +31,10 @@ fn store(checked: LogChecked, area: &mut [u64]) -> i64
 {
     let outcome = checked.outcome;
     match outcome {
-        Outcome::Refused(refusal) => encode_log_refusal(refusal),
+        Outcome::Refused(refusal) => {
+            let cause = refusal.cause;
+            encode_turned(log_check::number(cause), refusal.place)
+        }
         Outcome::Accepted => {
             let starts = checked.starts;
             store_starts(&starts, area)
@@ -49,10 +49,7 @@ fn store_starts(starts: &[u64], area: &mut [u64]) -> i64
     ensures { λ _. ⌜ now (area .exit) ≡ startsArea (asShown (now (starts .entry))) (now (area .entry)) ⌝ }
 {
     if area.len() < GROUPS {
-        return encode_log_refusal(Refusal {
-            cause: Cause::Table(table_checks::Cause::OutputArea),
-            place: 0,
-        });
+        return -80_000;
     }
     copy(starts, area);
     GROUPS as i64
@@ -68,13 +65,4 @@ fn copy(starts: &[u64], area: &mut [u64])
         area[i] = starts[i];
         i += 1;
     }
-}
-
-// Minus (number × 10000 + place).
-fn encode_log_refusal(refusal: Refusal) -> i64
-    ensures { λ r. ⌜ r ≡ negℤ (pos (numberOf (refusal .cause) * 10000 + refusal .place)) ⌝ }
-{
-    let cause = refusal.cause;
-    let n = log_check::number(cause) as u64 * 10_000 + refusal.place as u64;
-    -(n as i64)
 }

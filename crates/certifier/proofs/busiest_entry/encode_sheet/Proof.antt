@@ -1,4 +1,4 @@
--- The count is small and is read as signed as it stands; a refusal is encoded by its own function.
+-- The count is small and is read as signed as it stands; number and place are those of the refusal.
 use Prim.Native.Nat.{_≤_}
 use mathlib.Core.Path.{_∙_}
 use native.Mathlib.Omega.{arith}
@@ -24,7 +24,9 @@ returns c = rw (c .before .answer .given .1) (toZ-pos _ (omega (arith, small c))
 
 returns-2 : tie.Need-returns-2
 unfolding encodeAnswered answerReturns
-returns-2 c = rw (c .before .before .answer2 .given .1, ne-eqb _ 0 (cause-some (c .before .before .answer2 .given .0 .0 .cause))) (kept _ (c .encode-sheet-refusal .ok) ∙ c .encode-sheet-refusal .ensures)
+returns-2 c =
+    let a = c .before .before .before .answer2 .given in
+    rw (a .1, ne-eqb _ 0 (cause-some (a .0 .0 .cause)), ← c .before .number .ensures) (kept _ (c .encode-turned .ok) ∙ c .encode-turned .ensures)
 
 pub encode-sheet-spec : {M : Type 1} → statement M
 encode-sheet-spec =
@@ -33,6 +35,7 @@ encode-sheet-spec =
     (λ c. search needs)
     cast-result
     (λ c. search needs)
+    (λ c κs. search needs)
     (λ c κs. search needs)
     returns
     returns-2)

@@ -8,9 +8,9 @@ use Rattle.certifier.proofs.log_entry.store.Tie as tie
 
 returns : tie.Need-returns
 returns c =
-    let s = c .before .before .before .before .before in
-    let (a, b) = stored-not (s .args .checked) _ (s .args .area .now) (c .before .before .outcome .given .1) in
-    (kept _ (c .encode-log-refusal .ok) ∙ c .encode-log-refusal .ensures ∙ a, b)
+    let s = c .before .before .before .before .before .before in
+    let (a, b) = stored-not (s .args .checked) _ (s .args .area .now) (c .before .before .before .outcome .given .1) in
+    (rw (c .before .number .ensures) at (kept _ (c .encode-turned .ok) ∙ c .encode-turned .ensures) ∙ a, b)
 
 returns-2 : tie.Need-returns-2
 returns-2 c =
@@ -24,6 +24,7 @@ store-spec =
     tie.close
     (tie.spec
     (λ c. search needs)
+    (λ c κs. search needs)
     (λ c κs. search needs)
     (λ c. search needs)
     (λ c. search needs)

@@ -1,19 +1,12 @@
 -- `certifier::log_entry::store_starts` meets its contract: in a shorter area nothing is stored.
 use borrow.Author.Needs.{needs}
 use mathlib.Core.Path.{_∙_}
-use Rattle.arith.specs.laws.Signed.{kept}
-use Rattle.log_check.specs.Refusal.{numberOf}
-use Rattle.table_checks.specs.Refusal.{numberOf as tableNumberOf}
 use Rattle.certifier.specs.laws.LogEntry.{stored-short, stored-all}
 use Rattle.certifier.proofs.log_entry.store_starts.Statement.{statement}
 use Rattle.certifier.proofs.log_entry.store_starts.Tie as tie
 
 returns : tie.Need-returns
-unfolding numberOf tableNumberOf
-returns c =
-    let s = c .before .before .before .before in
-    let (a, b) = stored-short (s .args .starts .now) (s .args .area .now) (s .pre) (c .before .if1 .taken) in
-    (kept _ (c .encode-log-refusal .ok) ∙ c .encode-log-refusal .ensures ∙ a, b)
+returns c = let s = c .before .before .before in stored-short (s .args .starts .now) (s .args .area .now) (s .pre) (c .if1 .taken)
 
 returns-2 : tie.Need-returns-2
 returns-2 c =
@@ -24,4 +17,4 @@ returns-2 c =
 pub store-starts-spec : {M : Type 1} → statement M
 store-starts-spec =
     tie.close
-    (tie.spec (λ c κs. search needs) returns (λ c κs. search needs) (λ c. search needs) (λ c. search needs) returns-2)
+    (tie.spec returns (λ c κs. search needs) (λ c. search needs) (λ c. search needs) returns-2)
