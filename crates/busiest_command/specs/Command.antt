@@ -3,8 +3,6 @@ use Prim.Native.Nat.{ℕ}
 use mathlib.Core.Bool.{cond}
 use mathlib.Core.List.{List}
 use lib.Dec.{eqb}
-use Rattle.decimal.specs.declared.Column.{Column}
-use Rattle.decimal.specs.declared.Column.the-variants.{Value, Broken}
 use Rattle.decimal.specs.Decimal.{readColumn}
 use Rattle.table_checks.specs.declared.Checked.the-variants.{Passed}
 use Rattle.frame_table.specs.Text.{fieldsOf}
@@ -14,7 +12,7 @@ use Rattle.log_load.specs.Sheet.{sheetOf}
 use Rattle.log_load.specs.Returns.{fileReturns}
 use Rattle.certifier.specs.Listing.{refusalLine}
 use Rattle.certifier.specs.declared.Reply.{Reply}
-use Rattle.certifier.specs.declared.Reply.the-variants.{Malformed, Answered}
+use Rattle.certifier.specs.Reply.{replyTo, areaTo}
 
 -- the sheet, or number and place of a refusal
 unfoldable pub textOf : Returned → List ℕ → List ℕ
@@ -24,18 +22,11 @@ textOf r sheet = cond (eqb (r .number) 0) sheet (refusalLine (r .number) (r .pla
 unfoldable pub textFor : List ℕ → List ℕ → List ℕ → ℕ → List ℕ → List ℕ
 textFor lengths table log w old = textOf (fileReturns lengths table log w old) (sheetOf (fieldsOf table) (linesOf log) w)
 
--- the width is a number in the notation of a table's column
-abbrev pub replyTo : Column → List ℕ → List ℕ → List ℕ → List ℕ → Reply
-replyTo (Value w) lengths table log old = Answered (answerFor Passed (textFor lengths table log w old) old)
-replyTo Broken lengths table log old = Malformed
-
+-- the width is the argument
 abbrev pub replyFor : List ℕ → List ℕ → List ℕ → List ℕ → List ℕ → Reply
-replyFor lengths table log width old = replyTo (readColumn width) lengths table log old
+replyFor lengths table log width old = replyTo (readColumn width) (λ w. answerFor Passed (textFor lengths table log w old) old)
 
 -- the area afterwards
-abbrev pub areaTo : Column → List ℕ → List ℕ → List ℕ → List ℕ → List ℕ
-areaTo (Value w) lengths table log old = areaAfter (answerFor Passed (textFor lengths table log w old) old) (textFor lengths table log w old) old
-areaTo Broken lengths table log old = old
-
 abbrev pub areaLeft : List ℕ → List ℕ → List ℕ → List ℕ → List ℕ → List ℕ
-areaLeft lengths table log width old = areaTo (readColumn width) lengths table log old
+areaLeft lengths table log width old =
+    areaTo (readColumn width) (λ w. areaAfter (answerFor Passed (textFor lengths table log w old) old) (textFor lengths table log w old) old) old

@@ -3,13 +3,10 @@ use certifier::Reply;
 use certifier::write_refusal_line;
 use decimal::Column;
 use frame_table::Answer;
-use log_load::Refusal;
 ghost use mathlib.Core.Path.{_≡_};
 ghost use Rattle.table_checks.specs.declared.Checked.the-variants.{Passed};
 ghost use Rattle.frame_table.specs.Table.{answerFor, areaAfter};
 ghost use Rattle.lengths_file.specs.Input.{lengthsPart, tablePart};
-ghost use Rattle.log_load.specs.Refusal.{numberOf};
-ghost use Rattle.certifier.specs.Listing.{refusalLine};
 ghost use Rattle.busiest_command.specs.Command.{textFor, replyFor, areaLeft};
 
 // The characters of the longest text.
@@ -35,16 +32,10 @@ fn write_text(input: &[u8], log: &[u8], width: u64, out: &mut [u8]) -> Answer
 {
     let answer = log_load::busiest_input(input, log, width, out);
     match answer {
-        log_load::Answer::Refused(refusal) => write_refusal(refusal, out),
+        log_load::Answer::Refused(refusal) => {
+            let cause = refusal.cause;
+            write_refusal_line(log_load::number(cause), refusal.place, out)
+        }
         log_load::Answer::Done(n) => Answer::Done(n),
     }
-}
-
-// Writes the line of a refusal: number (3) and place (6), and a line feed.
-fn write_refusal(refusal: Refusal, out: &mut [u8]) -> Answer
-    ensures { λ r. ⌜ r ≡ answerFor Passed (refusalLine (numberOf (refusal .cause)) (refusal .place)) (now (out .entry)) ⌝ }
-    ensures { λ r. ⌜ now (out .exit) ≡ areaAfter r (refusalLine (numberOf (refusal .cause)) (refusal .place)) (now (out .entry)) ⌝ }
-{
-    let cause = refusal.cause;
-    write_refusal_line(log_load::number(cause), refusal.place, out)
 }

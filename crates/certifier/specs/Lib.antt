@@ -9,4 +9,5 @@ pub mod WorstEntry
 pub mod LogEntry
 pub mod Steps
 pub mod SimulateEntry
+pub mod Reply
 pub mod laws

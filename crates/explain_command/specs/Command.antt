@@ -7,8 +7,6 @@ use lib.Dec.{ltb}
 use lib.ListN.{getD}
 use Rattle.arith.specs.declared.Found.the-variants.{At, Nothing}
 use Rattle.bus_model.specs.declared.Case.{Case}
-use Rattle.decimal.specs.declared.Column.{Column}
-use Rattle.decimal.specs.declared.Column.the-variants.{Value, Broken}
 use Rattle.decimal.specs.Decimal.{readColumn, writeColumn}
 use Rattle.table_checks.specs.declared.Checked.the-variants.{Passed}
 use Rattle.table_checks.specs.Columns.{field, identifierColumn}
@@ -20,7 +18,7 @@ use Rattle.row_judgement.specs.Refusal.{numberOf}
 use Rattle.certifier.specs.Listing.{listingLine, refusalLine}
 use Rattle.certifier.specs.ExplainEntry.{explainFile}
 use Rattle.certifier.specs.declared.Reply.{Reply}
-use Rattle.certifier.specs.declared.Reply.the-variants.{Malformed, Answered}
+use Rattle.certifier.specs.Reply.{replyTo, areaTo}
 
 -- group (3) and alignment (8), and a line feed
 unfoldable pub alignmentLine : ℕ → ℕ → List ℕ
@@ -57,18 +55,10 @@ textOf identifier e = elim (e .judged) [
 unfoldable pub textFor : List ℕ → List ℕ → ℕ → List ℕ
 textFor lengths table r = textOf (field (fieldsOf table) r identifierColumn) (explainFile lengths table r)
 
--- the row is a number in the notation of a table's column
-abbrev pub replyTo : Column → List ℕ → List ℕ → List ℕ → Reply
-replyTo (Value r) lengths table old = Answered (answerFor Passed (textFor lengths table r) old)
-replyTo Broken lengths table old = Malformed
-
+-- the row is the argument
 abbrev pub replyFor : List ℕ → List ℕ → List ℕ → List ℕ → Reply
-replyFor lengths table row old = replyTo (readColumn row) lengths table old
+replyFor lengths table row old = replyTo (readColumn row) (λ r. answerFor Passed (textFor lengths table r) old)
 
 -- the area afterwards
-abbrev pub areaTo : Column → List ℕ → List ℕ → List ℕ → List ℕ
-areaTo (Value r) lengths table old = areaAfter (answerFor Passed (textFor lengths table r) old) (textFor lengths table r) old
-areaTo Broken lengths table old = old
-
 abbrev pub areaLeft : List ℕ → List ℕ → List ℕ → List ℕ → List ℕ
-areaLeft lengths table row old = areaTo (readColumn row) lengths table old
+areaLeft lengths table row old = areaTo (readColumn row) (λ r. areaAfter (answerFor Passed (textFor lengths table r) old) (textFor lengths table r) old) old

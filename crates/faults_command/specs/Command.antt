@@ -1,8 +1,6 @@
 -- The command faults: its gap, and what it prints (document 02, request 9).
 use Prim.Native.Nat.{ℕ}
 use mathlib.Core.List.{List}
-use Rattle.decimal.specs.declared.Column.{Column}
-use Rattle.decimal.specs.declared.Column.the-variants.{Value, Broken}
 use Rattle.decimal.specs.Decimal.{readColumn}
 use Rattle.table_checks.specs.declared.Checked.the-variants.{Passed}
 use Rattle.frame_table.specs.declared.Answer.{Answer}
@@ -15,7 +13,7 @@ use Rattle.certifier.specs.declared.Listed.the-variants.{Written, NotListed}
 use Rattle.certifier.specs.Listing.{refusalLine}
 use Rattle.certifier.specs.FaultsListing.{listFaultsFile, listedFile}
 use Rattle.certifier.specs.declared.Reply.{Reply}
-use Rattle.certifier.specs.declared.Reply.the-variants.{Malformed, Answered}
+use Rattle.certifier.specs.Reply.{replyTo, areaTo}
 
 -- number and place
 abbrev pub lineFor : Refusal → List ℕ
@@ -31,18 +29,10 @@ abbrev pub areaOf : Listed → List ℕ → List ℕ
 areaOf (Written n) area = area
 areaOf (NotListed f) area = areaAfter (answerFor Passed (lineFor f) area) (lineFor f) area
 
--- the gap is a number in the notation of a table's column
-abbrev pub replyTo : Column → List ℕ → List ℕ → List ℕ → Reply
-replyTo (Value g) lengths table old = Answered (answerOf (listFaultsFile lengths table g old) (listedFile lengths table g old))
-replyTo Broken lengths table old = Malformed
-
+-- the gap is the argument
 abbrev pub replyFor : List ℕ → List ℕ → List ℕ → List ℕ → Reply
-replyFor lengths table gap old = replyTo (readColumn gap) lengths table old
+replyFor lengths table gap old = replyTo (readColumn gap) (λ g. answerOf (listFaultsFile lengths table g old) (listedFile lengths table g old))
 
 -- the area afterwards
-abbrev pub areaTo : Column → List ℕ → List ℕ → List ℕ → List ℕ
-areaTo (Value g) lengths table old = areaOf (listFaultsFile lengths table g old) (listedFile lengths table g old)
-areaTo Broken lengths table old = old
-
 abbrev pub areaLeft : List ℕ → List ℕ → List ℕ → List ℕ → List ℕ
-areaLeft lengths table gap old = areaTo (readColumn gap) lengths table old
+areaLeft lengths table gap old = areaTo (readColumn gap) (λ g. areaOf (listFaultsFile lengths table g old) (listedFile lengths table g old)) old

@@ -10,7 +10,7 @@ use Rattle.decimal.specs.declared.Column.the-variants.{Value, Broken}
 use Rattle.decimal.specs.Decimal.{readColumn, writeColumn}
 use Rattle.table_checks.specs.Columns.{between}
 use Rattle.table_checks.specs.declared.Checked.the-variants.{Passed}
-use Rattle.frame_table.specs.Table.{answerFor, areaAfter}
+use Rattle.frame_table.specs.Table.{answerFor}
 use Rattle.frame_length.specs.FrameLength.{FrameReturned, frameReturns}
 use Rattle.certifier.specs.Listing.{refusalLine}
 use Rattle.certifier.specs.declared.Reply.{Reply}
@@ -71,8 +71,3 @@ lineFor kind identifier hex = lineOf (frameReturns (numberIn (readColumn kind)) 
 unfoldable pub replyFor : List ℕ → List ℕ → List ℕ → List ℕ → Reply
 replyFor kind identifier hex old =
     cond (isAsked kind identifier hex) (Answered (answerFor Passed (lineFor kind identifier hex) old)) Malformed
-
--- the area afterwards
-abbrev pub areaLeft : Reply → List ℕ → List ℕ → List ℕ
-areaLeft Malformed line old = old
-areaLeft (Answered answer) line old = areaAfter answer line old

@@ -13,7 +13,8 @@ ghost use Rattle.table_checks.specs.declared.Checked.the-variants.{Passed};
 ghost use Rattle.frame_table.specs.Table.{answerFor, areaAfter};
 ghost use Rattle.frame_length.specs.FrameLength.{frameReturns, measuredReturns};
 ghost use Rattle.certifier.specs.Listing.{refusalLine};
-ghost use Rattle.frame_length_command.specs.Command.{hexValue, isHex, isPayload, payloadOf, lengthLine, lineOf, lineFor, replyFor, areaLeft};
+ghost use Rattle.certifier.specs.Reply.{areaLeft};
+ghost use Rattle.frame_length_command.specs.Command.{hexValue, isHex, isPayload, payloadOf, lengthLine, lineOf, lineFor, replyFor};
 ghost use Rattle.frame_length_command.specs.Steps.{Digits};
 
 // The bytes of the longest line.

@@ -5,7 +5,6 @@ use frame_table::no_room;
 use log_check::GROUPS;
 use log_check::LogChecked;
 use log_check::Outcome;
-use log_check::Refusal;
 ghost use mathlib.Core.Path.{_≡_};
 ghost use mathlib.Core.List.{_++_};
 ghost use Prim.Native.Nat.{_≤_};
@@ -13,9 +12,7 @@ ghost use lib.ListN.{length, drop};
 ghost use Rattle.table_checks.specs.declared.Checked.the-variants.{Passed};
 ghost use Rattle.frame_table.specs.Table.{answerFor, areaAfter};
 ghost use Rattle.lengths_file.specs.Input.{lengthsPart, tablePart};
-ghost use Rattle.log_check.specs.Refusal.{numberOf};
 ghost use Rattle.log_check.specs.Returns.{logReturns, filesReturns};
-ghost use Rattle.certifier.specs.Listing.{refusalLine};
 ghost use Rattle.log_command.specs.Command.{startLine, linesFrom, startsText, textOf};
 
 // The characters of a line with its line feed, and of all sixteen: no text is longer.
@@ -51,21 +48,15 @@ fn write_checked(checked: LogChecked, out: &mut [u8]) -> Answer
 {
     let outcome = checked.outcome;
     match outcome {
-        Outcome::Refused(refusal) => write_refusal(refusal, out),
+        Outcome::Refused(refusal) => {
+            let cause = refusal.cause;
+            write_refusal_line(log_check::number(cause), refusal.place, out)
+        }
         Outcome::Accepted => {
             let starts = checked.starts;
             write_starts(&starts, out)
         }
     }
-}
-
-// Writes the line of a refusal: number (3) and place (6), and a line feed.
-fn write_refusal(refusal: Refusal, out: &mut [u8]) -> Answer
-    ensures { λ r. ⌜ r ≡ answerFor Passed (refusalLine (numberOf (refusal .cause)) (refusal .place)) (now (out .entry)) ⌝ }
-    ensures { λ r. ⌜ now (out .exit) ≡ areaAfter r (refusalLine (numberOf (refusal .cause)) (refusal .place)) (now (out .entry)) ⌝ }
-{
-    let cause = refusal.cause;
-    write_refusal_line(log_check::number(cause), refusal.place, out)
 }
 
 // Writes the starts.

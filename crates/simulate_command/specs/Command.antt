@@ -6,7 +6,7 @@ use lib.Dec.{eqb, leb}
 use Rattle.decimal.specs.declared.Column.{Column}
 use Rattle.decimal.specs.declared.Column.the-variants.{Value, Broken}
 use Rattle.table_checks.specs.declared.Checked.the-variants.{Passed}
-use Rattle.frame_table.specs.Table.{answerFor, areaAfter}
+use Rattle.frame_table.specs.Table.{answerFor}
 use Rattle.lengths_file.specs.Input.{lengthsPart, tablePart}
 use Rattle.simulator.specs.Simulate.{simulatedReturns}
 use Rattle.certifier.specs.Listing.{refusalLine}
@@ -31,8 +31,3 @@ unfoldable pub textFor : Column → Column → List ℕ → List ℕ → List �
 textFor (Value seed) (Value n) input old = printed seed n input old
 textFor (Value seed) Broken input old = []
 textFor Broken lines input old = []
-
--- the area afterwards
-abbrev pub areaLeft : Reply → List ℕ → List ℕ → List ℕ
-areaLeft Malformed text old = old
-areaLeft (Answered answer) text old = areaAfter answer text old

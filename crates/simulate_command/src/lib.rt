@@ -9,7 +9,8 @@ ghost use Rattle.table_checks.specs.declared.Checked.the-variants.{Passed};
 ghost use Rattle.decimal.specs.Decimal.{readColumn};
 ghost use Rattle.frame_table.specs.Table.{answerFor, areaAfter};
 ghost use Rattle.simulator.specs.Simulate.{simulatedReturns};
-ghost use Rattle.simulate_command.specs.Command.{printed, replyFor, textFor, areaLeft};
+ghost use Rattle.certifier.specs.Reply.{areaLeft};
+ghost use Rattle.simulate_command.specs.Command.{printed, replyFor, textFor};
 ghost use Rattle.simulate_command.specs.Steps.{answerAfter, areaPrinted};
 
 const GREATEST_SEED: u64 = 4_294_967_295;

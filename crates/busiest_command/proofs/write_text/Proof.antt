@@ -6,10 +6,12 @@ use Rattle.busiest_command.proofs.write_text.Tie as tie
 
 returns : tie.Need-returns
 returns c =
-    let a = c .before .before .before .before .before .before .before .before .before .busiest-input .ensures in
-    let line = text-refused _ _ _ _ _ _ (a .0) (a .1 .1 .1) _ (c .before .before .before .before .before .answer .given .1) in
-    let left = rw (c .before .before .before .before .before .answer .given .1) at (a .1 .0) in
-    rw (← line, ← left) (c .before .before .write-refusal .ensures)
+    let at-number = c .before .before .before .before in
+    let refused = at-number .before .before .answer .given .1 in
+    let a = at-number .before .before .before .before .before .before .busiest-input .ensures in
+    let line = text-refused _ _ _ _ _ _ (a .0) (a .1 .1 .1) _ refused in
+    let left = rw refused at (a .1 .0) in
+    rw (← line, ← left, ← at-number .number .ensures) (c .before .before .write-refusal-line .ensures)
 
 returns-2 : tie.Need-returns-2
 returns-2 c = let a = c .before .before .before .before .before .busiest-input .ensures in text-done _ _ _ _ _ _ (a .0) (a .1 .1 .1) _ _ (c .before .answer2 .given .1) (a .1 .0)
@@ -20,6 +22,7 @@ write-text-spec =
     (tie.spec
     (λ c κs. search needs)
     (λ c. search needs)
+    (λ c κs. search needs)
     (λ c κs. search needs)
     (λ c. search needs)
     (λ c. search needs)

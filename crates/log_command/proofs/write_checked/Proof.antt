@@ -6,8 +6,8 @@ use Rattle.log_command.proofs.write_checked.Tie as tie
 
 returns : tie.Need-returns
 returns c =
-    let s = c .before .before .before .before .before .before .before .before in
-    rw (text-refused (s .args .checked) _ (c .before .before .before .before .before .outcome .given .1)) (c .before .before .write-refusal .ensures)
+    let at-number = c .before .before .before .before in
+    rw (text-refused (at-number .before .before .before .before .before .args .checked) _ (at-number .before .before .outcome .given .1), ← at-number .number .ensures) (c .before .before .write-refusal-line .ensures)
 
 returns-2 : tie.Need-returns-2
 returns-2 c =
@@ -19,6 +19,7 @@ write-checked-spec =
     tie.close
     (tie.spec
     (λ c. search needs)
+    (λ c κs. search needs)
     (λ c κs. search needs)
     (λ c. search needs)
     (λ c. search needs)
