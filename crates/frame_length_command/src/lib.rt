@@ -1,5 +1,6 @@
 // The command frame-length: kind, identifier and payload as they are typed, and the line that is printed.
 use certifier::Reply;
+use certifier::write_refusal_line;
 use decimal::Column;
 use frame_length::Measured;
 use frame_table::Answer;
@@ -12,13 +13,12 @@ ghost use lib.ListN.{length, drop};
 ghost use Rattle.table_checks.specs.declared.Checked.the-variants.{Passed};
 ghost use Rattle.frame_table.specs.Table.{answerFor, areaAfter};
 ghost use Rattle.frame_length.specs.FrameLength.{frameReturns, measuredReturns};
-ghost use Rattle.certifier.specs.Listing.{refusalLine};
 ghost use Rattle.certifier.specs.Reply.{areaLeft};
 ghost use Rattle.frame_length_command.specs.Command.{hexValue, isHex, isPayload, payloadOf, lengthLine, lineOf, lineFor, replyFor};
 ghost use Rattle.frame_length_command.specs.Steps.{Digits};
 
 // The bytes of the longest line.
-pub const LONGEST: usize = 10;
+pub const LONGEST: usize = certifier::REFUSAL_LINE;
 
 const LINE_FEED: u8 = 10;
 
@@ -126,7 +126,7 @@ fn write_measured(measured: Measured, out: &mut [u8]) -> Answer
 {
     match measured {
         Measured::Length(n) => write_length(n, out),
-        Measured::Refused => write_refusal(out),
+        Measured::Refused => write_refusal_line(16, 0, out),
     }
 }
 
@@ -141,18 +141,4 @@ fn write_length(length: u32, out: &mut [u8]) -> Answer
     decimal::write(&mut out[0..4], length as u64);
     out[4] = LINE_FEED;
     Answer::Done(5)
-}
-
-// Writes the number (3) and the place (6) of the refusal and a line feed.
-fn write_refusal(out: &mut [u8]) -> Answer
-    ensures { λ r. ⌜ r ≡ answerFor Passed (refusalLine 16 0) (now (out .entry)) ⌝ }
-    ensures { λ r. ⌜ now (out .exit) ≡ areaAfter r (refusalLine 16 0) (now (out .entry)) ⌝ }
-{
-    if out.len() < LONGEST {
-        return no_room();
-    }
-    decimal::write(&mut out[0..3], 16);
-    decimal::write(&mut out[3..9], 0);
-    out[9] = LINE_FEED;
-    Answer::Done(LONGEST)
 }

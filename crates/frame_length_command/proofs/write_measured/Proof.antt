@@ -11,7 +11,7 @@ returns c = rw (c .before .before .before .before .before .measured .given .1) (
 
 returns-2 : tie.Need-returns-2
 unfolding lineOf measuredReturns
-returns-2 c = rw (c .before .before .before .before .enum-told .given .1) (c .before .before .write-refusal .ensures)
+returns-2 c = rw (c .before .before .before .before .enum-told .given .1) (c .before .before .write-refusal-line .ensures)
 
 pub write-measured-spec : {M : Type 1} → statement M
 write-measured-spec =
