@@ -3,20 +3,25 @@
 --     write-read      a column that holds a number is what writing the number gives
 --     read-below      a column of w characters holds a number below 10^w
 --     length-write, length-signed    a written column has its width
+--     length-numbered                so have the lines that number values
 use Prim.Native.Nat.{ℕ, zero, suc, _+_, _-_, _*_, _/_, _%_, _^_, _≤_, _<_}
 use mathlib.Core.Path.{_≡_, refl, sym, ap, ap₂, _∙_}
-use mathlib.Core.List.{List, [], _∷_, _++_, append-nil}
+use mathlib.Core.List.{List, [], _∷_, _++_, append-assoc, append-nil}
 use native.Mathlib.Nat.{pow-suc, zero-add, add-zero, add-suc, suc-add, not-suc-le-zero}
 use native.Mathlib.Omega.{arith}
 use borrow.Author.Tests.{lt-ltb, le-ltb, lt-leb, ltb-true, ltb-false, eqb-true, eqb-false, ne-eqb}
 use lib.IntN.{ℤ, pos, negsuc}
-use lib.ListN.{length}
+use lib.ListN.{length, set, length-append}
+use borrow.Rule.Slice.PartMut.{midOf, putMid}
 use lib.Dec.{ltb, leb, eqb}
 use Rattle.arith.specs.laws.Tests.{by-test}
+use Rattle.arith.specs.laws.Overwriting.{begun-none, begun-filled, begun-element, begun-all}
+use Rattle.arith.specs.laws.Lines.{Lines, length-lines}
 use Rattle.decimal.specs.declared.Prefix.{Prefix}
 use Rattle.decimal.specs.declared.Prefix.the-variants.{Blank, Number, Minus, Negative, Broken}
 use Rattle.decimal.specs.declared.Column.the-variants.{Value}
 use Rattle.decimal.specs.Decimal.{withDigit, extended, extendedBy, valueOf, readColumn, lastOf, shortened, written, writeColumn, writeSigned}
+use Rattle.decimal.specs.Numbered.{numberedLine, numberedAt, numberedLines}
 
 -- ---- one character
 
@@ -197,3 +202,25 @@ pub length-signed : (w : ℕ) (z : ℤ) → length (writeSigned w z) ≡ w
 unfolding writeSigned
 length-signed w (pos n) = length-written w (Number n) [] ∙ add-zero w
 length-signed w (negsuc n) = length-written w (Negative (suc n)) [] ∙ add-zero w
+
+-- ---- lines that number values
+
+-- The two columns and the line feed, one behind the other, are the line.
+pub numbered-written : (w number value : ℕ) (line a b : List ℕ) → length line ≡ w + 4
+    → a ≡ writeColumn (length (midOf 0 3 line)) number
+    → b ≡ writeColumn (length (midOf 3 (3 + w - 3) (putMid 0 3 line a))) value
+    → set (putMid 3 (3 + w - 3) (putMid 0 3 line a) b) (3 + w) 10 ≡ numberedLine w number value
+unfolding numberedLine
+numbered-written w number value line a b size p q =
+    let wide : 3 + w - 3 ≡ w = omega arith in
+    let one = begun-filled _ line _ 0 (begun-none line) (λ v. writeColumn v number) (λ v. length-write v number) a 3 (omega arith) p in
+    let two = begun-filled _ line _ 3 one (λ v. writeColumn v value) (λ v. length-write v value) b w (omega arith) (rw wide at q) in
+    rw wide (begun-all _ line _ (3 + w + 1) (begun-element _ line _ (3 + w) two 10 (omega arith)) (omega arith) ∙ simp append-assoc)
+
+-- Each has the value's width and 4 characters more.
+pub numbered-lines : (w : ℕ) (values : List ℕ) → Lines (w + 4) (numberedAt w values) (numberedLines w values)
+unfolding numberedAt numberedLine
+numbered-lines w values = record { wide = λ i. simp (length-append, length-write) (omega arith); none = λ i. refl; more = λ n i. refl }
+
+pub length-numbered : (w : ℕ) (values : List ℕ) (n : ℕ) → length (numberedLines w values n 0) ≡ (w + 4) * n
+length-numbered w values n = length-lines (numbered-lines w values) n 0

@@ -1,13 +1,13 @@
 -- The command explain: its row, and what it prints (document 02, request 4: "the alignment of each node from 1 to 16 .. and the number q of
 -- the instance").
-use Prim.Native.Nat.{ℕ, zero, suc, _+_}
+use Prim.Native.Nat.{ℕ}
 use mathlib.Core.Bool.{cond}
 use mathlib.Core.List.{List, [], _∷_, _++_}
 use lib.Dec.{ltb}
-use lib.ListN.{getD}
 use Rattle.arith.specs.declared.Found.the-variants.{At, Nothing}
 use Rattle.bus_model.specs.declared.Case.{Case}
 use Rattle.decimal.specs.Decimal.{readColumn, writeColumn}
+use Rattle.decimal.specs.Numbered.{numberedLines}
 use Rattle.table_checks.specs.declared.Checked.the-variants.{Passed}
 use Rattle.table_checks.specs.Columns.{field, identifierColumn}
 use Rattle.frame_table.specs.Text.{fieldsOf}
@@ -20,19 +20,6 @@ use Rattle.certifier.specs.ExplainEntry.{explainFile}
 use Rattle.certifier.specs.declared.Reply.{Reply}
 use Rattle.certifier.specs.Reply.{replyTo, areaTo}
 
--- group (3) and alignment (8), and a line feed
-unfoldable pub alignmentLine : ℕ → ℕ → List ℕ
-alignmentLine group alignment = writeColumn 3 group ++ (writeColumn 8 alignment ++ (10 ∷ []))
-
--- the line of the group at place i, from 0
-unfoldable pub lineOf : List ℕ → ℕ → List ℕ
-lineOf alignments i = alignmentLine (i + 1) (getD alignments i 0)
-
--- n lines from place i on
-abbrev pub linesFrom : List ℕ → ℕ → ℕ → List ℕ
-linesFrom alignments zero i = []
-linesFrom alignments (suc n) i = lineOf alignments i ++ linesFrom alignments n (i + 1)
-
 -- the instance (3), in 8 characters where it has more than three digits, and a line feed
 unfoldable pub instanceWidth : ℕ → ℕ
 instanceWidth q = cond (ltb q 1000) 3 8
@@ -40,9 +27,9 @@ instanceWidth q = cond (ltb q 1000) 3 8
 unfoldable pub instanceLine : ℕ → List ℕ
 instanceLine q = writeColumn (instanceWidth q) q ++ (10 ∷ [])
 
--- the lines of a case: the sixteen groups and the instance
+-- the lines of a case: group (3) and alignment (8) for each of the sixteen groups, and the instance
 unfoldable pub caseText : Case → List ℕ
-caseText c = elim (c .instance) [ At q ↦ linesFrom (c .alignments) 16 0 ++ instanceLine q | Nothing ↦ [] ]
+caseText c = elim (c .instance) [ At q ↦ numberedLines 8 (c .alignments) 16 0 ++ instanceLine q | Nothing ↦ [] ]
 
 -- the row's line of the listing and its case, or number and place of a refusal
 unfoldable pub textOf : ℕ → Explained → List ℕ

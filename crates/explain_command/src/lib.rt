@@ -8,6 +8,7 @@ use certifier::Reply;
 use certifier::write_line;
 use certifier::write_refusal;
 use decimal::Column;
+use decimal::write_numbered;
 use frame_table::Answer;
 use frame_table::no_room;
 use lengths_file::lengths_of;
@@ -19,6 +20,7 @@ ghost use mathlib.Core.Path.{_≡_};
 ghost use mathlib.Core.List.{_++_};
 ghost use Prim.Native.Nat.{_+_, _≤_};
 ghost use lib.ListN.{length};
+ghost use Rattle.decimal.specs.Numbered.{numberedLines};
 ghost use Rattle.table_checks.specs.declared.Checked.the-variants.{Passed};
 ghost use Rattle.table_checks.specs.Columns.{field, identifierColumn};
 ghost use Rattle.table_checks.specs.Checks.{Accepted};
@@ -28,14 +30,10 @@ ghost use Rattle.lengths_file.specs.Input.{lengthsPart, tablePart};
 ghost use Rattle.row_judgement.specs.Explain.{explainRow};
 ghost use Rattle.certifier.specs.Listing.{listingLine};
 ghost use Rattle.certifier.specs.ExplainEntry.{explainRead};
-ghost use Rattle.explain_command.specs.Command.{alignmentLine, linesFrom, instanceWidth, instanceLine, caseText, textOf, textFor, replyFor, areaLeft};
+ghost use Rattle.explain_command.specs.Command.{instanceWidth, instanceLine, caseText, textOf, textFor, replyFor, areaLeft};
 
-// The characters of a group's line with its line feed, and of the lines of all groups.
-const GROUP_LINE: usize = 12;
-
+// The characters of the lines of all groups.
 const GROUP_LINES: usize = 192;
-
-const GROUPS: usize = 16;
 
 // The characters of the longest text.
 pub const LONGEST: usize = 232;
@@ -144,8 +142,8 @@ fn write_case(
     q: u32,
     out: &mut [u8],
 ) -> Answer
-    ensures { λ r. ⌜ r ≡ answerFor Passed (listingLine identifier judgement ++ (linesFrom alignments 16 0 ++ instanceLine q)) (now (out .entry)) ⌝ }
-    ensures { λ r. ⌜ now (out .exit) ≡ areaAfter r (listingLine identifier judgement ++ (linesFrom alignments 16 0 ++ instanceLine q)) (now (out .entry)) ⌝ }
+    ensures { λ r. ⌜ r ≡ answerFor Passed (listingLine identifier judgement ++ (numberedLines 8 alignments 16 0 ++ instanceLine q)) (now (out .entry)) ⌝ }
+    ensures { λ r. ⌜ now (out .exit) ≡ areaAfter r (listingLine identifier judgement ++ (numberedLines 8 alignments 16 0 ++ instanceLine q)) (now (out .entry)) ⌝ }
 {
     let groups_end = LINE + GROUP_LINES;
     let end = groups_end + instance_width(q) + 1;
@@ -153,33 +151,9 @@ fn write_case(
         return no_room();
     }
     write_line(identifier, judgement, &mut out[0..LINE]);
-    write_lines(alignments, &mut out[LINE..groups_end]);
+    write_numbered(&alignments, &mut out[LINE..groups_end]);
     write_instance(q, &mut out[groups_end..end]);
     Answer::Done(end)
-}
-
-// Writes the lines of the groups.
-pub fn write_lines(alignments: [u32; 16], out: &mut [u8])
-    requires { ⌜ length (now out) ≡ 192 ⌝ }
-    ensures { λ _. ⌜ now (out .exit) ≡ linesFrom alignments 16 0 ⌝ }
-{
-    let mut i = 0;
-    while i < GROUPS {
-        let from = GROUP_LINE * i;
-        let to = from + GROUP_LINE;
-        write_alignment((i + 1) as u64, alignments[i] as u64, &mut out[from..to]);
-        i += 1;
-    }
-}
-
-// Writes group (3) and alignment (8), and a line feed.
-fn write_alignment(group: u64, alignment: u64, line: &mut [u8])
-    requires { ⌜ length (now line) ≡ 12 ⌝ }
-    ensures { λ _. ⌜ now (line .exit) ≡ alignmentLine group alignment ⌝ }
-{
-    decimal::write(&mut line[0..3], group);
-    decimal::write(&mut line[3..11], alignment);
-    line[GROUP_LINE - 1] = LINE_FEED;
 }
 
 // How wide the instance is written: three digits, or eight where it has more than three.

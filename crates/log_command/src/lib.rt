@@ -1,5 +1,6 @@
 // The command check-log: the starts of groups 1 to 16 with which a log is the beginning of a schedule, or its refusal, as they are printed.
 use certifier::write_refusal_line;
+use decimal::write_numbered_line;
 use frame_table::Answer;
 use frame_table::no_room;
 use log_check::GROUPS;
@@ -13,14 +14,12 @@ ghost use Rattle.table_checks.specs.declared.Checked.the-variants.{Passed};
 ghost use Rattle.frame_table.specs.Table.{answerFor, areaAfter};
 ghost use Rattle.lengths_file.specs.Input.{lengthsPart, tablePart};
 ghost use Rattle.log_check.specs.Returns.{logReturns, filesReturns};
-ghost use Rattle.log_command.specs.Command.{startLine, linesFrom, startsText, textOf};
+ghost use Rattle.log_command.specs.Command.{startsText, textOf};
 
 // The characters of a line with its line feed, and of all sixteen: no text is longer.
 const LINE: usize = 15;
 
 pub const LONGEST: usize = 240;
-
-const LINE_FEED: u8 = 10;
 
 // Writes the starts, or the refusal. Lengths and table stand in the input: its first 92 bytes are the file of the lengths, and the rest is
 // that of the table.
@@ -75,23 +74,13 @@ fn write_starts(starts: &[u64], out: &mut [u8]) -> Answer
 // Writes the lines of the groups.
 fn write_lines(starts: &[u64], out: &mut [u8])
     requires { ⌜ (length (now starts) ≡ 16) × (240 ≤ length (now out)) ⌝ }
-    ensures { λ _. ⌜ now (out .exit) ≡ linesFrom (now (starts .entry)) 16 0 ++ drop 240 (now (out .entry)) ⌝ }
+    ensures { λ _. ⌜ now (out .exit) ≡ startsText (now (starts .entry)) ++ drop 240 (now (out .entry)) ⌝ }
 {
     let mut i = 0;
     while i < GROUPS {
         let from = LINE * i;
         let to = from + LINE;
-        write_line((i + 1) as u64, starts[i], &mut out[from..to]);
+        write_numbered_line((i + 1) as u64, starts[i], 11, &mut out[from..to]);
         i += 1;
     }
-}
-
-// Writes group (3) and start (11), and a line feed.
-fn write_line(group: u64, start: u64, line: &mut [u8])
-    requires { ⌜ length (now line) ≡ 15 ⌝ }
-    ensures { λ _. ⌜ now (line .exit) ≡ startLine group start ⌝ }
-{
-    decimal::write(&mut line[0..3], group);
-    decimal::write(&mut line[3..14], start);
-    line[LINE - 1] = LINE_FEED;
 }

@@ -3,7 +3,7 @@ use arith::Found;
 use bus_model::Faults;
 use certifier::LINE;
 use certifier::write_row;
-use explain_command::write_lines;
+use decimal::write_numbered;
 use frame_table::Answer;
 use frame_table::no_room;
 use lengths_file::lengths_of;
@@ -16,6 +16,7 @@ ghost use mathlib.Core.List.{_++_};
 ghost use Prim.Native.Nat.{_<_, _/_};
 ghost use lib.ListN.{length};
 ghost use Rattle.bus_model.specs.declared.Faults.the-variants.{Never};
+ghost use Rattle.decimal.specs.Numbered.{numberedLines};
 ghost use Rattle.table_checks.specs.declared.Checked.the-variants.{Passed};
 ghost use Rattle.table_checks.specs.Columns.{columns};
 ghost use Rattle.table_checks.specs.Checks.{Loadable, Accepted};
@@ -24,7 +25,6 @@ ghost use Rattle.frame_table.specs.Table.{readCheck, answerFor, areaAfter};
 ghost use Rattle.lengths_file.specs.Lengths.{lengthsOf};
 ghost use Rattle.lengths_file.specs.Input.{inputCheck, lengthsPart, tablePart};
 ghost use Rattle.certifier.specs.Listing.{lineOf};
-ghost use Rattle.explain_command.specs.Command.{linesFrom};
 ghost use Rattle.worst_command.specs.Command.{responseLine, worstText, textOf};
 
 // Where the lines of the groups end, and the characters of the longest text.
@@ -131,14 +131,14 @@ fn write_lines_of(
 ) -> Answer
     requires { ⌜ Loadable lengths × Accepted (now rows) ⌝ }
     requires { ⌜ i < length (now rows) / columns ⌝ }
-    ensures { λ r. ⌜ r ≡ answerFor Passed (lineOf Never lengths (now (rows .entry)) i ++ (linesFrom starts 16 0 ++ responseLine instance response)) (now (out .entry)) ⌝ }
-    ensures { λ r. ⌜ now (out .exit) ≡ areaAfter r (lineOf Never lengths (now (rows .entry)) i ++ (linesFrom starts 16 0 ++ responseLine instance response)) (now (out .entry)) ⌝ }
+    ensures { λ r. ⌜ r ≡ answerFor Passed (lineOf Never lengths (now (rows .entry)) i ++ (numberedLines 8 starts 16 0 ++ responseLine instance response)) (now (out .entry)) ⌝ }
+    ensures { λ r. ⌜ now (out .exit) ≡ areaAfter r (lineOf Never lengths (now (rows .entry)) i ++ (numberedLines 8 starts 16 0 ++ responseLine instance response)) (now (out .entry)) ⌝ }
 {
     if out.len() < LONGEST {
         return no_room();
     }
     write_row(lengths, rows, Faults::Never, i, &mut out[0..LINE]);
-    write_lines(starts, &mut out[LINE..GROUPS_END]);
+    write_numbered(&starts, &mut out[LINE..GROUPS_END]);
     write_response(instance, response, &mut out[GROUPS_END..LONGEST]);
     Answer::Done(LONGEST)
 }

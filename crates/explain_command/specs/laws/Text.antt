@@ -10,6 +10,8 @@ use Rattle.arith.specs.laws.Overwriting.{begun-none, begun-part}
 use Rattle.bus_model.specs.Case.{noCase}
 use Rattle.bus_model.specs.declared.Case.{Case}
 use Rattle.bus_model.specs.declared.Judgement.{Judgement}
+use Rattle.decimal.specs.Numbered.{numberedLines}
+use Rattle.decimal.specs.Laws.{length-numbered}
 use Rattle.table_checks.specs.Columns.{columns}
 use Rattle.row_judgement.specs.declared.Refusal.{Refusal}
 use Rattle.row_judgement.specs.declared.Judged.the-variants.{Verdict, NotJudged}
@@ -19,8 +21,8 @@ use Rattle.row_judgement.specs.Judge.{judgeRow}
 use Rattle.row_judgement.specs.laws.Judged.{by-judged}
 use Rattle.certifier.specs.Listing.{listingLine, refusalLine}
 use Rattle.certifier.specs.laws.Listing.{length-line}
-use Rattle.explain_command.specs.Command.{linesFrom, instanceWidth, instanceLine, caseText, textOf}
-use Rattle.explain_command.specs.laws.Lines.{length-groups, length-instance}
+use Rattle.explain_command.specs.Command.{instanceWidth, instanceLine, caseText, textOf}
+use Rattle.explain_command.specs.laws.Lines.{length-instance}
 
 -- ---- an answer's text
 
@@ -48,24 +50,24 @@ pub text-none : (c : Case) (line : List ℕ) → c .instance ≡ Nothing → lin
 unfolding caseText
 text-none c line is = rw is (append-nil line)
 
-pub text-case : (c : Case) (q : ℕ) → c .instance ≡ At q → caseText c ≡ linesFrom (c .alignments) 16 0 ++ instanceLine q
+pub text-case : (c : Case) (q : ℕ) → c .instance ≡ At q → caseText c ≡ numberedLines 8 (c .alignments) 16 0 ++ instanceLine q
 unfolding caseText
 text-case c q is = rw is
 
 module _ (identifier : ℕ) (j : Judgement) (alignments : List ℕ) (q : ℕ) where
-  pub length-case : length (listingLine identifier j ++ (linesFrom alignments 16 0 ++ instanceLine q)) ≡ 31 + 192 + instanceWidth q + 1
+  pub length-case : length (listingLine identifier j ++ (numberedLines 8 alignments 16 0 ++ instanceLine q)) ≡ 31 + 192 + instanceWidth q + 1
   length-case =
-      length-append (listingLine identifier j) (linesFrom alignments 16 0 ++ instanceLine q)
-      ∙ omega (arith, length-append (linesFrom alignments 16 0) (instanceLine q), length-line identifier j, length-groups alignments, length-instance q)
+      length-append (listingLine identifier j) (numberedLines 8 alignments 16 0 ++ instanceLine q)
+      ∙ omega (arith, length-append (numberedLines 8 alignments 16 0) (instanceLine q), length-line identifier j, length-numbered 8 alignments 16, length-instance q)
 
   -- The three parts, one behind the other.
   pub case-written : (out a b c : List ℕ) (end : ℕ) → end ≡ 31 + 192 + instanceWidth q + 1
-      → a ≡ listingLine identifier j → b ≡ linesFrom alignments 16 0 → c ≡ instanceLine q
-      → putMid 223 (end - 223) (putMid 31 192 (putMid 0 31 out a) b) c ≡ (listingLine identifier j ++ (linesFrom alignments 16 0 ++ instanceLine q)) ++ drop end out
+      → a ≡ listingLine identifier j → b ≡ numberedLines 8 alignments 16 0 → c ≡ instanceLine q
+      → putMid 223 (end - 223) (putMid 31 192 (putMid 0 31 out a) b) c ≡ (listingLine identifier j ++ (numberedLines 8 alignments 16 0 ++ instanceLine q)) ++ drop end out
   case-written out a b c end is p r s =
       let wide : end - 223 ≡ instanceWidth q + 1 = omega arith in
       let all : 223 + (end - 223) ≡ end = omega arith in
       let one = begun-part _ out _ 0 (begun-none out) (listingLine identifier j) 31 (length-line identifier j) in
-      let two = begun-part _ out _ 31 one (linesFrom alignments 16 0) 192 (length-groups alignments) in
+      let two = begun-part _ out _ 31 one (numberedLines 8 alignments 16 0) 192 (length-numbered 8 alignments 16) in
       let three = begun-part _ out _ 223 two (instanceLine q) (end - 223) (length-instance q ∙ sym wide) in
-      rw (p, r, s) (three .is ∙ rw (all, append-assoc (listingLine identifier j) (linesFrom alignments 16 0) (instanceLine q)))
+      rw (p, r, s) (three .is ∙ rw (all, append-assoc (listingLine identifier j) (numberedLines 8 alignments 16 0) (instanceLine q)))

@@ -6,13 +6,14 @@ use borrow.Author.Needs.{needs}
 use lib.ListN.{length, length-take, length-drop}
 use Rattle.arith.specs.laws.Overwriting.{over}
 use Rattle.arith.specs.laws.Lines.{line-over, lines-over}
-use Rattle.log_command.specs.Command.{lineOf, linesFrom}
-use Rattle.log_command.specs.laws.Lines.{start-lines}
+use Rattle.decimal.specs.Numbered.{numberedAt}
+use Rattle.decimal.specs.Laws.{numbered-lines}
+use Rattle.log_command.specs.Command.{startsText}
 use Rattle.log_command.proofs.write_lines.Statement.{statement}
 use Rattle.log_command.proofs.write_lines.Tie as tie
 
 abbrev Inv-loop : tie.InvT-loop
-Inv-loop starts out₀ i₀ out i = (out ≡ over (linesFrom starts 16 0) (15 * i) out₀) × (i ≤ 16) × (length out ≡ length out₀)
+Inv-loop starts out₀ i₀ out i = (out ≡ over (startsText starts) (15 * i) out₀) × (i ≤ 16) × (length out ≡ length out₀)
 
 abbrev μ-loop : tie.MeasureT-loop
 μ-loop starts out₀ i₀ out i = 16 - i
@@ -20,22 +21,23 @@ abbrev μ-loop : tie.MeasureT-loop
 loop-holds : tie.Need-loop-holds Inv-loop μ-loop
 loop-holds c = (refl, search needs, refl)
 
-write-line-requires : tie.Need-write-line-requires Inv-loop μ-loop
-write-line-requires c κs =
+write-numbered-line-requires : tie.Need-write-numbered-line-requires Inv-loop μ-loop
+write-numbered-line-requires c κs =
     let at-loop = c .before .before .before in
     simp (length-take, length-drop) (omega (arith, at-loop .loop .inv, c .before .before .loop-test .taken, at-loop .before .before .before .pre))
 
 loop-again : tie.Need-loop-again Inv-loop μ-loop
-unfolding lineOf
+unfolding startsText numberedAt
 loop-again c =
     let at-loop = c .before .before .before .before .before .before in (
-      line-over (start-lines (at-loop .before .before .before .args .starts .now)) _ _ _ _ (at-loop .loop .inv .0) _ (c .before .before .before .before .before .loop-test .taken) (c .before .before .write-line .ensures),
+      line-over (numbered-lines 11 (at-loop .before .before .before .args .starts .now)) _ _ _ _ (at-loop .loop .inv .0) _ (c .before .before .before .before .before .loop-test .taken) (c .before .before .write-numbered-line .ensures),
       search needs,
       search needs,
     )
 
 returns : tie.Need-returns Inv-loop μ-loop
-returns c = lines-over (start-lines (c .before .before .before .before .args .starts .now)) _ _ _ _ (c .before .loop .inv .0) (c .before .loop .inv .1) (c .loop-test .left)
+unfolding startsText
+returns c = lines-over (numbered-lines 11 (c .before .before .before .before .args .starts .now)) _ _ _ _ (c .before .loop .inv .0) (c .before .loop .inv .1) (c .loop-test .left)
 
 pub write-lines-spec : {M : Type 1} → statement M
 write-lines-spec =
@@ -52,7 +54,7 @@ write-lines-spec =
     (λ c. search needs)
     (λ c. search needs)
     (λ c. search needs)
-    write-line-requires
+    write-numbered-line-requires
     (λ c. search needs)
     (λ c. search needs)
     loop-again

@@ -12,7 +12,6 @@ returns : tie.Need-returns
 returns c = area-short Passed _ _ _ _ (length-text _) refl (c .before .if1 .taken) (c .no-room .ensures)
 
 returns-2 : tie.Need-returns-2
-unfolding startsText
 returns-2 c =
     let at-if1 = c .before .before .before .before in
     let s = at-if1 .before .before .before in

@@ -1,19 +1,18 @@
 -- The text: how long it is, its last line written column by column, and its parts one behind the other.
 use Prim.Native.Nat.{ℕ}
-use mathlib.Core.Path.{_≡_, refl, _∙_}
+use mathlib.Core.Path.{_≡_, _∙_}
 use mathlib.Core.List.{List, _++_, append-assoc, append-nil}
 use native.Mathlib.Omega.{arith}
 use lib.ListN.{length, drop, set, length-append}
 use borrow.Rule.Slice.PartMut.{midOf, putMid}
 use Rattle.arith.specs.declared.Found.the-variants.{At, Nothing}
 use Rattle.arith.specs.laws.Overwriting.{begun-none, begun-part, begun-filled, begun-element, begun-all}
-use Rattle.arith.specs.laws.Lines.{Lines, length-lines}
 use Rattle.bus_model.specs.declared.Faults.the-variants.{Never}
 use Rattle.decimal.specs.Decimal.{writeColumn}
-use Rattle.decimal.specs.Laws.{length-write}
+use Rattle.decimal.specs.Numbered.{numberedLines}
+use Rattle.decimal.specs.Laws.{length-write, length-numbered}
 use Rattle.certifier.specs.Listing.{lineOf as rowLine}
 use Rattle.certifier.specs.laws.Listing.{listing-lines}
-use Rattle.explain_command.specs.Command.{alignmentLine, lineOf, linesFrom}
 use Rattle.worst_case.specs.declared.WorstCase.{WorstCase}
 use Rattle.worst_command.specs.Command.{responseLine, worstText}
 
@@ -21,13 +20,6 @@ use Rattle.worst_command.specs.Command.{responseLine, worstText}
 
 length-row : (ls : List (List ℕ)) (rows : List ℕ) (i : ℕ) → length (rowLine Never ls rows i) ≡ 31
 length-row ls rows i = listing-lines Never ls rows .wide i
-
-group-lines : (starts : List ℕ) → Lines 12 (lineOf starts) (linesFrom starts)
-unfolding lineOf alignmentLine
-group-lines starts = record { wide = λ i. simp (length-append, length-write); none = λ i. refl; more = λ n i. refl }
-
-length-groups : (starts : List ℕ) → length (linesFrom starts 16 0) ≡ 192
-length-groups starts = length-lines (group-lines starts) 16 0
 
 length-response : (instance response : ℕ) → length (responseLine instance response) ≡ 17
 unfolding responseLine
@@ -48,18 +40,18 @@ response-written instance response line a b size p q =
 
 module _ (ls : List (List ℕ)) (rows : List ℕ) (i : ℕ) (starts : List ℕ) (instance response : ℕ) where
   abbrev pub whole : List ℕ
-  whole = rowLine Never ls rows i ++ (linesFrom starts 16 0 ++ responseLine instance response)
+  whole = rowLine Never ls rows i ++ (numberedLines 8 starts 16 0 ++ responseLine instance response)
 
   pub length-whole : length whole ≡ 240
   length-whole =
-      length-append (rowLine Never ls rows i) (linesFrom starts 16 0 ++ responseLine instance response)
-      ∙ omega (arith, length-row ls rows i, length-append (linesFrom starts 16 0) (responseLine instance response), length-groups starts, length-response instance response)
+      length-append (rowLine Never ls rows i) (numberedLines 8 starts 16 0 ++ responseLine instance response)
+      ∙ omega (arith, length-row ls rows i, length-append (numberedLines 8 starts 16 0) (responseLine instance response), length-numbered 8 starts 16, length-response instance response)
 
-  pub whole-written : (out a b c : List ℕ) → a ≡ rowLine Never ls rows i → b ≡ linesFrom starts 16 0 → c ≡ responseLine instance response
+  pub whole-written : (out a b c : List ℕ) → a ≡ rowLine Never ls rows i → b ≡ numberedLines 8 starts 16 0 → c ≡ responseLine instance response
       → putMid 223 17 (putMid 31 192 (putMid 0 31 out a) b) c ≡ whole ++ drop 240 out
   whole-written out a b c p q r =
       let one = begun-part _ out _ 0 (begun-none out) (rowLine Never ls rows i) 31 (length-row ls rows i) in
-      let two = begun-part _ out _ 31 one (linesFrom starts 16 0) 192 (length-groups starts) in
+      let two = begun-part _ out _ 31 one (numberedLines 8 starts 16 0) 192 (length-numbered 8 starts 16) in
       let three = begun-part _ out _ 223 two (responseLine instance response) 17 (length-response instance response) in
       rw (p, q, r) (three .is ∙ simp append-assoc)
 
@@ -77,6 +69,6 @@ pub text-none : (w : WorstCase) (line : List ℕ) → w .response ≡ Nothing �
 unfolding worstText
 text-none w line is = rw is (append-nil line)
 
-pub text-shown : (w : WorstCase) (line : List ℕ) (b : ℕ) → w .response ≡ At b → line ++ worstText w ≡ line ++ (linesFrom (w .starts) 16 0 ++ responseLine (w .instance) b)
+pub text-shown : (w : WorstCase) (line : List ℕ) (b : ℕ) → w .response ≡ At b → line ++ worstText w ≡ line ++ (numberedLines 8 (w .starts) 16 0 ++ responseLine (w .instance) b)
 unfolding worstText
 text-shown w line b is = rw is
