@@ -27,16 +27,16 @@ entriesOf t log = map (entryOf t) log
 -- ---- what is known
 
 -- whether group j has a line
-unfoldable pub isSeen : Progress → ℕ → Bool
+abbrev pub isSeen : Progress → ℕ → Bool
 isSeen p j = getD (p .seen) j false
 
--- its start then
-unfoldable pub startOf : Progress → ℕ → ℕ
-startOf p j = getD (p .starts) j 0
+-- the start of group j
+abbrev pub startOf : List ℕ → ℕ → ℕ
+startOf starts j = getD starts j 0
 
--- the next release of row i, or the earliest that its first one may be
-unfoldable pub dueOf : Progress → ℕ → ℕ
-dueOf p i = getD (p .due) i 0
+-- the release of row i's next instance, or the earliest that its first one may be
+abbrev pub dueOf : List ℕ → ℕ → ℕ
+dueOf due i = getD due i 0
 
 -- before the first line
 unfoldable pub begin : Progress
@@ -74,7 +74,7 @@ hinders p own e g d =
     (cond (isSeen p (g .group)) (isAgainst (p .free) own e g d) false)
 
 unfoldable pub rowHinders : List Frame → Progress → Entry → ℕ → Bool
-rowHinders fs p e i = hinders p (row fs (e .frame)) e (row fs i) (dueOf p i)
+rowHinders fs p e i = hinders p (row fs (e .frame)) e (row fs i) (dueOf (p .due) i)
 
 -- The length is one that the frame can have; the start comes when the bus is free and the instance is queued; it is
 -- the frame's next instance.
@@ -84,7 +84,7 @@ isDue p own e =
     && (leb (e .length) (own .length)
     && (leb (p .free) (e .start)
     && (leb (e .release) (e .start)
-    && eqb (dueWith p own e own (dueOf p (e .frame))) (e .release))))
+    && eqb (dueWith p own e own (dueOf (p .due) (e .frame))) (e .release))))
 
 -- The frame is in the table; its instance is due; no row hinders it.
 unfoldable pub isAllowed : List Frame → Progress → Entry → Bool
@@ -110,7 +110,7 @@ dueNext p own e g d =
 unfoldable pub dueAfter : List Frame → Progress → Entry → ℕ → ℕ
 dueAfter fs p e i =
     cond (eqb i (e .frame)) (e .release + row fs (e .frame) .period)
-    (dueNext p (row fs (e .frame)) e (row fs i) (dueOf p i))
+    (dueNext p (row fs (e .frame)) e (row fs i) (dueOf (p .due) i))
 
 -- the starts
 unfoldable pub startsAfter : Progress → Frame → Entry → List ℕ
@@ -148,4 +148,4 @@ followLog fs t log = follow fs begin 0 (entriesOf t log)
 
 -- the start of group j as it is shown: the last end where it has no line
 unfoldable pub startShown : Progress → ℕ → ℕ
-startShown p j = cond (isSeen p j) (startOf p j) (p .free)
+startShown p j = cond (isSeen p j) (startOf (p .starts) j) (p .free)

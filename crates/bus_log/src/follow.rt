@@ -3,12 +3,13 @@ use crate::Entry;
 use crate::Followed;
 use crate::Line;
 use crate::Progress;
+use arith::greater_wide;
 use bus_model::Frame;
 use table_checks::IDENTIFIER;
 use table_checks::KIND;
 use table_checks::ROW;
 ghost use mathlib.Core.Path.{_≡_};
-ghost use Prim.Native.Nat.{_+_, _*_, _<_, _≤_, _^_, max};
+ghost use Prim.Native.Nat.{_+_, _*_, _<_, _≤_, _^_};
 ghost use mathlib.Core.Bool.{true};
 ghost use mathlib.Core.List.{map};
 ghost use lib.ListN.{length, set};
@@ -18,7 +19,7 @@ ghost use Rattle.table_checks.specs.Columns.{columns};
 ghost use Rattle.table_checks.specs.Frames.{framesOf};
 ghost use Rattle.table_checks.specs.Checks.{Accepted};
 ghost use Rattle.bus_log.specs.Log.{isNamed, rowOf};
-ghost use Rattle.bus_log.specs.Follow.{entryOf, begin, followLine, startShown, isSeen, startOf, dueOf, toldStart, isTold, toldDue, dueWith, isAgainst, hinders, rowHinders, isDue, isAllowed, earliest, dueNext, dueAfter, startsAfter, advance};
+ghost use Rattle.bus_log.specs.Follow.{entryOf, begin, followLine, startShown, isSeen, dueOf, toldStart, isTold, toldDue, dueWith, isAgainst, hinders, rowHinders, isDue, isAllowed, earliest, dueNext, dueAfter, startsAfter, advance};
 
 // Whether row i has the line's identifier and kind.
 pub fn is_named(rows: &[u32], l: Line, i: usize) -> bool
@@ -98,15 +99,6 @@ fn is_seen(p: Progress, group: u32) -> bool
     p.seen[j]
 }
 
-// The group's start then.
-fn start_of(p: Progress, group: u32) -> u64
-    requires { ⌜ group < 17 ⌝ }
-    ensures { λ r. ⌜ r ≡ startOf p group ⌝ }
-{
-    let j = group as usize;
-    p.starts[j]
-}
-
 // Whether the line tells the start of the frame's group.
 fn is_told(p: Progress, own: Frame, g: Frame) -> bool
     requires { ⌜ own .group < 17 ⌝ }
@@ -115,17 +107,11 @@ fn is_told(p: Progress, own: Frame, g: Frame) -> bool
     !is_seen(p, own.group) && g.group == own.group
 }
 
-fn later(a: u64, b: u64) -> u64
-    ensures { λ r. ⌜ r ≡ max a b ⌝ }
-{
-    if a < b { b } else { a }
-}
-
 // Whether a frame whose next release is d stands against the line.
 fn is_against(free: u64, own: Frame, e: Entry, g: Frame, d: u64) -> bool
     ensures { λ r. ⌜ r ≡ isAgainst free own e g d ⌝ }
 {
-    if later(free, d) < e.start {
+    if greater_wide(free, d) < e.start {
         return true;
     }
     d <= e.start && g.priority < own.priority
@@ -148,14 +134,6 @@ fn does_hinder(p: Progress, own: Frame, e: Entry, g: Frame, d: u64) -> bool
     } else {
         false
     }
-}
-
-// What is known of the next release of row i.
-fn due_of(p: Progress, i: usize) -> u64
-    requires { ⌜ i < 64 ⌝ }
-    ensures { λ r. ⌜ r ≡ dueOf p i ⌝ }
-{
-    p.due[i]
 }
 
 // Whether row i, of whose next release d is known, hinders the line.
@@ -195,12 +173,14 @@ fn some_hinders(lengths: [[u32; 9]; 2], rows: &[u32], p: Progress, own: Frame, e
 // The next release of the line's own frame, with what the line tells.
 fn due_with(p: Progress, own: Frame, e: Entry) -> u64
     requires { ⌜ (e .frame < 64) × (own .group < 17) × (e .release < 2 ^ 40) ⌝ }
-    ensures { λ r. ⌜ r ≡ dueWith p own e own (dueOf p (e .frame)) ⌝ }
+    ensures { λ r. ⌜ r ≡ dueWith p own e own (dueOf (p .due) (e .frame)) ⌝ }
 {
+    let due = p.due;
+    let i = e.frame;
     if is_told(p, own, own) {
         told_due(own, e, own)
     } else {
-        due_of(p, e.frame)
+        due[i]
     }
 }
 
@@ -280,7 +260,7 @@ fn due_after(
     d: u64,
 ) -> u64
     requires { ⌜ Accepted (now rows) ⌝ }
-    requires { ⌜ (d ≡ dueOf p i) × (own ≡ row (framesOf lengths (now rows)) (e .frame)) × (own .group < 17) × (e .release < 2 ^ 40) × (e .start < 2 ^ 40) ⌝ }
+    requires { ⌜ (d ≡ dueOf (p .due) i) × (own ≡ row (framesOf lengths (now rows)) (e .frame)) × (own .group < 17) × (e .release < 2 ^ 40) × (e .start < 2 ^ 40) ⌝ }
     ensures { λ r. ⌜ r ≡ dueAfter (framesOf lengths (now (rows .entry))) p e i ⌝ }
 {
     if i == e.frame {
@@ -375,8 +355,9 @@ pub fn start_shown(p: Progress, group: u32) -> u64
     requires { ⌜ group < 17 ⌝ }
     ensures { λ r. ⌜ r ≡ startShown p group ⌝ }
 {
+    let starts = p.starts;
     if is_seen(p, group) {
-        start_of(p, group)
+        starts[group as usize]
     } else {
         p.free
     }

@@ -4,16 +4,13 @@ use Prim.Native.Nat.{ℕ, zero, suc, _+_, _%_, max}
 use mathlib.Core.Bool.{cond}
 use mathlib.Core.List.{List, [], _∷_}
 use lib.Dec.{leb, ltb}
-use lib.ListN.{length, getD, set}
+use lib.ListN.{length, set}
 use Rattle.bus_model.specs.Frame.{row}
 use Rattle.bus_model.specs.declared.Frame.{Frame}
 use Rattle.bus_log.specs.declared.Entry.{Entry}
+use Rattle.bus_log.specs.Follow.{dueOf}
 use Rattle.generator.specs.Draw.{drawFrom}
 use Rattle.simulator.specs.declared.Engine.{Engine}
-
--- the release of row i's next instance
-unfoldable pub dueOf : Engine → ℕ → ℕ
-dueOf s i = getD (s .due) i 0
 
 -- of the numbers below n, the first with the lowest key
 unfoldable pub lowestOf : (ℕ → ℕ) → ℕ → ℕ
@@ -22,19 +19,19 @@ lowestOf key (suc n) = let k = lowestOf key n in cond (ltb (key n) (key k)) n k
 
 -- when the next transmission starts, of n rows: as soon as the bus is free and something waits
 unfoldable pub startNext : ℕ → Engine → ℕ
-startNext n s = max (s .free) (dueOf s (lowestOf (dueOf s) n))
+startNext n s = max (s .free) (dueOf (s .due) (lowestOf (dueOf (s .due)) n))
 
 -- above all priorities
 abbrev pub unranked : ℕ
 unranked = 4_294_967_296
 
 -- the rank of row i at tick t, where only rows that wait have one
-unfoldable pub rankAt : List Frame → Engine → ℕ → ℕ → ℕ
-rankAt fs s t i = cond (leb (dueOf s i) t) (row fs i .priority) unranked
+unfoldable pub rankAt : List Frame → List ℕ → ℕ → ℕ → ℕ
+rankAt fs due t i = cond (leb (dueOf due i) t) (row fs i .priority) unranked
 
 -- the row that is sent: of those that wait, the best-ranked
 unfoldable pub rowNext : List Frame → Engine → ℕ
-rowNext fs s = lowestOf (rankAt fs s (startNext (length fs) s)) (length fs)
+rowNext fs s = lowestOf (rankAt fs (s .due) (startNext (length fs) s)) (length fs)
 
 -- "its length as 1 + v mod the largest length"
 unfoldable pub lengthFrom : ℕ → ℕ → ℕ
@@ -44,7 +41,7 @@ lengthFrom v largest = 1 + v % largest
 unfoldable pub entryNext : List Frame → Engine → ℕ → Entry
 entryNext fs s v =
     let k = rowNext fs s in
-    record { frame = k; start = startNext (length fs) s; release = dueOf s k; length = lengthFrom v (row fs k .length) }
+    record { frame = k; start = startNext (length fs) s; release = dueOf (s .due) k; length = lengthFrom v (row fs k .length) }
 
 -- what is known after it
 unfoldable pub movedBy : List Frame → Engine → ℕ → Entry → Engine

@@ -3,11 +3,12 @@ use Prim.Native.Nat.{ℕ, zero, suc, _+_, _%_}
 use mathlib.Core.Bool.{Bool, cond}
 use mathlib.Core.List.{List, map}
 use lib.Dec.{eqb}
-use lib.ListN.{length, getD, set, replicate}
+use lib.ListN.{length, set, replicate}
 use Rattle.arith.specs.Lists.{exists, range}
 use Rattle.bus_model.specs.Frame.{row}
 use Rattle.bus_model.specs.Pattern.{ofGroup, hyperperiod}
 use Rattle.bus_model.specs.declared.Frame.{Frame}
+use Rattle.bus_log.specs.Follow.{startOf}
 use Rattle.generator.specs.Draw.{drawFrom}
 use Rattle.simulator.specs.declared.Engine.{Engine}
 use Rattle.simulator.specs.declared.Starts.{Starts}
@@ -27,13 +28,9 @@ unfoldable pub startsDrawn : List Frame → ℕ → ℕ → Starts
 startsDrawn fs seed zero = record { drawn = seed; starts = replicate 17 0 }
 startsDrawn fs seed (suc n) = startDrawn fs (startsDrawn fs seed n) (suc n)
 
--- the start of group j
-unfoldable pub startOf : Starts → ℕ → ℕ
-startOf d j = getD (d .starts) j 0
-
 -- the first release of row i
 unfoldable pub firstDue : List Frame → Starts → ℕ → ℕ
-firstDue fs d i = startOf d (row fs i .group) + row fs i .offset
+firstDue fs d i = startOf (d .starts) (row fs i .group) + row fs i .offset
 
 -- the engine before the first transmission
 unfoldable pub firstOf : List Frame → Starts → Engine

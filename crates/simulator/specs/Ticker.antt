@@ -14,9 +14,10 @@ use Rattle.bus_model.specs.declared.Frame.{Frame}
 use Rattle.table_checks.specs.Frames.{framesOf}
 use Rattle.bus_log.specs.declared.Entry.{Entry}
 use Rattle.bus_log.specs.declared.Line.{Line}
+use Rattle.bus_log.specs.Follow.{startOf}
 use Rattle.generator.specs.Draw.{drawFrom}
 use Rattle.simulator.specs.Engine.{lowestOf, unranked, lengthFrom}
-use Rattle.simulator.specs.Starts.{startsDrawn, startOf}
+use Rattle.simulator.specs.Starts.{startsDrawn}
 use Rattle.simulator.specs.Text.{lineOf}
 
 pub record Ticker : Type 0 where
@@ -65,4 +66,4 @@ unfoldable pub tickLog : List (List ℕ) → List ℕ → ℕ → ℕ → ℕ �
 tickLog ls rows seed m n =
     let fs = framesOf ls rows in
     let d = startsDrawn fs seed 16 in
-    map (lineOf rows) (ticks fs (startOf d) m n (record { drawn = d .drawn; tick = 0; left = 0; sent = λ i. 0 }))
+    map (lineOf rows) (ticks fs (startOf (d .starts)) m n (record { drawn = d .drawn; tick = 0; left = 0; sent = λ i. 0 }))

@@ -11,7 +11,7 @@ ghost use Rattle.arith.specs.Lists.{range};
 ghost use Rattle.bus_model.specs.Frame.{row};
 ghost use Rattle.table_checks.specs.Frames.{framesOf};
 ghost use Rattle.table_checks.specs.Checks.{Loadable, Accepted};
-ghost use Rattle.simulator.specs.Starts.{hasFrames, startDrawn, startsDrawn, startOf, firstDue, firstOf};
+ghost use Rattle.simulator.specs.Starts.{hasFrames, startDrawn, startsDrawn, firstDue, firstOf};
 ghost use Rattle.simulator.specs.theory.First.{Early};
 
 // Whether row i is the group's.
@@ -83,15 +83,6 @@ pub fn draw_starts(lengths: [[u32; 9]; 2], rows: &[u32], seed: u32) -> Starts
     d
 }
 
-// The start of a group.
-fn start_of(d: Starts, group: u32) -> u64
-    requires { ⌜ group < 17 ⌝ }
-    ensures { λ r. ⌜ r ≡ startOf d group ⌝ }
-{
-    let j = group as usize;
-    d.starts[j]
-}
-
 // The first release of row i.
 fn first_due(lengths: [[u32; 9]; 2], rows: &[u32], d: Starts, i: usize) -> u64
     requires { ⌜ Loadable lengths × Accepted (now rows) ⌝ }
@@ -99,7 +90,8 @@ fn first_due(lengths: [[u32; 9]; 2], rows: &[u32], d: Starts, i: usize) -> u64
     ensures { λ r. ⌜ r ≡ firstDue (framesOf lengths (now (rows .entry))) d i ⌝ }
 {
     let g = table_checks::frame(lengths, rows, i);
-    start_of(d, g.group) + g.offset as u64
+    let starts = d.starts;
+    starts[g.group as usize] + g.offset as u64
 }
 
 // The first releases.

@@ -28,9 +28,9 @@ pub record Shape (p : Progress) : Type 0 where
 -- Row i by what is known of its group before the entry e, and after it.
 pub data Known (fs : List Frame) (p : Progress) (e : Entry) (i : ℕ) : Type 0 where
   told : isTold p (row fs (e .frame)) (row fs i) ≡ true → isSeen p (row fs i .group) ≡ false → row fs i .group ≡ row fs (e .frame) .group
-      → isSeen (advance fs p e) (row fs i .group) ≡ true → startOf (advance fs p e) (row fs i .group) ≡ toldStart (row fs (e .frame)) e → Known fs p e i
+      → isSeen (advance fs p e) (row fs i .group) ≡ true → startOf (advance fs p e .starts) (row fs i .group) ≡ toldStart (row fs (e .frame)) e → Known fs p e i
   seen : isTold p (row fs (e .frame)) (row fs i) ≡ false → isSeen p (row fs i .group) ≡ true
-      → isSeen (advance fs p e) (row fs i .group) ≡ true → startOf (advance fs p e) (row fs i .group) ≡ startOf p (row fs i .group) → Known fs p e i
+      → isSeen (advance fs p e) (row fs i .group) ≡ true → startOf (advance fs p e .starts) (row fs i .group) ≡ startOf (p .starts) (row fs i .group) → Known fs p e i
   unseen : isTold p (row fs (e .frame)) (row fs i) ≡ false → isSeen p (row fs i .group) ≡ false → row fs i .group ≢ row fs (e .frame) .group
       → isSeen (advance fs p e) (row fs i .group) ≡ false → Known fs p e i
 
@@ -39,8 +39,8 @@ module _ {fs : List Frame} (valid : Valid fs) {p : Progress} (shape : Shape p) (
   unfolding advance startsAfter
   shape-after = record { seen = length-set (p .seen) _ _ ∙ shape .seen; starts = by-test (isSeen p (row fs (e .frame) .group)) (λ t. rw t (shape .starts)) (λ t. rw t (length-set (p .starts) _ _ ∙ shape .starts)) }
 
-  pub due-after : (i : ℕ) → i < 64 → dueOf (advance fs p e) i ≡ dueAfter fs p e i
-  unfolding advance dueOf
+  pub due-after : (i : ℕ) → i < 64 → dueOf (advance fs p e .due) i ≡ dueAfter fs p e i
+  unfolding advance
   due-after i l = getD-table (dueAfter fs p e) 0 64 i 0 l ∙ ap (dueAfter fs p e) (zero-add i)
 
   -- ---- a group
@@ -51,23 +51,23 @@ module _ {fs : List Frame} (valid : Valid fs) {p : Progress} (shape : Shape p) (
 
     -- The entry's group has a line,
     pub seen-same : n ≡ m → isSeen (advance fs p e) n ≡ true
-    unfolding advance isSeen
+    unfolding advance
     seen-same q = rw q (getD-set-same (p .seen) m true false (omega (arith, shape .seen, valid .frame (e .frame) inside .group-high)))
 
     -- and the others as before.
     pub seen-other : n ≢ m → isSeen (advance fs p e) n ≡ isSeen p n
-    unfolding advance isSeen
+    unfolding advance
     seen-other ne = getD-set-other (p .seen) m n true false ne
 
     -- Its first line tells its start,
-    pub start-same : n ≡ m → isSeen p m ≡ false → startOf (advance fs p e) n ≡ toldStart (row fs (e .frame)) e
-    unfolding advance startsAfter startOf
+    pub start-same : n ≡ m → isSeen p m ≡ false → startOf (advance fs p e .starts) n ≡ toldStart (row fs (e .frame)) e
+    unfolding advance startsAfter
     start-same q f =
         rw (q, f) (getD-set-same (p .starts) m (toldStart (row fs (e .frame)) e) 0 (omega (arith, shape .starts, valid .frame (e .frame) inside .group-high)))
 
     -- which stays.
-    pub start-kept : isSeen p n ≡ true → startOf (advance fs p e) n ≡ startOf p n
-    unfolding advance startsAfter startOf
+    pub start-kept : isSeen p n ≡ true → startOf (advance fs p e .starts) n ≡ startOf (p .starts) n
+    unfolding advance startsAfter
     start-kept t =
         by-test (isSeen p m)
         (λ s. rw s)

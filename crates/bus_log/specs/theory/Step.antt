@@ -28,8 +28,8 @@ use Rattle.bus_log.specs.theory.Known.{Shape, Known, told, seen, unseen,
 
 -- of row i in starts with which the lines so far are a beginning
 pub record RowFits (fs : List Frame) (p : Progress) (starts : ℕ → ℕ) (i : ℕ) : Type 0 where
-  pub known : isSeen p (row fs i .group) ≡ true → starts (row fs i .group) ≡ startOf p (row fs i .group)
-  pub late : isSeen p (row fs i .group) ≡ false → dueOf p i ≤ starts (row fs i .group) + row fs i .offset
+  pub known : isSeen p (row fs i .group) ≡ true → starts (row fs i .group) ≡ startOf (p .starts) (row fs i .group)
+  pub late : isSeen p (row fs i .group) ≡ false → dueOf (p .due) i ≤ starts (row fs i .group) + row fs i .offset
 
 -- of these starts
 abbrev pub Fits : List Frame → Progress → (ℕ → ℕ) → Type 0
@@ -37,8 +37,8 @@ Fits fs p starts = (i : ℕ) → i < length fs → RowFits fs p starts i
 
 -- of the instances sent
 pub record RowCounts (fs : List Frame) (p : Progress) (sent : ℕ → ℕ) (i : ℕ) : Type 0 where
-  pub next : isSeen p (row fs i .group) ≡ true → dueOf p i ≡ startOf p (row fs i .group) + row fs i .offset + sent i * row fs i .period
-  pub none : isSeen p (row fs i .group) ≡ false → (sent i ≡ 0) × (dueOf p i ≤ p .free)
+  pub next : isSeen p (row fs i .group) ≡ true → dueOf (p .due) i ≡ startOf (p .starts) (row fs i .group) + row fs i .offset + sent i * row fs i .period
+  pub none : isSeen p (row fs i .group) ≡ false → (sent i ≡ 0) × (dueOf (p .due) i ≤ p .free)
 
 pub record Counts (fs : List Frame) (p : Progress) (sent : ℕ → ℕ) : Type 0 where
   pub shape : Shape p
@@ -66,7 +66,7 @@ module _ {fs : List Frame} (valid : Valid fs) (few : length fs ≤ 64) (p : Prog
   -- what the test says
   record Allowed : Type 0 where
     starts : Starts fs (p .free) e
-    own : dueWith p (row fs (e .frame)) e (row fs (e .frame)) (dueOf p (e .frame)) ≡ e .release
+    own : dueWith p (row fs (e .frame)) e (row fs (e .frame)) (dueOf (p .due) (e .frame)) ≡ e .release
     free : (i : ℕ) → i < length fs → rowHinders fs p e i ≡ false
 
   allowed : isAllowed fs p e ≡ true → Allowed
@@ -105,7 +105,7 @@ module _ {fs : List Frame} (valid : Valid fs) (few : length fs ≤ 64) (p : Prog
     abbrev at : ℕ → ℕ
     at i = release starts (row fs i) (sent i)
 
-    at-seen : (i : ℕ) → i < length fs → isSeen p (row fs i .group) ≡ true → RowFits fs p starts i → at i ≡ dueOf p i
+    at-seen : (i : ℕ) → i < length fs → isSeen p (row fs i .group) ≡ true → RowFits fs p starts i → at i ≡ dueOf (p .due) i
     unfolding release
     at-seen i l s fit = let a = fit .known s in let b = counts .rows i l .next s in omega arith
 
@@ -131,11 +131,11 @@ module _ {fs : List Frame} (valid : Valid fs) (few : length fs ≤ 64) (p : Prog
           let c : starts (row fs i .group) ≡ starts (row fs (e .frame) .group) = ap starts q in
           omega arith
 
-      own-due : dueWith p (row fs (e .frame)) e (row fs (e .frame)) (dueOf p (e .frame)) ≡ e .release
+      own-due : dueWith p (row fs (e .frame)) e (row fs (e .frame)) (dueOf (p .due) (e .frame)) ≡ e .release
       unfolding dueWith
       own-due = go (row-known (s .inside) (e .frame) (s .inside))
         where
-          go : Known fs p e (e .frame) → cond (isTold p (row fs (e .frame)) (row fs (e .frame))) (toldDue (row fs (e .frame)) e (row fs (e .frame))) (dueOf p (e .frame)) ≡ e .release
+          go : Known fs p e (e .frame) → cond (isTold p (row fs (e .frame)) (row fs (e .frame))) (toldDue (row fs (e .frame)) e (row fs (e .frame))) (dueOf (p .due) (e .frame)) ≡ e .release
           go (told t f q a b) = rw t (sym (at-told (e .frame) (s .inside) f q) ∙ sends .1)
           go (seen t y a b) = rw t (sym (at-seen (e .frame) (s .inside) y (fits (e .frame) (s .inside))) ∙ sends .1)
           go (unseen t f ne a) = absurd (ne refl)
@@ -152,8 +152,8 @@ module _ {fs : List Frame} (valid : Valid fs) (few : length fs ≤ 64) (p : Prog
               let d = at-told i l f q in
               let h = fits i l .late f in
               let o = at-unseen i l f in
-              rw (t, le-ltb (toldDue (row fs (e .frame)) e (row fs i)) (dueOf p i) (omega arith)) (test-clear fs p e i (toldDue (row fs (e .frame)) e (row fs i)) (rw d at clear))
-          go (seen t y a b) = rw (t, y) (test-clear fs p e i (dueOf p i) (rw (at-seen i l y (fits i l)) at clear))
+              rw (t, le-ltb (toldDue (row fs (e .frame)) e (row fs i)) (dueOf (p .due) i) (omega arith)) (test-clear fs p e i (toldDue (row fs (e .frame)) e (row fs i)) (rw d at clear))
+          go (seen t y a b) = rw (t, y) (test-clear fs p e i (dueOf (p .due) i) (rw (at-seen i l y (fits i l)) at clear))
           go (unseen t f ne a) = rw (t, f)
 
       pub sent-allowed : isAllowed fs p e ≡ true
@@ -174,23 +174,23 @@ module _ {fs : List Frame} (valid : Valid fs) (few : length fs ≤ 64) (p : Prog
     abbrev after : Progress
     after = advance fs p e
 
-    due′ : (i : ℕ) → i < length fs → dueOf after i ≡ dueAfter fs p e i
+    due′ : (i : ℕ) → i < length fs → dueOf (after .due) i ≡ dueAfter fs p e i
     due′ i l = due-after valid (counts .shape) e l′ i (omega arith)
 
     -- the next release of row i, by what is known of it
-    due-own : dueOf after (e .frame) ≡ e .release + row fs (e .frame) .period
+    due-own : dueOf (after .due) (e .frame) ≡ e .release + row fs (e .frame) .period
     unfolding dueAfter dueNext
     due-own = due′ (e .frame) l′ ∙ rw (eq-eqb (e .frame) (e .frame) refl)
 
-    due-told : (i : ℕ) → i < length fs → i ≢ e .frame → isTold p (row fs (e .frame)) (row fs i) ≡ true → dueOf after i ≡ toldDue (row fs (e .frame)) e (row fs i)
+    due-told : (i : ℕ) → i < length fs → i ≢ e .frame → isTold p (row fs (e .frame)) (row fs i) ≡ true → dueOf (after .due) i ≡ toldDue (row fs (e .frame)) e (row fs i)
     unfolding dueAfter dueNext
     due-told i l ne t = due′ i l ∙ rw (ne-eqb i (e .frame) ne, t)
 
-    due-seen : (i : ℕ) → i < length fs → i ≢ e .frame → isTold p (row fs (e .frame)) (row fs i) ≡ false → isSeen p (row fs i .group) ≡ true → dueOf after i ≡ dueOf p i
+    due-seen : (i : ℕ) → i < length fs → i ≢ e .frame → isTold p (row fs (e .frame)) (row fs i) ≡ false → isSeen p (row fs i .group) ≡ true → dueOf (after .due) i ≡ dueOf (p .due) i
     unfolding dueAfter dueNext
     due-seen i l ne t y = due′ i l ∙ rw (ne-eqb i (e .frame) ne, t, y)
 
-    due-unseen : (i : ℕ) → i < length fs → i ≢ e .frame → isTold p (row fs (e .frame)) (row fs i) ≡ false → isSeen p (row fs i .group) ≡ false → dueOf after i ≡ earliest (p .free) (row fs (e .frame)) e (row fs i) (dueOf p i)
+    due-unseen : (i : ℕ) → i < length fs → i ≢ e .frame → isTold p (row fs (e .frame)) (row fs i) ≡ false → isSeen p (row fs i .group) ≡ false → dueOf (after .due) i ≡ earliest (p .free) (row fs (e .frame)) e (row fs i) (dueOf (p .due) i)
     unfolding dueAfter dueNext
     due-unseen i l ne t f = due′ i l ∙ rw (ne-eqb i (e .frame) ne, t, f)
 
@@ -201,8 +201,8 @@ module _ {fs : List Frame} (valid : Valid fs) (few : length fs ≤ 64) (p : Prog
     -- ---- the earliest first release
 
     -- It is not before the one so far, and lets the line start.
-    earliest-of : (i d : ℕ) → dueOf p i ≤ p .free → earliest (p .free) (row fs (e .frame)) e (row fs i) (dueOf p i) ≤ d
-        → (dueOf p i ≤ d) × Clear (p .free) (e .start) (row fs (e .frame) .priority) (row fs i .priority) d
+    earliest-of : (i d : ℕ) → dueOf (p .due) i ≤ p .free → earliest (p .free) (row fs (e .frame)) e (row fs i) (dueOf (p .due) i) ≤ d
+        → (dueOf (p .due) i ≤ d) × Clear (p .free) (e .start) (row fs (e .frame) .priority) (row fs i .priority) d
     unfolding earliest
     earliest-of i d old h =
         let low = a .starts .after in
@@ -210,10 +210,10 @@ module _ {fs : List Frame} (valid : Valid fs) (few : length fs ≤ 64) (p : Prog
         (λ t. let g : e .start + 1 ≤ d = rw t at h in (omega arith, record { idle = omega arith; best = λ w. absurd (omega arith) }))
         (λ t. by-test (ltb (p .free) (e .start))
         (λ u. let g : e .start ≤ d = rw (t, u) at h in (omega (arith, ltb-true (p .free) (e .start) u), record { idle = omega arith; best = λ w. ltb-false _ _ t }))
-        (λ u. let g : dueOf p i ≤ d = rw (t, u) at h in (g, record { idle = omega (arith, ltb-false (p .free) (e .start) u); best = λ w. ltb-false _ _ t })))
+        (λ u. let g : dueOf (p .due) i ≤ d = rw (t, u) at h in (g, record { idle = omega (arith, ltb-false (p .free) (e .start) u); best = λ w. ltb-false _ _ t })))
 
     -- A later one that lets the line start is not before it.
-    to-earliest : (i d : ℕ) → dueOf p i ≤ d → Clear (p .free) (e .start) (row fs (e .frame) .priority) (row fs i .priority) d → earliest (p .free) (row fs (e .frame)) e (row fs i) (dueOf p i) ≤ d
+    to-earliest : (i d : ℕ) → dueOf (p .due) i ≤ d → Clear (p .free) (e .start) (row fs (e .frame) .priority) (row fs i .priority) d → earliest (p .free) (row fs (e .frame)) e (row fs i) (dueOf (p .due) i) ≤ d
     unfolding earliest
     to-earliest i d h c =
         by-test (ltb (row fs i .priority) (row fs (e .frame) .priority))
@@ -223,7 +223,7 @@ module _ {fs : List Frame} (valid : Valid fs) (few : length fs ≤ 64) (p : Prog
         (λ u. rw (t, u) h))
 
     -- It is before the line's end.
-    earliest-free : (i : ℕ) → dueOf p i ≤ p .free → earliest (p .free) (row fs (e .frame)) e (row fs i) (dueOf p i) ≤ e .start + e .length
+    earliest-free : (i : ℕ) → dueOf (p .due) i ≤ p .free → earliest (p .free) (row fs (e .frame)) e (row fs i) (dueOf (p .due) i) ≤ e .start + e .length
     unfolding earliest
     earliest-free i old =
         let low = a .starts .after in
@@ -239,7 +239,7 @@ module _ {fs : List Frame} (valid : Valid fs) (few : length fs ≤ 64) (p : Prog
     unfolding dueWith toldDue
     own-told t = let o = a .own in rw t at o
 
-    own-seen : isTold p (row fs (e .frame)) (row fs (e .frame)) ≡ false → dueOf p (e .frame) ≡ e .release
+    own-seen : isTold p (row fs (e .frame)) (row fs (e .frame)) ≡ false → dueOf (p .due) (e .frame) ≡ e .release
     unfolding dueWith
     own-seen t = let o = a .own in rw t at o
 
@@ -345,19 +345,19 @@ module _ {fs : List Frame} (valid : Valid fs) (few : length fs ≤ 64) (p : Prog
             go : Known fs p e i → Before i
             go (told t f q y st) =
                 let h = a .free i l in
-                let (first, second) = or-false (ltb (toldDue (row fs (e .frame)) e (row fs i)) (dueOf p i)) (isAgainst (p .free) (row fs (e .frame)) e (row fs i) (toldDue (row fs (e .frame)) e (row fs i))) (rw t at h) in
+                let (first, second) = or-false (ltb (toldDue (row fs (e .frame)) e (row fs i)) (dueOf (p .due) i)) (isAgainst (p .free) (row fs (e .frame)) e (row fs i) (toldDue (row fs (e .frame)) e (row fs i))) (rw t at h) in
                 let b = fits i l .known y in
                 let d : at starts i ≡ toldDue (row fs (e .frame)) e (row fs i) = at-unseen starts i l f ∙ omega arith in
                 record {
-                  fit = record { known = λ g. absurd (clash g f); late = λ _. omega (arith, ltb-false (toldDue (row fs (e .frame)) e (row fs i)) (dueOf p i) first) };
+                  fit = record { known = λ g. absurd (clash g f); late = λ _. omega (arith, ltb-false (toldDue (row fs (e .frame)) e (row fs i)) (dueOf (p .due) i) first) };
                   clear = rw d (clear-test fs p e i (toldDue (row fs (e .frame)) e (row fs i)) second);
                 }
             go (seen t s y st) =
                 let h = a .free i l in
                 let fit : RowFits fs p starts i = record { known = λ _. fits i l .known y ∙ st; late = λ g. absurd (clash s g) } in
-                record { fit = fit; clear = rw (at-seen starts i l s fit) (clear-test fs p e i (dueOf p i) (rw (t, s) at h)) }
+                record { fit = fit; clear = rw (at-seen starts i l s fit) (clear-test fs p e i (dueOf (p .due) i) (rw (t, s) at h)) }
             go (unseen t f nn y) =
-                let g : earliest (p .free) (row fs (e .frame)) e (row fs i) (dueOf p i) ≤ at starts i = rw (at-unseen starts i l f, ← due-unseen i l (not-own i nn) t f) (fits i l .late y) in
+                let g : earliest (p .free) (row fs (e .frame)) e (row fs i) (dueOf (p .due) i) ≤ at starts i = rw (at-unseen starts i l f, ← due-unseen i l (not-own i nn) t f) (fits i l .late y) in
                 let (late, clear) = earliest-of i (at starts i) (counts .rows i l .none f .1) g in
                 record {
                   fit = record { known = λ s. absurd (clash s f); late = λ _. rw (at-unseen starts i l f) at late };

@@ -37,22 +37,22 @@ getD-replicate (suc k) (suc i) d = getD-replicate k i d
 
 -- No group has a line.
 none-seen : (j : ℕ) → isSeen begin j ≡ false
-unfolding isSeen begin
+unfolding begin
 none-seen j = getD-replicate 17 j false
 
-none-due : (i : ℕ) → dueOf begin i ≡ 0
-unfolding dueOf begin
+none-due : (i : ℕ) → dueOf (begin .due) i ≡ 0
+unfolding begin
 none-due i = getD-replicate 64 i 0
 
 -- All starts are possible.
 fits-begin : (fs : List Frame) (starts : ℕ → ℕ) → Fits fs begin starts
-fits-begin fs starts i l = record { known = λ s. absurd (clash s (none-seen _)); late = λ _. omega (arith, none-due i) }
+fits-begin fs starts i l = record { known = λ s. absurd (clash s (none-seen (row fs i .group))); late = λ _. omega (arith, none-due i) }
 
 counts-begin : (fs : List Frame) → Counts fs begin (λ i. 0)
 unfolding begin
 counts-begin fs = record {
   shape = record { seen = refl; starts = refl };
-  rows = λ i l. record { next = λ s. absurd (clash s (none-seen _)); none = λ _. (refl, omega (arith, none-due i)) };
+  rows = λ i l. record { next = λ s. absurd (clash s (none-seen (row fs i .group))); none = λ _. (refl, omega (arith, none-due i)) };
 }
 
 -- ---- beginnings of lists
@@ -77,7 +77,7 @@ follows-inside fs starts sent free (d ∷ ds) (s, h) (there m) = follows-inside 
 
 -- ---- starts that serve
 
-shown-seen : (p : Progress) (j : ℕ) → isSeen p j ≡ true → startOf p j ≡ startShown p j
+shown-seen : (p : Progress) (j : ℕ) → isSeen p j ≡ true → startOf (p .starts) j ≡ startShown p j
 unfolding startShown
 shown-seen p j s = rw s
 
@@ -177,7 +177,7 @@ module _ {fs : List Frame} (valid : Valid fs) (few : length fs ≤ 64) (t : List
 module _ {fs : List Frame} (valid : Valid fs) (few : length fs ≤ 64) (t : List ℕ) where
   -- One line.
   shown-step : (p : Progress) (sent : ℕ → ℕ) → Counts fs p sent → (e : Entry) → isAllowed fs p e ≡ true → (j : ℕ) → (v : ℕ)
-      → cond (isSeen (advance fs p e) j) (startOf (advance fs p e) j) v ≡ cond (isSeen p j) (startOf p j) (cond (eqb (row fs (e .frame) .group) j) (e .release - row fs (e .frame) .offset) v)
+      → cond (isSeen (advance fs p e) j) (startOf (advance fs p e .starts) j) v ≡ cond (isSeen p j) (startOf (p .starts) j) (cond (eqb (row fs (e .frame) .group) j) (e .release - row fs (e .frame) .offset) v)
   unfolding toldStart
   shown-step p sent counts e ok j v =
       let inside = allowed-inside valid few p sent counts e ok in
@@ -193,7 +193,7 @@ module _ {fs : List Frame} (valid : Valid fs) (few : length fs ≤ 64) (t : List
 
   -- What is shown of group j, where the rest of the log was followed from p: what p knows, or what the first line tells.
   shown-from : (p : Progress) (sent : ℕ → ℕ) → Counts fs p sent → (n : ℕ) (log : List Line) → follow fs p n (entriesOf t log) .place ≡ 0 → (j : ℕ)
-      → startShown (follow fs p n (entriesOf t log) .progress) j ≡ cond (isSeen p j) (startOf p j) (startFrom fs t (endFrom (p .free) log) j log)
+      → startShown (follow fs p n (entriesOf t log) .progress) j ≡ cond (isSeen p j) (startOf (p .starts) j) (startFrom fs t (endFrom (p .free) log) j log)
   unfolding follow startFrom endFrom startShown entryOf advance
   shown-from p sent counts n [] z j = refl
   shown-from p sent counts n (l ∷ ls) z j =

@@ -19,16 +19,17 @@ use Rattle.table_checks.specs.laws.Limits.{identified-cases}
 use Rattle.table_checks.specs.laws.Lengths.{length-bounds}
 use Rattle.bus_log.specs.theory.Table.{few-rows}
 use Rattle.bus_log.specs.declared.Entry.{Entry}
+use Rattle.bus_log.specs.Follow.{dueOf}
 use Rattle.generator.specs.Draw.{drawFrom}
 use Rattle.simulator.specs.declared.Engine.{Engine}
-use Rattle.simulator.specs.Engine.{dueOf, startNext, rowNext, lengthFrom, entryNext, movedBy, stepped, after}
+use Rattle.simulator.specs.Engine.{startNext, rowNext, lengthFrom, entryNext, movedBy, stepped, after}
 use Rattle.simulator.specs.theory.Lowest.{lowest, lowest-within}
 
 -- no number of the engine is above m
 pub record Within (s : Engine) (m : ℕ) : Type 0 where
   pub size : length (s .due) ≡ 64
   pub free : s .free ≤ m
-  pub due : (i : ℕ) → i < 64 → dueOf s i ≤ m
+  pub due : (i : ℕ) → i < 64 → dueOf (s .due) i ≤ m
 
 -- a row of an accepted table
 pub record Row (g : Frame) : Type 0 where
@@ -74,7 +75,7 @@ module _ (ls : List (List ℕ)) (loadable : Loadable ls) (t : List ℕ) (accepte
   module _ (s : Engine) (m : ℕ) (w : Within s m) where
     pub start-within : startNext (length (framesOf ls t)) s ≤ m
     unfolding startNext
-    start-within = omega (arith, w .free, w .due _ (lowest-within (dueOf s) (length (framesOf ls t)) 64 (few-rows ls t accepted) (omega arith)))
+    start-within = omega (arith, w .free, w .due _ (lowest-within (dueOf (s .due)) (length (framesOf ls t)) 64 (few-rows ls t accepted) (omega arith)))
 
     -- What the next transmission has.
     pub entry-within : (v : ℕ) → let e : Entry = entryNext (framesOf ls t) s v in
@@ -88,7 +89,7 @@ module _ (ls : List (List ℕ)) (loadable : Loadable ls) (t : List ℕ) (accepte
 
     pub moved-within : (v : ℕ) (e : Entry) → e .frame < length (framesOf ls t) → e .start ≤ m → e .release ≤ m → e .length ≤ 400
         → Within (movedBy (framesOf ls t) s v e) (m + 1000000)
-    unfolding movedBy dueOf
+    unfolding movedBy
     moved-within v e i st re le = record {
       size = length-set (s .due) _ _ ∙ w .size;
       free = omega arith;

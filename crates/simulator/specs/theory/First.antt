@@ -16,15 +16,15 @@ use Rattle.bus_model.specs.theory.Hyperperiod.{common-none, hyper-le}
 use Rattle.table_checks.specs.Frames.{framesOf}
 use Rattle.table_checks.specs.Checks.{Loadable, Accepted}
 use Rattle.table_checks.specs.laws.Accepted.{length-frames, no-row, accepted-pattern, accepted-valid}
+use Rattle.bus_log.specs.Follow.{startOf}
 use Rattle.generator.specs.Draw.{drawFrom}
 use Rattle.simulator.specs.declared.Starts.{Starts}
-use Rattle.simulator.specs.Engine.{dueOf}
-use Rattle.simulator.specs.Starts.{hasFrames, startDrawn, startsDrawn, startOf, firstDue, firstOf, engineOf}
+use Rattle.simulator.specs.Starts.{hasFrames, startDrawn, startsDrawn, firstDue, firstOf, engineOf}
 use Rattle.simulator.specs.theory.Bounds.{Within, row-within}
 
 -- no start is above a hyperperiod's limit
 unfoldable pub Early : Starts → Type 0
-Early d = (j : ℕ) → startOf d j ≤ 1000000
+Early d = (j : ℕ) → startOf (d .starts) j ≤ 1000000
 
 -- A list stays below a limit.
 set-most : (l : List ℕ) (i x j m : ℕ) → x ≤ m → getD l j 0 ≤ m → getD (set l i x) j 0 ≤ m
@@ -48,7 +48,7 @@ module _ (ls : List (List ℕ)) (loadable : Loadable ls) (t : List ℕ) (accepte
   hyper-some j = hyper-le (framesOf ls t) j frame-periods (length (framesOf ls t)) 1 (common-none (framesOf ls t) (λ g. eqb (g .group) j))
 
   start-early : (d : Starts) (j : ℕ) → 1 ≤ j → j ≤ 16 → Early d → Early (startDrawn (framesOf ls t) d j)
-  unfolding Early startDrawn startOf
+  unfolding Early startDrawn
   start-early d j low high e i =
       by-test (hasFrames (framesOf ls t) j)
       (λ y. rw y (set-most (d .starts) j (drawFrom (d .drawn) % hyperperiod (ofGroup (framesOf ls t) j)) i 1000000
@@ -56,7 +56,7 @@ module _ (ls : List (List ℕ)) (loadable : Loadable ls) (t : List ℕ) (accepte
       (λ n. rw n (e i))
 
   pub starts-early : (seed n : ℕ) → n ≤ 16 → Early (startsDrawn (framesOf ls t) seed n)
-  unfolding Early startsDrawn startOf
+  unfolding Early startsDrawn
   starts-early seed zero h = λ j. zeros 17 j
   starts-early seed (suc n) h = start-early (startsDrawn (framesOf ls t) seed n) (suc n) (omega arith) h (starts-early seed n (omega arith))
 
@@ -68,7 +68,7 @@ module _ (ls : List (List ℕ)) (loadable : Loadable ls) (t : List ℕ) (accepte
       ]
 
   pub first-within : (d : Starts) → Early d → Within (firstOf (framesOf ls t) d) 2000000
-  unfolding firstOf dueOf firstDue Early
+  unfolding firstOf firstDue Early
   first-within d e = record {
     size = length-map (range 0 64) (firstDue (framesOf ls t) d) ∙ length-range 0 64;
     free = omega arith;

@@ -18,14 +18,15 @@ use Rattle.table_checks.specs.Frames.{framesOf}
 use Rattle.table_checks.specs.Checks.{Loadable, Accepted}
 use Rattle.bus_log.specs.declared.Entry.{Entry}
 use Rattle.bus_log.specs.Log.{ShowsAll, endFrom, lastEnd, IsBeginning, AcceptedLog}
+use Rattle.bus_log.specs.Follow.{startOf, dueOf}
 use Rattle.bus_log.specs.Beginning.{sending, Sends, Follows}
 use Rattle.bus_log.specs.theory.Clear.{next-of}
 use Rattle.bus_log.specs.theory.Table.{few-rows}
 use Rattle.generator.specs.Draw.{drawFrom}
 use Rattle.simulator.specs.declared.Engine.{Engine}
 use Rattle.simulator.specs.declared.Starts.{Starts}
-use Rattle.simulator.specs.Engine.{dueOf, lowestOf, startNext, rankAt, rowNext, entryNext, movedBy, stepped, after, entryAt, entriesFrom}
-use Rattle.simulator.specs.Starts.{startOf, startsDrawn, firstDue, firstOf, engineOf}
+use Rattle.simulator.specs.Engine.{lowestOf, startNext, rankAt, rowNext, entryNext, movedBy, stepped, after, entryAt, entriesFrom}
+use Rattle.simulator.specs.Starts.{startsDrawn, firstDue, firstOf, engineOf}
 use Rattle.simulator.specs.Text.{lineOf, linesFrom}
 use Rattle.simulator.specs.Simulate.{logOf}
 use Rattle.simulator.specs.theory.Lowest.{lowest, IsLowest}
@@ -39,40 +40,40 @@ module _ (ls : List (List ℕ)) (loadable : Loadable ls) (t : List ℕ) (accepte
     abbrev start : ℕ
     start = startNext (length (framesOf ls t)) s
 
-    soonest : IsLowest (dueOf s) (length (framesOf ls t)) (lowestOf (dueOf s) (length (framesOf ls t)))
-    soonest = lowest (dueOf s) (length (framesOf ls t)) (some-rows ls loadable t accepted)
+    soonest : IsLowest (dueOf (s .due)) (length (framesOf ls t)) (lowestOf (dueOf (s .due)) (length (framesOf ls t)))
+    soonest = lowest (dueOf (s .due)) (length (framesOf ls t)) (some-rows ls loadable t accepted)
 
-    chosen : IsLowest (rankAt (framesOf ls t) s start) (length (framesOf ls t)) (rowNext (framesOf ls t) s)
+    chosen : IsLowest (rankAt (framesOf ls t) (s .due) start) (length (framesOf ls t)) (rowNext (framesOf ls t) s)
     unfolding rowNext
-    chosen = lowest (rankAt (framesOf ls t) s start) (length (framesOf ls t)) (some-rows ls loadable t accepted)
+    chosen = lowest (rankAt (framesOf ls t) (s .due) start) (length (framesOf ls t)) (some-rows ls loadable t accepted)
 
     -- No row is released before.
-    pub not-before : (i : ℕ) → i < length (framesOf ls t) → start ≤ max (s .free) (dueOf s i)
+    pub not-before : (i : ℕ) → i < length (framesOf ls t) → start ≤ max (s .free) (dueOf (s .due) i)
     unfolding startNext
     not-before i l = omega (arith, soonest .least i l)
 
-    rank-waiting : (i : ℕ) → dueOf s i ≤ start → rankAt (framesOf ls t) s start i ≡ row (framesOf ls t) i .priority
+    rank-waiting : (i : ℕ) → dueOf (s .due) i ≤ start → rankAt (framesOf ls t) (s .due) start i ≡ row (framesOf ls t) i .priority
     unfolding rankAt
-    rank-waiting i h = rw (le-leb (dueOf s i) start h)
+    rank-waiting i h = rw (le-leb (dueOf (s .due) i) start h)
 
-    soonest-waits : dueOf s (lowestOf (dueOf s) (length (framesOf ls t))) ≤ start
+    soonest-waits : dueOf (s .due) (lowestOf (dueOf (s .due)) (length (framesOf ls t))) ≤ start
     unfolding startNext
     soonest-waits = omega arith
 
     -- The row that is sent waits.
-    pub sent-waits : dueOf s (rowNext (framesOf ls t) s) ≤ start
+    pub sent-waits : dueOf (s .due) (rowNext (framesOf ls t) s) ≤ start
     unfolding rankAt
     sent-waits =
         let k = rowNext (framesOf ls t) s in
-        let m = lowestOf (dueOf s) (length (framesOf ls t)) in
-        elim (decLe (dueOf s k) start) [
+        let m = lowestOf (dueOf (s .due)) (length (framesOf ls t)) in
+        elim (decLe (dueOf (s .due) k) start) [
           | yes h ↦ h
           | no h ↦
-              let none : rankAt (framesOf ls t) s start k ≡ 4294967296 = rw (lt-leb (dueOf s k) start (omega arith)) in
+              let none : rankAt (framesOf ls t) (s .due) start k ≡ 4294967296 = rw (lt-leb (dueOf (s .due) k) start (omega arith)) in
               absurd (omega (arith, none, chosen .least m (soonest .below), rank-waiting m soonest-waits, row-within ls loadable t accepted m (soonest .below) .ranked))
         ]
 
-    pub sent-best : (i : ℕ) → i < length (framesOf ls t) → dueOf s i ≤ start → row (framesOf ls t) (rowNext (framesOf ls t) s) .priority ≤ row (framesOf ls t) i .priority
+    pub sent-best : (i : ℕ) → i < length (framesOf ls t) → dueOf (s .due) i ≤ start → row (framesOf ls t) (rowNext (framesOf ls t) s) .priority ≤ row (framesOf ls t) i .priority
     sent-best i l h = omega (arith, chosen .least i l, rank-waiting i h, rank-waiting (rowNext (framesOf ls t) s) sent-waits)
 
   -- ---- the engine and the bus rule, in given starts
@@ -81,7 +82,7 @@ module _ (ls : List (List ℕ)) (loadable : Loadable ls) (t : List ℕ) (accepte
     -- the engine has the next releases
     pub record Holds (s : Engine) (sent : ℕ → ℕ) : Type 0 where
       pub size : length (s .due) ≡ 64
-      pub next : (i : ℕ) → i < length (framesOf ls t) → release starts (row (framesOf ls t) i) (sent i) ≡ dueOf s i
+      pub next : (i : ℕ) → i < length (framesOf ls t) → release starts (row (framesOf ls t) i) (sent i) ≡ dueOf (s .due) i
 
     module _ (s : Engine) (sent : ℕ → ℕ) (holds : Holds s sent) (v : ℕ) where
       abbrev e : Entry
@@ -105,7 +106,7 @@ module _ (ls : List (List ℕ)) (loadable : Loadable ls) (t : List ℕ) (accepte
           )
 
       pub holds-after : Holds (movedBy (framesOf ls t) s v (entryNext (framesOf ls t) s v)) (oneMore sent (rowNext (framesOf ls t) s))
-      unfolding movedBy entryNext dueOf oneMore release
+      unfolding movedBy entryNext oneMore release
       holds-after =
           let k = rowNext (framesOf ls t) s in
           let inside = row-inside ls loadable t accepted s in
@@ -163,24 +164,24 @@ module _ (ls : List (List ℕ)) (loadable : Loadable ls) (t : List ℕ) (accepte
 
   -- ---- from drawn starts
 
-  pub first-holds : (d : Starts) → length (firstOf (framesOf ls t) d .due) ≡ 64 → Holds (startOf d) (firstOf (framesOf ls t) d) (λ i. 0)
-  unfolding firstOf dueOf firstDue release
+  pub first-holds : (d : Starts) → length (firstOf (framesOf ls t) d .due) ≡ 64 → Holds (startOf (d .starts)) (firstOf (framesOf ls t) d) (λ i. 0)
+  unfolding firstOf firstDue release
   first-holds d size = record {
     size = size;
     next = λ i l. let l64 : i < 64 = omega (arith, few-rows ls t accepted) in sym (rw (getD-table (firstDue (framesOf ls t) d) 0 64 i 0 l64, zero-add i) (omega arith));
   }
 
   -- Every log that is written is a beginning with the drawn starts,
-  pub simulated-beginning : (seed n : ℕ) → IsBeginning (framesOf ls t) t (startOf (startsDrawn (framesOf ls t) seed 16)) (logOf ls t seed n)
+  pub simulated-beginning : (seed n : ℕ) → IsBeginning (framesOf ls t) t (startOf (startsDrawn (framesOf ls t) seed 16 .starts)) (logOf ls t seed n)
   unfolding logOf linesFrom engineOf
   simulated-beginning seed n =
       let d = startsDrawn (framesOf ls t) seed 16 in
       let first = firstOf (framesOf ls t) d in
       let w = first-within ls loadable t accepted d (starts-early ls loadable t accepted seed 16 (omega arith)) in
-      entries-beginning (startOf d) (entriesFrom (framesOf ls t) first n 0)
-      (unfold after firstOf in follows (startOf d) first n 0 (λ i. 0) (first-holds d (w .size)))
+      entries-beginning (startOf (d .starts)) (entriesFrom (framesOf ls t) first n 0)
+      (unfold after firstOf in follows (startOf (d .starts)) first n 0 (λ i. 0) (first-holds d (w .size)))
 
   -- and so it is accepted.
   pub simulated-accepted : (seed n : ℕ) → AcceptedLog (framesOf ls t) t (logOf ls t seed n)
   unfolding AcceptedLog
-  simulated-accepted seed n = (startOf (startsDrawn (framesOf ls t) seed 16), simulated-beginning seed n)
+  simulated-accepted seed n = (startOf (startsDrawn (framesOf ls t) seed 16 .starts), simulated-beginning seed n)

@@ -17,12 +17,13 @@ use Rattle.bus_model.specs.declared.Frame.{Frame}
 use Rattle.table_checks.specs.Frames.{framesOf}
 use Rattle.table_checks.specs.Checks.{Loadable, Accepted}
 use Rattle.bus_log.specs.declared.Entry.{Entry}
+use Rattle.bus_log.specs.Follow.{startOf}
 use Rattle.bus_log.specs.theory.Step.{of-T}
 use Rattle.generator.specs.Draw.{drawFrom}
 use Rattle.simulator.specs.declared.Engine.{Engine}
 use Rattle.simulator.specs.declared.Starts.{Starts}
 use Rattle.simulator.specs.Engine.{startNext, unranked, rankAt, rowNext, entryNext, movedBy, stepped, after, entryAt, entriesFrom}
-use Rattle.simulator.specs.Starts.{startOf, startsDrawn, firstOf, engineOf}
+use Rattle.simulator.specs.Starts.{startsDrawn, firstOf, engineOf}
 use Rattle.simulator.specs.Text.{lineOf, linesFrom}
 use Rattle.simulator.specs.Simulate.{logOf}
 use Rattle.simulator.specs.Ticker.{Ticker, isQueued, isStart, begunRow, begun, started, later, ticks, tickLog}
@@ -224,4 +225,4 @@ ticks-log ls loadable t accepted seed m n long =
     let within = first-within ls loadable t accepted d (starts-early ls loadable t accepted seed 16 (omega arith)) in
     let end = after-within ls loadable t accepted (firstOf (framesOf ls t) d) 2000000 n within .free in
     ap (map (lineOf t))
-    (drawn-same ls loadable t accepted (startOf d) d n m (first-holds ls loadable t accepted d (within .size)) (omega arith))
+    (drawn-same ls loadable t accepted (startOf (d .starts)) d n m (first-holds ls loadable t accepted d (within .size)) (omega arith))

@@ -8,7 +8,7 @@ use Rattle.bus_log.specs.theory.Filled.{fill-more, fill-all}
 use Rattle.arith.specs.Lists.{range}
 use Rattle.arith.specs.laws.Overwriting.{over}
 use Rattle.table_checks.specs.Frames.{framesOf}
-use Rattle.bus_log.specs.Follow.{dueOf, dueAfter}
+use Rattle.bus_log.specs.Follow.{dueAfter}
 use Rattle.bus_log.proofs.follow.dues_after.Statement.{statement}
 use Rattle.bus_log.proofs.follow.dues_after.Tie as tie
 
@@ -22,7 +22,6 @@ loop-holds : tie.Need-loop-holds Inv-loop μ-loop
 loop-holds c = (refl, search needs, refl, refl)
 
 due-after-requires : tie.Need-due-after-requires Inv-loop μ-loop
-unfolding dueOf
 due-after-requires c κs =
     let s = c .before .before .before .before in
     (s .pre .0, (refl, s .pre .1 .0, s .pre .1 .1, s .pre .1 .2, s .pre .1 .3))

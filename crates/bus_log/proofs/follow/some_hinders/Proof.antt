@@ -16,7 +16,7 @@ use Rattle.bus_log.proofs.follow.some_hinders.Statement.{statement}
 use Rattle.bus_log.proofs.follow.some_hinders.Tie as tie
 
 abbrev Inv-loop : tie.InvT-loop
-Inv-loop lengths rows p own e due n i₀ i = (exists (λ k. hinders p own e (row (framesOf lengths rows) k) (dueOf p k)) (range i (n - i)) ≡ exists (rowHinders (framesOf lengths rows) p e) (range 0 (length (framesOf lengths rows)))) × (i ≤ n)
+Inv-loop lengths rows p own e due n i₀ i = (exists (λ k. hinders p own e (row (framesOf lengths rows) k) (dueOf (p .due) k)) (range i (n - i)) ≡ exists (rowHinders (framesOf lengths rows) p e) (range 0 (length (framesOf lengths rows)))) × (i ≤ n)
 
 abbrev μ-loop : tie.MeasureT-loop
 μ-loop lengths rows p own e due n i₀ i = n - i
@@ -37,11 +37,9 @@ row-hinders-requires c κs =
     (s .pre .1 .1, row-group (s .args .lengths) rows (s .pre .0) (c .before .loop .i) (omega arith), s .pre .1 .2)
 
 returns : tie.Need-returns Inv-loop μ-loop
-unfolding dueOf
 returns c = exists-stop _ _ _ _ (c .before .before .loop-test .taken) (c .before .row-hinders .ensures) (c .if1 .taken) ∙ c .before .before .before .loop .inv .0
 
 loop-again : tie.Need-loop-again Inv-loop μ-loop
-unfolding dueOf
 loop-again c = (exists-go _ _ _ _ (c .before .before .loop-test .taken) (c .before .row-hinders .ensures) (c .if1 .left) ∙ c .before .before .before .loop .inv .0, search needs)
 
 returns-2 : tie.Need-returns-2 Inv-loop μ-loop

@@ -6,8 +6,9 @@ use Rattle.simulator.proofs.turn.moved_by.Tie as tie
 
 returns : tie.Need-returns
 unfolding movedBy
-returns c = rw (← c .before .before .before .before .frame .ensures, c .due-with .ensures)
+returns c = rw (← c .before .before .before .before .frame .ensures)
 
 pub moved-by-spec : {M : Type 1} → statement M
 moved-by-spec =
-    tie.close (tie.spec (λ c κs. search needs) (λ c. search needs) (λ c. search needs) (λ c. search needs) (λ c κs. search needs) returns)
+    tie.close
+    (tie.spec (λ c κs. search needs) (λ c. search needs) (λ c. search needs) (λ c. search needs) (λ c. search needs) (λ c. search needs) returns)
