@@ -10,9 +10,8 @@ use table_checks::KIND;
 use table_checks::ROW;
 ghost use mathlib.Core.Path.{_≡_};
 ghost use Prim.Native.Nat.{_+_, _*_, _<_, _≤_, _^_};
-ghost use mathlib.Core.Bool.{true};
 ghost use mathlib.Core.List.{map};
-ghost use lib.ListN.{length, set};
+ghost use lib.ListN.{length};
 ghost use Rattle.arith.specs.Lists.{exists, range};
 ghost use Rattle.bus_model.specs.Frame.{row};
 ghost use Rattle.table_checks.specs.Columns.{columns};
@@ -269,18 +268,7 @@ fn due_after(
     due_next(p, own, e, table_checks::frame(lengths, rows, i), d)
 }
 
-// The groups that have a line.
-fn seen_after(p: Progress, own: Frame) -> [bool; 17]
-    requires { ⌜ own .group < 17 ⌝ }
-    ensures { λ r. ⌜ r ≡ set (p .seen) (own .group) true ⌝ }
-{
-    let mut seen = p.seen;
-    let j = own.group as usize;
-    seen[j] = true;
-    seen
-}
-
-// Their starts.
+// The starts of the groups that have a line.
 fn starts_after(p: Progress, own: Frame, e: Entry) -> [u64; 17]
     requires { ⌜ own .group < 17 ⌝ }
     ensures { λ r. ⌜ r ≡ startsAfter p own e ⌝ }
@@ -317,9 +305,11 @@ pub fn advance(lengths: [[u32; 9]; 2], rows: &[u32], p: Progress, e: Entry) -> P
     ensures { λ r. ⌜ r ≡ advance (framesOf lengths (now (rows .entry))) p e ⌝ }
 {
     let own = table_checks::frame(lengths, rows, e.frame);
+    let mut seen = p.seen;
+    seen[own.group as usize] = true;
     Progress {
         free: e.start + e.length,
-        seen: seen_after(p, own),
+        seen,
         starts: starts_after(p, own, e),
         due: dues_after(lengths, rows, p, own, e),
     }

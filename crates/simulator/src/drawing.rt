@@ -6,7 +6,6 @@ ghost use mathlib.Core.Path.{_≡_};
 ghost use mathlib.Core.List.{map};
 ghost use Prim.Native.Nat.{_<_, _≤_};
 ghost use lib.Dec.{eqb};
-ghost use lib.ListN.{set};
 ghost use Rattle.arith.specs.Lists.{range};
 ghost use Rattle.bus_model.specs.Frame.{row};
 ghost use Rattle.table_checks.specs.Frames.{framesOf};
@@ -37,17 +36,6 @@ fn has_frames(lengths: [[u32; 9]; 2], rows: &[u32], group: u32) -> bool
     false
 }
 
-// The starts, with another for the group.
-fn starts_with(d: Starts, group: u32, start: u64) -> [u64; 17]
-    requires { ⌜ group < 17 ⌝ }
-    ensures { λ r. ⌜ r ≡ set (d .starts) group start ⌝ }
-{
-    let mut starts = d.starts;
-    let j = group as usize;
-    starts[j] = start;
-    starts
-}
-
 // The group draws its start, where it has frames.
 fn draw_start(lengths: [[u32; 9]; 2], rows: &[u32], d: Starts, group: u32) -> Starts
     requires { ⌜ Loadable lengths × Accepted (now rows) ⌝ }
@@ -57,10 +45,9 @@ fn draw_start(lengths: [[u32; 9]; 2], rows: &[u32], d: Starts, group: u32) -> St
     if has_frames(lengths, rows, group) {
         let v = generator::drawn(d.drawn);
         let h = table_checks::hyperperiod(rows, group as u64);
-        Starts {
-            drawn: v,
-            starts: starts_with(d, group, v as u64 % h),
-        }
+        let mut starts = d.starts;
+        starts[group as usize] = v as u64 % h;
+        Starts { drawn: v, starts }
     } else {
         d
     }

@@ -7,13 +7,10 @@ use Rattle.simulator.specs.theory.First.{hyper-some}
 use Rattle.simulator.proofs.drawing.draw_start.Statement.{statement}
 use Rattle.simulator.proofs.drawing.draw_start.Tie as tie
 
-hyperperiod-requires : tie.Need-hyperperiod-requires
-hyperperiod-requires c κs = let s = c .before .before .before .before in (s .pre .0 .1, s .pre .1)
-
-rem-starts-with : tie.Need-rem-starts-with
-rem-starts-with c =
-    let s = c .before .before .before .before .before in
-    omega (arith, c .hyperperiod .ensures, hyper-same (s .args .lengths) (s .args .rows .now) (s .args .group), hyper-some (s .args .lengths) (s .pre .0 .0) (s .args .rows .now) (s .pre .0 .1) (s .args .group))
+rem-starts : tie.Need-rem-starts
+rem-starts c =
+    let s = c .before .before .before .before .before .before in
+    omega (arith, c .before .hyperperiod .ensures, hyper-same (s .args .lengths) (s .args .rows .now) (s .args .group), hyper-some (s .args .lengths) (s .pre .0 .0) (s .args .rows .now) (s .pre .0 .1) (s .args .group))
 
 returns : tie.Need-returns
 unfolding startDrawn
@@ -21,7 +18,7 @@ returns c =
     let h = c .before in
     let v = h .before in
     let s = v .before .before .before .before in
-    rw (← v .before .before .has-frames .ensures, v .before .if1 .taken, ← v .drawn .ensures, hyper-same (s .args .lengths) (s .args .rows .now) (s .args .group), ← h .hyperperiod .ensures, c .starts-with .ensures)
+    rw (← v .before .before .has-frames .ensures, v .before .if1 .taken, ← v .drawn .ensures, hyper-same (s .args .lengths) (s .args .rows .now) (s .args .group), ← h .hyperperiod .ensures)
 
 returns-2 : tie.Need-returns-2
 unfolding startDrawn
@@ -33,9 +30,10 @@ draw-start-spec =
     (tie.spec
     (λ c κs. search needs)
     (λ c κs. search needs)
-    hyperperiod-requires
-    (λ c. search needs)
-    rem-starts-with
     (λ c κs. search needs)
+    (λ c. search needs)
+    rem-starts
+    (λ c. search needs)
+    (λ c. search needs)
     returns
     returns-2)
