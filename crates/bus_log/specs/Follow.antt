@@ -39,13 +39,13 @@ abbrev pub dueOf : List ℕ → ℕ → ℕ
 dueOf due i = getD due i 0
 
 -- before the first line
-unfoldable pub begin : Progress
+abbrev pub begin : Progress
 begin = record { free = 0; seen = replicate 17 false; starts = replicate 17 0; due = replicate 64 0 }
 
 -- ---- what a line tells: `own` is its frame, `g` another row's, d what is known of that row's next release
 
 -- the start of its group, where it is the group's first line
-unfoldable pub toldStart : Frame → Entry → ℕ
+abbrev pub toldStart : Frame → Entry → ℕ
 toldStart own e = e .release - own .offset
 
 -- whether it tells the start of g's group
@@ -53,7 +53,7 @@ unfoldable pub isTold : Progress → Frame → Frame → Bool
 isTold p own g = not (isSeen p (own .group)) && eqb (g .group) (own .group)
 
 -- the first release of g, where it tells that start
-unfoldable pub toldDue : Frame → Entry → Frame → ℕ
+abbrev pub toldDue : Frame → Entry → Frame → ℕ
 toldDue own e g = toldStart own e + g .offset
 
 -- the next release of g, with what the line tells

@@ -124,7 +124,6 @@ module _ {fs : List Frame} (valid : Valid fs) (few : length fs ≤ 64) (p : Prog
       told-start f = sym (at-unseen (e .frame) (s .inside) f) ∙ sends .1
 
       at-told : (i : ℕ) → i < length fs → isSeen p (row fs i .group) ≡ false → row fs i .group ≡ row fs (e .frame) .group → at i ≡ toldDue (row fs (e .frame)) e (row fs i)
-      unfolding toldDue toldStart
       at-told i l f q =
           let a = at-unseen i l f in
           let b = told-start (ap (isSeen p) (sym q) ∙ f) in
@@ -236,7 +235,7 @@ module _ {fs : List Frame} (valid : Valid fs) (few : length fs ≤ 64) (p : Prog
 
     -- the release of a line that is its group's first
     own-told : isTold p (row fs (e .frame)) (row fs (e .frame)) ≡ true → toldStart (row fs (e .frame)) e + row fs (e .frame) .offset ≡ e .release
-    unfolding dueWith toldDue
+    unfolding dueWith
     own-told t = let o = a .own in rw t at o
 
     own-seen : isTold p (row fs (e .frame)) (row fs (e .frame)) ≡ false → dueOf (p .due) (e .frame) ≡ e .release
@@ -244,7 +243,6 @@ module _ {fs : List Frame} (valid : Valid fs) (few : length fs ≤ 64) (p : Prog
     own-seen t = let o = a .own in rw t at o
 
     told-due : (i : ℕ) → toldDue (row fs (e .frame)) e (row fs i) ≡ toldStart (row fs (e .frame)) e + row fs i .offset + 0 * row fs i .period
-    unfolding toldDue
     told-due i = omega arith
 
     pub free-after : after .free ≡ e .start + e .length
@@ -303,7 +301,6 @@ module _ {fs : List Frame} (valid : Valid fs) (few : length fs ≤ 64) (p : Prog
       -- Starts that were possible and allow the line are possible after it.
       start-told : (i : ℕ) → row fs i .group ≡ row fs (e .frame) .group → starts (row fs (e .frame) .group) + row fs (e .frame) .offset ≡ e .release
           → starts (row fs i .group) ≡ toldStart (row fs (e .frame)) e
-      unfolding toldStart
       start-told i q b = let c : starts (row fs i .group) ≡ starts (row fs (e .frame) .group) = ap starts q in omega arith
 
       pub fits-after : Fits fs p starts → Sends fs starts sent (p .free) e → Fits fs after starts
@@ -339,7 +336,7 @@ module _ {fs : List Frame} (valid : Valid fs) (few : length fs ≤ 64) (p : Prog
           clear : ClearAt fs starts sent (p .free) e i
 
         before : (i : ℕ) → i < length fs → Before i
-        unfolding rowHinders hinders toldDue
+        unfolding rowHinders hinders
         before i l = go (row-known l′ i l)
           where
             go : Known fs p e i → Before i

@@ -22,7 +22,7 @@ use Rattle.bus_log.specs.declared.Progress.{Progress}
 use Rattle.bus_log.specs.declared.Followed.{Followed}
 use Rattle.bus_log.specs.Log.{endFrom, IsBeginning, AcceptedLog, ShortestFailing, rowOf, startFrom, shownStart}
 use Rattle.bus_log.specs.Beginning.{Follows}
-use Rattle.bus_log.specs.Follow.{entryOf, entriesOf, isSeen, startOf, dueOf, begin, toldStart, isAllowed, advance, follow, followLog, startShown}
+use Rattle.bus_log.specs.Follow.{entryOf, entriesOf, isSeen, startOf, dueOf, begin, isAllowed, advance, follow, followLog, startShown}
 use Rattle.bus_log.specs.theory.Known.{seen-same, seen-other, start-same, start-kept}
 use Rattle.bus_log.specs.theory.Step.{Fits, Counts, clash, counts-after, allowed-inside}
 use Rattle.bus_log.specs.theory.Lines.{Stopped, whole, failing, Followable, followable, follow-more, follow-fails}
@@ -37,11 +37,9 @@ getD-replicate (suc k) (suc i) d = getD-replicate k i d
 
 -- No group has a line.
 none-seen : (j : ℕ) → isSeen begin j ≡ false
-unfolding begin
 none-seen j = getD-replicate 17 j false
 
 none-due : (i : ℕ) → dueOf (begin .due) i ≡ 0
-unfolding begin
 none-due i = getD-replicate 64 i 0
 
 -- All starts are possible.
@@ -49,7 +47,6 @@ fits-begin : (fs : List Frame) (starts : ℕ → ℕ) → Fits fs begin starts
 fits-begin fs starts i l = record { known = λ s. absurd (clash s (none-seen (row fs i .group))); late = λ _. omega (arith, none-due i) }
 
 counts-begin : (fs : List Frame) → Counts fs begin (λ i. 0)
-unfolding begin
 counts-begin fs = record {
   shape = record { seen = refl; starts = refl };
   rows = λ i l. record { next = λ s. absurd (clash s (none-seen (row fs i .group))); none = λ _. (refl, omega (arith, none-due i)) };
@@ -106,7 +103,6 @@ module _ {fs : List Frame} (valid : Valid fs) (few : length fs ≤ 64) (t : List
 
   -- What the lines that were followed allow.
   exact : (starts : ℕ → ℕ) → IsBeginning fs t starts (take (result .done) log) ↔ Fits fs (followLog fs t log .progress) starts
-  unfolding begin
   exact starts = (
     λ h. result .exact starts .0 (fits-begin fs starts, first (result .done) starts .0 h),
     λ h. first (result .done) starts .1 (result .exact starts .1 h .1),
@@ -125,7 +121,7 @@ module _ {fs : List Frame} (valid : Valid fs) (few : length fs ≤ 64) (t : List
 
   -- The place 0 is given just to an accepted log.
   pub accepted-iff : AcceptedLog fs t log ↔ (followLog fs t log .place ≡ 0)
-  unfolding AcceptedLog begin
+  unfolding AcceptedLog
   accepted-iff = (λ (starts, h). accepted starts h (result .stopped), λ z. serving z (result .stopped))
     where
       accepted : (starts : ℕ → ℕ) → IsBeginning fs t starts log → Stopped fs begin (λ i. 0) 0 es (followLog fs t log .place) (result .done) → followLog fs t log .place ≡ 0
@@ -159,7 +155,7 @@ module _ {fs : List Frame} (valid : Valid fs) (few : length fs ≤ 64) (t : List
 
   -- Any other place is the shortest beginning that fails.
   pub place-shortest : 0 < followLog fs t log .place → ShortestFailing fs t log (followLog fs t log .place)
-  unfolding AcceptedLog begin
+  unfolding AcceptedLog
   place-shortest some = go (result .stopped)
     where
       go : Stopped fs begin (λ i. 0) 0 es (followLog fs t log .place) (result .done) → ShortestFailing fs t log (followLog fs t log .place)
@@ -178,7 +174,6 @@ module _ {fs : List Frame} (valid : Valid fs) (few : length fs ≤ 64) (t : List
   -- One line.
   shown-step : (p : Progress) (sent : ℕ → ℕ) → Counts fs p sent → (e : Entry) → isAllowed fs p e ≡ true → (j : ℕ) → (v : ℕ)
       → cond (isSeen (advance fs p e) j) (startOf (advance fs p e .starts) j) v ≡ cond (isSeen p j) (startOf (p .starts) j) (cond (eqb (row fs (e .frame) .group) j) (e .release - row fs (e .frame) .offset) v)
-  unfolding toldStart
   shown-step p sent counts e ok j v =
       let inside = allowed-inside valid few p sent counts e ok in
       elim (ℕ-discrete j (row fs (e .frame) .group)) [
@@ -207,7 +202,7 @@ module _ {fs : List Frame} (valid : Valid fs) (few : length fs ≤ 64) (t : List
 
   -- The starts shown are those that the lines tell.
   pub shown-is : (log : List Line) → followLog fs t log .place ≡ 0 → (j : ℕ) → startShown (followLog fs t log .progress) j ≡ shownStart fs t log j
-  unfolding followLog shownStart begin
+  unfolding followLog shownStart
   shown-is log z j = shown-from begin (λ i. 0) (counts-begin fs) 0 log z j ∙ rw (none-seen j)
 
   -- A group that has a line is seen.
