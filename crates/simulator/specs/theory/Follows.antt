@@ -12,16 +12,16 @@ use lib.Seq.{getD-set-same, getD-set-other}
 use Rattle.arith.specs.laws.Members.{getD-table}
 use Rattle.bus_model.specs.Frame.{row}
 use Rattle.bus_model.specs.Release.{release}
-use Rattle.bus_model.specs.Bus.{Transmission, oneMore, Idle}
-use Rattle.bus_model.specs.theory.Uncut.{PlainRuns, never-plain}
+use Rattle.bus_model.specs.Bus.{oneMore, Waiting}
 use Rattle.table_checks.specs.Frames.{framesOf}
 use Rattle.table_checks.specs.Checks.{Loadable, Accepted}
 use Rattle.bus_log.specs.declared.Entry.{Entry}
-use Rattle.bus_log.specs.Log.{ShowsAll, endFrom, lastEnd, IsBeginning, AcceptedLog}
-use Rattle.bus_log.specs.Follow.{startOf, dueOf}
-use Rattle.bus_log.specs.Beginning.{sending, Sends, Follows}
+use Rattle.bus_log.specs.Log.{rowOf, IsBeginning, AcceptedLog}
+use Rattle.bus_log.specs.Follow.{entryOf, entriesOf, startOf, dueOf}
+use Rattle.bus_log.specs.Beginning.{Sends, Follows}
 use Rattle.bus_log.specs.theory.Clear.{next-of}
-use Rattle.bus_log.specs.theory.Table.{few-rows}
+use Rattle.bus_log.specs.theory.Table.{few-rows, row-names}
+use Rattle.bus_log.specs.theory.Entries.{named-row, beginning-entries}
 use Rattle.generator.specs.Draw.{drawFrom}
 use Rattle.simulator.specs.declared.Engine.{Engine}
 use Rattle.simulator.specs.declared.Starts.{Starts}
@@ -136,31 +136,16 @@ module _ (ls : List (List ℕ)) (loadable : Loadable ls) (t : List ℕ) (accepte
 
     -- ---- entries that follow the bus rule, as lines, are a beginning
 
-    sendings : (ℕ → ℕ) → List Entry → List Transmission
-    sendings sent [] = []
-    sendings sent (x ∷ xs) = sending sent x ∷ sendings (oneMore sent (x .frame)) xs
-
-    end-after : (sent : ℕ → ℕ) (free : ℕ) (es : List Entry) → Follows (framesOf ls t) starts sent free es → free ≤ endFrom free (map (lineOf t) es)
-    unfolding Follows endFrom lineOf
-    end-after sent free [] h = omega arith
-    end-after sent free (x ∷ xs) (sends, h) = omega (arith, end-after _ (x .start + x .length) xs h, sends .0 .after)
-
-    shown : (sent : ℕ → ℕ) (free : ℕ) (es : List Entry) → Follows (framesOf ls t) starts sent free es
-        → ShowsAll (framesOf ls t) t starts (map (lineOf t) es) (sendings sent es) × PlainRuns (framesOf ls t) starts (endFrom free (map (lineOf t) es)) sent free (sendings sent es)
-    unfolding Follows endFrom lineOf sendings ShowsAll PlainRuns Idle
-    shown sent free [] h = (tt, λ u i from to waits. omega arith)
-    shown sent free (x ∷ xs) (sends, h) =
-        let (all, runs) = shown (oneMore sent (x .frame)) (x .start + x .length) xs h in (
-          (record { identifier = refl; kind = refl; queueing = sends .1; start = refl; length = refl }, all),
-          (sends .0, refl, omega (arith, end-after _ (x .start + x .length) xs h, sends .0 .positive), runs),
-        )
+    -- The entries of their lines are the same.
+    lines-entries : (sent : ℕ → ℕ) (free : ℕ) (es : List Entry) → Follows (framesOf ls t) starts sent free es → entriesOf t (map (lineOf t) es) ≡ es
+    unfolding Follows Waiting lineOf entryOf
+    lines-entries sent free [] h = refl
+    lines-entries sent free (x ∷ xs) (sends, h) =
+        let row-is : x .frame ≡ rowOf t (lineOf t x) = named-row (framesOf ls t) t (row-names ls t accepted loadable) (lineOf t x) (x .frame) (sends .0 .waiting .0) refl refl in
+        rw (← row-is, lines-entries (oneMore sent (x .frame)) (x .start + x .length) xs h)
 
     pub entries-beginning : (es : List Entry) → Follows (framesOf ls t) starts (λ i. 0) 0 es → IsBeginning (framesOf ls t) t starts (map (lineOf t) es)
-    unfolding IsBeginning
-    entries-beginning es h =
-        let (all, runs) = shown (λ i. 0) 0 es h in
-        let xs = sendings (λ i. 0) es in
-        (xs, all, never-plain (framesOf ls t) starts (lastEnd (map (lineOf t) es)) xs .1 runs)
+    entries-beginning es h = beginning-entries (framesOf ls t) t (row-names ls t accepted loadable) starts (map (lineOf t) es) .1 (rw (lines-entries (λ i. 0) 0 es h) h)
 
   -- ---- from drawn starts
 
