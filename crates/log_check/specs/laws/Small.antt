@@ -32,23 +32,23 @@ use Rattle.log_check.specs.laws.Answer.{files-told}
 abbrev pub latest : ℕ
 latest = 10_000_009_998
 
-record Early (l : Line) : Type 0 where
-  release : l .release ≤ latest
-  end : l .start + l .length ≤ latest
+pub record Early (l : Line) : Type 0 where
+  pub release : l .release ≤ latest
+  pub end : l .start + l .length ≤ latest
 
 module _ (log : List Line) (text : List ℕ) (holds : Holds text log) where
-  early : (l : Line) → Mem l log → Early l
+  pub early : (l : Line) → Mem l log → Early l
   early l m =
       let (i, h, e) = place-of l m in
       let s = holds .stands i l h in
       rw (← e) (record { release = omega (arith, s .queueing-most); end = omega (arith, s .start-most, length-most text (40 * i) _ s) })
 
-module _ (fs : List Frame) (t : List ℕ) (j : ℕ) where
-  end-early : (e : ℕ) (log : List Line) → e ≤ latest → ((l : Line) → Mem l log → Early l) → endFrom e log ≤ latest
-  unfolding endFrom
-  end-early e [] h each = h
-  end-early e (l ∷ ls) h each = end-early (l .start + l .length) ls (each l (here refl) .end) (λ k m. each k (there m))
+pub end-early : (e : ℕ) (log : List Line) → e ≤ latest → ((l : Line) → Mem l log → Early l) → endFrom e log ≤ latest
+unfolding endFrom
+end-early e [] h each = h
+end-early e (l ∷ ls) h each = end-early (l .start + l .length) ls (each l (here refl) .end) (λ k m. each k (there m))
 
+module _ (fs : List Frame) (t : List ℕ) (j : ℕ) where
   start-early : (e : ℕ) (log : List Line) → e ≤ latest → ((l : Line) → Mem l log → Early l) → startFrom fs t e j log ≤ latest
   unfolding startFrom
   start-early e [] h each = h

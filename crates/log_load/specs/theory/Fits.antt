@@ -1,57 +1,34 @@
 -- Every number fits its column: there are at most 1600 lines, and a line starts by 9999999999 and holds at most 9999 ticks.
-use Prim.Native.Nat.{ℕ, suc, _+_, _-_, _*_, _/_, _≤_, _<_, _^_}
-use mathlib.Core.Path.{_≡_, ap}
+use Prim.Native.Nat.{ℕ, _-_, _/_, _≤_, _<_, _^_}
 use mathlib.Core.List.{List, List·Memᴰ as Mem}
 use native.Mathlib.Omega.{arith}
-use native.Mathlib.Decide.{decLt}
-use lib.ListN.{length, length-take, length-drop}
-use Rattle.arith.specs.laws.Members.{of-keep, length-keep, place-of}
+use lib.ListN.{length}
+use Rattle.arith.specs.laws.Members.{of-keep, length-keep}
 use Rattle.arith.specs.laws.Sums.{sum-bound, greatest-le}
-use Rattle.decimal.specs.Laws.{read-below}
 use Rattle.table_checks.specs.Columns.{field, columns, identifierColumn}
 use Rattle.table_checks.specs.Checks.{Accepted}
 use Rattle.table_checks.specs.laws.Accepted.{accepted-limits}
 use Rattle.table_checks.specs.laws.Limits.{identified-max}
 use Rattle.bus_log.specs.declared.Line.{Line}
 use Rattle.bus_log.specs.Log.{isNamed, lastEnd}
-use Rattle.log_reader.specs.Text.{columnAt, Stands}
 use Rattle.log_check.specs.Check.{linesOf}
+use Rattle.log_check.specs.laws.Small.{latest, early, end-early}
 use Rattle.log_load.specs.Busy.{mostBusy, firstBusiest}
 use Rattle.log_load.specs.Sheet.{response, ofRow, seenOf}
 use Rattle.log_load.specs.Meaning.{SeenFits}
-use Rattle.log_load.specs.Steps.{Readable, noLine, nth}
+use Rattle.log_load.specs.Steps.{Readable}
 use Rattle.log_load.specs.theory.Stretch.{busy-most}
 use Rattle.log_load.specs.theory.Found.{first-busiest}
-use Rattle.log_load.specs.theory.Lines.{few-lines, line-stands, last-is, last-none}
-
-end-low : (text : List ℕ) (at : ℕ) (l : Line) → Stands text at l → l .start + l .length ≤ 10_000_009_998
-end-low text at l s =
-    let room = s .whole in
-    let size : length (columnAt text (at + 35) 4) ≡ 4 = simp (length-take, length-drop) (omega arith) in
-    let low = rw size at (read-below (columnAt text (at + 35) 4) (l .length) (s .length)) in
-    omega (arith, s .start-most)
+use Rattle.log_load.specs.theory.Lines.{few-lines}
 
 module _ (text : List ℕ) (readable : Readable text) where
-  line-low : (i : ℕ) → i < length (linesOf text) → nth (linesOf text) i .start + nth (linesOf text) i .length ≤ 10_000_009_998
-  line-low i h = end-low text (40 * i) _ (line-stands text readable i h)
-
   -- A response is no greater than the end.
-  log-low : (l : Line) → Mem l (linesOf text) → response l ≤ 10_000_009_998
+  log-low : (l : Line) → Mem l (linesOf text) → response l ≤ latest
   unfolding response
-  log-low l m =
-      let (i, h, same) = place-of noLine m in
-      let end = ap (λ (k : Line). k .start + k .length) same in
-      omega (arith, line-low i h)
+  log-low l m = omega (arith, early (linesOf text) text readable l m .end)
 
-  last-low : lastEnd (linesOf text) ≤ 10_000_009_998
-  last-low =
-      elim (decLt 0 (length (linesOf text))) [
-        | yes h ↦
-            let m : ℕ = length (linesOf text) - 1 in
-            let e : length (linesOf text) ≡ suc m = omega arith in
-            omega (arith, last-is m (linesOf text) e, line-low m (omega arith))
-        | no h ↦ omega (arith, last-none (linesOf text) (omega arith))
-      ]
+  last-low : lastEnd (linesOf text) ≤ latest
+  last-low = end-early 0 (linesOf text) (omega arith) (early (linesOf text) text readable)
 
   -- "That number and the stretch's first tick stand on a first line, each 11 wide."
   pub first-fits : (w : ℕ) → w ≤ lastEnd (linesOf text) → (mostBusy (linesOf text) w < 10 ^ 11) × (firstBusiest (linesOf text) w < 10 ^ 11)
@@ -64,7 +41,7 @@ module _ (text : List ℕ) (readable : Readable text) where
     unfolding ofRow
     few = omega (arith, length-keep (λ l. isNamed rows l i) (linesOf text), few-lines text readable)
 
-    low : (l : Line) → Mem l (ofRow rows i (linesOf text)) → response l ≤ 10_000_009_998
+    low : (l : Line) → Mem l (ofRow rows i (linesOf text)) → response l ≤ latest
     unfolding ofRow
     low l m = log-low l (of-keep (λ l. isNamed rows l i) (linesOf text) m .0)
 
@@ -74,7 +51,7 @@ module _ (text : List ℕ) (readable : Readable text) where
     seen-fits = record {
       count = omega (arith, few);
       most = omega (arith, greatest-le (ofRow rows i (linesOf text)) low);
-      total = omega (arith, sum-bound response 10_000_009_998 (ofRow rows i (linesOf text)) low, few);
+      total = omega (arith, sum-bound response latest (ofRow rows i (linesOf text)) low, few);
     }
 
 -- "identifier, .. 10 .. wide"
