@@ -76,18 +76,19 @@ module _ (fs : List Frame) (starts sent : ℕ → ℕ) (free : ℕ) (e : Entry) 
 
 -- ---- the test of it
 
+-- Both of two tests fail where they fail together.
+pub or-both : (a b : Bool) → (a || b) ≡ false → (a ≡ false) × (b ≡ false)
+or-both true b h = let z : _≡_ {A = ℕ} 0 1 = cc in absurd (omega arith)
+or-both false b h = (refl, h)
+
 module _ (fs : List Frame) (p : Progress) (e : Entry) (i d : ℕ) where
   abbrev At : Type 0
   At = Clear (p .free) (e .start) (row fs (e .frame) .priority) (row fs i .priority) d
 
-  or-false : (a b : Bool) → (a || b) ≡ false → (a ≡ false) × (b ≡ false)
-  or-false true b h = let z : _≡_ {A = ℕ} 0 1 = cc in absurd (omega arith)
-  or-false false b h = (refl, h)
-
   pub clear-test : isAgainst (p .free) (row fs (e .frame)) e (row fs i) d ≡ false → At
   unfolding isAgainst
   clear-test h =
-      let (first, second) = or-false _ _ h in
+      let (first, second) = or-both _ _ h in
       record {
         idle = ltb-false (max (p .free) d) (e .start) first;
         best = λ waits. ltb-false _ _ (rw (le-leb d (e .start) waits) at second);

@@ -2,7 +2,7 @@
 use Prim.Native.Nat.{ℕ, _+_, _-_, _*_, _≤_, _<_}
 use mathlib.Core.Path.{_≡_, refl, sym, ap, _∙_}
 use mathlib.Core.List.{List}
-use mathlib.Core.Bool.{Bool, true, false, cond, _||_}
+use mathlib.Core.Bool.{Bool, true, false, cond}
 use mathlib.Core.Logic.{_≢_}
 use native.Mathlib.Omega.{arith}
 use native.Mathlib.Decide.{ℕ-discrete, decLe}
@@ -21,7 +21,7 @@ use Rattle.bus_log.specs.declared.Entry.{Entry}
 use Rattle.bus_log.specs.declared.Progress.{Progress}
 use Rattle.bus_log.specs.Beginning.{Sends}
 use Rattle.bus_log.specs.Follow.{isSeen, startOf, dueOf, toldStart, isTold, toldDue, dueWith, isAgainst, hinders, rowHinders, isDue, isAllowed, earliest, dueNext, dueAfter, advance}
-use Rattle.bus_log.specs.theory.Clear.{Clear, Starts, ClearAt, next-of, starts-of, clear-of, clear-test, test-clear}
+use Rattle.bus_log.specs.theory.Clear.{Clear, Starts, ClearAt, next-of, starts-of, clear-of, or-both, clear-test, test-clear}
 use Rattle.bus_log.specs.theory.Known.{Shape, Known, told, seen, unseen, shape-after, due-after, known}
 
 -- ---- what a progress says
@@ -47,10 +47,6 @@ pub record Counts (fs : List Frame) (p : Progress) (sent : ℕ → ℕ) : Type 0
 -- A test does not both pass and fail.
 pub clash : {b : Bool} → b ≡ true → b ≡ false → ⊥
 clash {b} t f = let z : true ≡ false = sym t ∙ f in let y : _≡_ {A = ℕ} 0 1 = cc in omega arith
-
-or-false : (a b : Bool) → (a || b) ≡ false → (a ≡ false) × (b ≡ false)
-or-false true b h = let z : _≡_ {A = ℕ} 0 1 = cc in absurd (omega arith)
-or-false false b h = (refl, h)
 
 not-T : (b : Bool) → (T b → ⊥) → b ≡ false
 not-T true f = absurd (f tt)
@@ -342,7 +338,7 @@ module _ {fs : List Frame} (valid : Valid fs) (few : length fs ≤ 64) (p : Prog
             go : Known fs p e i → Before i
             go (told t f q y st) =
                 let h = a .free i l in
-                let (first, second) = or-false (ltb (toldDue (row fs (e .frame)) e (row fs i)) (dueOf (p .due) i)) (isAgainst (p .free) (row fs (e .frame)) e (row fs i) (toldDue (row fs (e .frame)) e (row fs i))) (rw t at h) in
+                let (first, second) = or-both (ltb (toldDue (row fs (e .frame)) e (row fs i)) (dueOf (p .due) i)) (isAgainst (p .free) (row fs (e .frame)) e (row fs i) (toldDue (row fs (e .frame)) e (row fs i))) (rw t at h) in
                 let b = fits i l .known y in
                 let d : at starts i ≡ toldDue (row fs (e .frame)) e (row fs i) = at-unseen starts i l f ∙ omega arith in
                 record {

@@ -30,7 +30,8 @@ use Rattle.bus_log.specs.theory.Entries.{Names, beginning-entries}
 
 -- ---- before the first line
 
-getD-replicate : {A : Type 0} (k i : ℕ) (d : A) → getD (replicate k d) i d ≡ d
+-- A list of one value has it at every place, and beyond its end.
+pub getD-replicate : {A : Type 0} (k i : ℕ) (d : A) → getD (replicate k d) i d ≡ d
 getD-replicate zero i d = refl
 getD-replicate (suc k) zero d = refl
 getD-replicate (suc k) (suc i) d = getD-replicate k i d

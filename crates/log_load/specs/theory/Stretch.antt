@@ -1,7 +1,7 @@
 -- Where a busiest stretch begins: at 0, with a transmission, or so that it ends with one. So only these places need be tried.
 use Prim.Native.Nat.{ℕ, zero, suc, _+_, _-_, _≤_, _<_}
 use mathlib.Core.Path.{_≡_, refl, sym, _∙_}
-use mathlib.Core.Bool.{Bool, true, false}
+use mathlib.Core.Bool.{true, false}
 use mathlib.Core.List.{List, [], _∷_, List·Memᴰ as Mem, List·Memᴰ·head as here, List·Memᴰ·tail as there}
 use mathlib.Core.Logic.{_⊎_, inl, inr}
 use native.Mathlib.Omega.{arith}
@@ -14,6 +14,7 @@ use Rattle.arith.specs.laws.Tests.{by-test, and-both}
 use Rattle.arith.specs.laws.Members.{exists-mem, of-exists}
 use Rattle.bus_log.specs.declared.Line.{Line}
 use Rattle.bus_log.specs.Log.{endFrom, lastEnd}
+use Rattle.bus_log.specs.theory.Step.{of-T}
 use Rattle.log_load.specs.Busy.{holds, isBusy, busyAt, busyIn, Busiest}
 
 -- ---- a stretch that moves on by a tick
@@ -44,10 +45,6 @@ module _ (log : List Line) where
       let (l, m, h) = of-exists (holds u) log (rw t tt) in
       let (a, b) = and-both (leb (l .start) u) (ltb u (l .start + l .length)) (of-T _ h) in
       (l, m, leb-true _ _ a, ltb-true _ _ b)
-    where
-      of-T : (b : Bool) → T b → b ≡ true
-      of-T true t = refl
-      of-T false t = absurd t
 
   line-busy : (u : ℕ) (l : Line) → Mem l log → l .start ≤ u → u < l .start + l .length → isBusy log u ≡ false → ⊥
   unfolding isBusy holds

@@ -6,7 +6,7 @@ use native.Mathlib.Omega.{arith}
 use native.Mathlib.Decide.{decLt}
 use native.Mathlib.Nat.{mod-lt}
 use lib.Dec.{eqb}
-use lib.ListN.{length, getD, set, replicate, length-map}
+use lib.ListN.{length, getD, set, length-map}
 use Rattle.arith.specs.Lists.{range}
 use Rattle.arith.specs.laws.Tests.{by-test}
 use Rattle.arith.specs.laws.Members.{length-range, getD-table}
@@ -17,6 +17,7 @@ use Rattle.table_checks.specs.Frames.{framesOf}
 use Rattle.table_checks.specs.Checks.{Loadable, Accepted}
 use Rattle.table_checks.specs.laws.Accepted.{length-frames, no-row, accepted-pattern, accepted-valid}
 use Rattle.bus_log.specs.Follow.{startOf}
+use Rattle.bus_log.specs.theory.Verdict.{getD-replicate}
 use Rattle.generator.specs.Draw.{drawFrom}
 use Rattle.simulator.specs.declared.Starts.{Starts}
 use Rattle.simulator.specs.Starts.{hasFrames, startDrawn, startsDrawn, firstDue, firstOf, engineOf}
@@ -33,11 +34,6 @@ set-most (y ∷ ys) zero x zero m h k = h
 set-most (y ∷ ys) zero x (suc j) m h k = k
 set-most (y ∷ ys) (suc i) x zero m h k = k
 set-most (y ∷ ys) (suc i) x (suc j) m h k = set-most ys i x j m h k
-
-zeros : (n j : ℕ) → getD (replicate n 0) j 0 ≤ 1000000
-zeros zero j = omega arith
-zeros (suc n) zero = omega arith
-zeros (suc n) (suc j) = zeros n j
 
 module _ (ls : List (List ℕ)) (loadable : Loadable ls) (t : List ℕ) (accepted : Accepted t) where
   frame-periods : (i : ℕ) → i < length (framesOf ls t) → 1 ≤ row (framesOf ls t) i .period
@@ -57,7 +53,7 @@ module _ (ls : List (List ℕ)) (loadable : Loadable ls) (t : List ℕ) (accepte
 
   pub starts-early : (seed n : ℕ) → n ≤ 16 → Early (startsDrawn (framesOf ls t) seed n)
   unfolding Early startsDrawn
-  starts-early seed zero h = λ j. zeros 17 j
+  starts-early seed zero h = λ j. omega (arith, getD-replicate {A = ℕ} 17 j 0)
   starts-early seed (suc n) h = start-early (startsDrawn (framesOf ls t) seed n) (suc n) (omega arith) h (starts-early seed n (omega arith))
 
   offset-small : (i : ℕ) → row (framesOf ls t) i .offset ≤ 1000000
