@@ -4,22 +4,20 @@ use crate::GROUPS;
 use crate::LogChecked;
 use crate::Outcome;
 use crate::refuse_at;
+use crate::text::line_of;
 use bus_log::Followed;
 use bus_log::Progress;
 use log_reader::LINE;
-use log_reader::LineRead;
 ghost use mathlib.Core.Path.{_≡_};
-ghost use mathlib.Core.Bool.{false};
 ghost use mathlib.Core.List.{map};
-ghost use Prim.Native.Nat.{_*_, _≤_, _<_};
+ghost use Prim.Native.Nat.{_≤_};
 ghost use lib.ListN.{length};
 ghost use Rattle.arith.specs.Lists.{range};
 ghost use Rattle.arith.specs.declared.Found.the-variants.{Nothing};
 ghost use Rattle.table_checks.specs.Frames.{framesOf};
 ghost use Rattle.table_checks.specs.Checks.{Loadable, Accepted};
-ghost use Rattle.bus_log.specs.Follow.{followLine, entryOf, followLog, startShown};
-ghost use Rattle.log_reader.specs.Text.{lineAt};
-ghost use Rattle.log_check.specs.Check.{isBroken, firstBroken, linesOf, followedAnswer};
+ghost use Rattle.bus_log.specs.Follow.{followLog, startShown};
+ghost use Rattle.log_check.specs.Check.{firstBroken, linesOf, followedAnswer};
 
 // The answer to it.
 pub fn answer(lengths: [[u32; 9]; 2], rows: &[u32], text: &[u8]) -> LogChecked
@@ -48,7 +46,8 @@ fn follow_log(lengths: [[u32; 9]; 2], rows: &[u32], text: &[u8]) -> Followed
     let mut p = bus_log::begin();
     let mut i: usize = 0;
     while i < n {
-        let followed = follow_at(lengths, rows, text, p, i);
+        let e = bus_log::entry_of(rows, line_of(text, i));
+        let followed = bus_log::follow_line(lengths, rows, p, i, e);
         if followed.place != 0 {
             return followed;
         }
@@ -58,26 +57,6 @@ fn follow_log(lengths: [[u32; 9]; 2], rows: &[u32], text: &[u8]) -> Followed
     Followed {
         place: 0,
         progress: p,
-    }
-}
-
-// Line i followed.
-fn follow_at(lengths: [[u32; 9]; 2], rows: &[u32], text: &[u8], p: Progress, i: usize) -> Followed
-    requires { ⌜ Accepted (now rows) ⌝ }
-    requires { ⌜ (i < 1600) × (isBroken (now text) i ≡ false) ⌝ }
-    ensures { λ r. ⌜ r ≡ followLine (framesOf lengths (now (rows .entry))) p i (entryOf (now (rows .entry)) (lineAt (now (text .entry)) (40 * i))) ⌝ }
-{
-    let read = log_reader::line(text, LINE * i);
-    match read {
-        LineRead::Read(l) => bus_log::follow_line(lengths, rows, p, i, bus_log::entry_of(rows, l)),
-        LineRead::Broken => Followed {
-            place: 0,
-            progress: p,
-        },
-        LineRead::End => Followed {
-            place: 0,
-            progress: p,
-        },
     }
 }
 

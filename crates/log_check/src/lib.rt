@@ -6,6 +6,7 @@ mod text;
 use arith::Found;
 pub use files::check_files;
 use table_checks::Checked;
+pub use text::line_of;
 ghost use mathlib.Core.Path.{_≡_};
 ghost use Rattle.table_checks.specs.Checks.{Loadable, Accepted};
 ghost use Rattle.table_checks.specs.Returns.{loadedReturns};

@@ -1,10 +1,13 @@
 // Whether a text is a log in its notation.
 use arith::Found;
+use bus_log::Line;
 use log_reader::LINE;
 use log_reader::LineRead;
 ghost use mathlib.Core.Path.{_≡_};
-ghost use Prim.Native.Nat.{_≤_, _<_};
+ghost use Prim.Native.Nat.{_*_, _≤_, _<_};
 ghost use lib.ListN.{length};
+ghost use Rattle.log_reader.specs.Text.{Stands, lineAt};
+ghost use Rattle.log_reader.specs.Laws.{Small};
 ghost use Rattle.log_check.specs.Check.{isMissized, isBroken, firstBroken};
 
 // The most characters of a log.
@@ -47,4 +50,28 @@ pub fn first_broken(text: &[u8]) -> Found
         i += 1;
     }
     Found::Nothing
+}
+
+// Line i, where it is in the notation.
+pub fn line_of(text: &[u8], i: usize) -> Line
+    requires { ⌜ (i < 1600) × Stands (now text) (40 * i) (lineAt (now text) (40 * i)) ⌝ }
+    ensures { λ r. ⌜ r ≡ lineAt (now (text .entry)) (40 * i) ⌝ }
+    ensures small { λ r. ⌜ Small r ⌝ }
+{
+    let read = log_reader::line(text, LINE * i);
+    match read {
+        LineRead::Read(l) => l,
+        LineRead::Broken => no_line(),
+        LineRead::End => no_line(),
+    }
+}
+
+fn no_line() -> Line {
+    Line {
+        start: 0,
+        identifier: 0,
+        kind: 0,
+        release: 0,
+        length: 0,
+    }
 }

@@ -1,7 +1,6 @@
 // The lines of a log that is in the notation.
 use bus_log::Line;
 use log_reader::LINE;
-use log_reader::LineRead;
 ghost use mathlib.Core.Path.{_≡_};
 ghost use Prim.Native.Nat.{_<_, _≤_, _^_};
 ghost use lib.ListN.{length};
@@ -26,22 +25,7 @@ pub fn line_of(text: &[u8], i: usize) -> Line
     ensures { λ r. ⌜ r ≡ nth (linesOf (now (text .entry))) i ⌝ }
     ensures small { λ r. ⌜ Small r ⌝ }
 {
-    let read = log_reader::line(text, LINE * i);
-    match read {
-        LineRead::Read(l) => l,
-        LineRead::Broken => no_line(),
-        LineRead::End => no_line(),
-    }
-}
-
-fn no_line() -> Line {
-    Line {
-        start: 0,
-        identifier: 0,
-        kind: 0,
-        release: 0,
-        length: 0,
-    }
+    log_check::line_of(text, i)
 }
 
 // The last end.

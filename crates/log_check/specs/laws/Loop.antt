@@ -1,7 +1,7 @@
 -- Lines that are in the notation, as a loop follows them.
 use Prim.Native.Nat.{ℕ, _+_, _-_, _*_, _/_, _%_, _≤_, _<_}
 use mathlib.Core.Path.{_≡_, refl, sym, ap, _∙_}
-use mathlib.Core.Bool.{true, false, not}
+use mathlib.Core.Bool.{true, false}
 use mathlib.Core.List.{List, [], _∷_, map}
 use native.Mathlib.Omega.{arith}
 use borrow.Author.Tests.{ltb-false}
@@ -18,9 +18,8 @@ use Rattle.bus_log.specs.declared.Progress.{Progress}
 use Rattle.bus_log.specs.declared.Followed.{Followed}
 use Rattle.bus_log.specs.Follow.{entryOf, begin, followLine, follow, followLog}
 use Rattle.bus_log.specs.theory.Lines.{line-goes, line-stops}
-use Rattle.log_reader.specs.declared.LineRead.{LineRead}
-use Rattle.log_reader.specs.Text.{lineAt, readAt}
-use Rattle.log_check.specs.Check.{isMissized, isRead, isBroken, firstBroken, linesOf}
+use Rattle.log_reader.specs.Text.{lineAt}
+use Rattle.log_check.specs.Check.{isMissized, isBroken, firstBroken, linesOf}
 
 -- A length that a log can have.
 pub sized : (size : ℕ) → isMissized size ≡ false → size ≤ 64000
@@ -37,11 +36,6 @@ whole-line text none i l =
     by-test (isBroken text i)
     (λ t. let (k, at, le) = least-finds (isBroken text) (length text / 40) 0 i (omega arith) (omega arith) (rw t tt) in absurd (none-at (sym none ∙ at)))
     (λ f. f)
-
--- What is not read is broken.
-pub not-read : (text : List ℕ) (i : ℕ) (r : LineRead) → r ≡ readAt text (40 * i) → isRead r ≡ false → isBroken text i ≡ false → ⊥
-unfolding isBroken
-not-read text i r is f whole = let z : not (isRead r) ≡ false = rw (← is) at whole in let y : true ≡ false = rw f at z in let x : _≡_ {A = ℕ} 0 1 = cc in omega arith
 
 -- Groups 1 to 16 by their places.
 pub by-place : (f : ℕ → ℕ) → map (λ i. f (i + 1)) (range 0 16) ≡ map f (range 1 16)

@@ -1,5 +1,5 @@
 -- Every number fits its column: there are at most 1600 lines, and a line starts by 9999999999 and holds at most 9999 ticks.
-use Prim.Native.Nat.{ℕ, _-_, _/_, _≤_, _<_, _^_}
+use Prim.Native.Nat.{ℕ, _/_, _≤_, _<_, _^_}
 use mathlib.Core.List.{List, List·Memᴰ as Mem}
 use native.Mathlib.Omega.{arith}
 use lib.ListN.{length}

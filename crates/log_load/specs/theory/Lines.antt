@@ -1,15 +1,13 @@
 -- The lines of a text that is in the notation.
 use Prim.Native.Nat.{ℕ, zero, suc, _+_, _*_, _≤_, _<_}
-use mathlib.Core.Path.{_≡_, refl, sym, _∙_}
+use mathlib.Core.Path.{_≡_, refl}
 use mathlib.Core.List.{List, [], _∷_}
 use native.Mathlib.Omega.{arith}
 use lib.ListN.{length}
 use Rattle.bus_log.specs.declared.Line.{Line}
 use Rattle.bus_log.specs.Log.{endFrom, lastEnd}
-use Rattle.log_reader.specs.declared.LineRead.{LineRead}
-use Rattle.log_reader.specs.declared.LineRead.the-variants.{Read, Broken, End}
-use Rattle.log_reader.specs.Text.{Stands, readAt}
-use Rattle.log_reader.specs.Laws.{Small, stands-read, read-line}
+use Rattle.log_reader.specs.Text.{Stands, lineAt}
+use Rattle.log_reader.specs.Laws.{stands-read, read-line}
 use Rattle.log_check.specs.Check.{linesOf}
 use Rattle.log_load.specs.Steps.{Readable, noLine, nth}
 
@@ -36,22 +34,5 @@ module _ (text : List ℕ) (readable : Readable text) where
   pub line-stands : (i : ℕ) → i < length (linesOf text) → Stands text (40 * i) (nth (linesOf text) i)
   line-stands i h = readable .stands i noLine h
 
-  -- What is read there is the line, and its numbers are small.
-  pub line-read : (i : ℕ) → i < length (linesOf text) → readAt text (40 * i) ≡ Read (nth (linesOf text) i)
-  line-read i h = stands-read text (40 * i) _ (line-stands i h)
-
-  pub line-small : (i : ℕ) → i < length (linesOf text) → Small (nth (linesOf text) i)
-  line-small i h = read-line text (40 * i) _ (line-read i h) .1
-
-  -- Nothing else is read.
-  pub read-is : (i : ℕ) → i < length (linesOf text) → {r : LineRead} (l : Line) → r ≡ readAt text (40 * i) → r ≡ Read l → (l ≡ nth (linesOf text) i) × Small l
-  read-is i h l is e =
-      let same : Read l ≡ Read (nth (linesOf text) i) = sym e ∙ is ∙ line-read i h in
-      let line : l ≡ nth (linesOf text) i = cc in
-      (line, rw line (line-small i h))
-
-  pub not-broken : (i : ℕ) → i < length (linesOf text) → {r : LineRead} → r ≡ readAt text (40 * i) → r ≡ Broken → ⊥
-  not-broken i h is e = let same : Broken ≡ Read (nth (linesOf text) i) = sym e ∙ is ∙ line-read i h in let z : _≡_ {A = ℕ} 0 1 = cc in omega arith
-
-  pub not-ended : (i : ℕ) → i < length (linesOf text) → {r : LineRead} → r ≡ readAt text (40 * i) → r ≡ End → ⊥
-  not-ended i h is e = let same : End ≡ Read (nth (linesOf text) i) = sym e ∙ is ∙ line-read i h in let z : _≡_ {A = ℕ} 0 1 = cc in omega arith
+  pub line-is : (i : ℕ) → i < length (linesOf text) → nth (linesOf text) i ≡ lineAt text (40 * i)
+  line-is i h = read-line text (40 * i) _ (stands-read text (40 * i) _ (line-stands i h)) .0
