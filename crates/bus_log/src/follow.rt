@@ -135,23 +135,7 @@ fn does_hinder(p: Progress, own: Frame, e: Entry, g: Frame, d: u64) -> bool
     }
 }
 
-// Whether row i, of whose next release d is known, hinders the line.
-fn row_hinders(
-    lengths: [[u32; 9]; 2],
-    rows: &[u32],
-    p: Progress,
-    own: Frame,
-    e: Entry,
-    i: usize,
-    d: u64,
-) -> bool
-    requires { ⌜ (own .group < 17) × (row (framesOf lengths (now rows)) i .group < 17) × (e .release < 2 ^ 40) ⌝ }
-    ensures { λ r. ⌜ r ≡ hinders p own e (row (framesOf lengths (now (rows .entry))) i) d ⌝ }
-{
-    does_hinder(p, own, e, table_checks::frame(lengths, rows, i), d)
-}
-
-// Whether some row does.
+// Whether some row hinders the line.
 fn some_hinders(lengths: [[u32; 9]; 2], rows: &[u32], p: Progress, own: Frame, e: Entry) -> bool
     requires { ⌜ Accepted (now rows) ⌝ }
     requires { ⌜ (own ≡ row (framesOf lengths (now rows)) (e .frame)) × (own .group < 17) × (e .release < 2 ^ 40) ⌝ }
@@ -161,7 +145,7 @@ fn some_hinders(lengths: [[u32; 9]; 2], rows: &[u32], p: Progress, own: Frame, e
     let n = rows.len() / ROW;
     let mut i = 0;
     while i < n {
-        if row_hinders(lengths, rows, p, own, e, i, due[i]) {
+        if does_hinder(p, own, e, table_checks::frame(lengths, rows, i), due[i]) {
             return true;
         }
         i += 1;

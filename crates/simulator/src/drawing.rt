@@ -5,21 +5,11 @@ use table_checks::ROW;
 ghost use mathlib.Core.Path.{_≡_};
 ghost use mathlib.Core.List.{map};
 ghost use Prim.Native.Nat.{_<_, _≤_};
-ghost use lib.Dec.{eqb};
 ghost use Rattle.arith.specs.Lists.{range};
-ghost use Rattle.bus_model.specs.Frame.{row};
 ghost use Rattle.table_checks.specs.Frames.{framesOf};
 ghost use Rattle.table_checks.specs.Checks.{Loadable, Accepted};
 ghost use Rattle.simulator.specs.Starts.{hasFrames, startDrawn, startsDrawn, firstDue, firstOf};
 ghost use Rattle.simulator.specs.theory.First.{Early};
-
-// Whether row i is the group's.
-fn is_of(lengths: [[u32; 9]; 2], rows: &[u32], i: usize, group: u32) -> bool
-    ensures { λ r. ⌜ r ≡ eqb (row (framesOf lengths (now (rows .entry))) i .group) group ⌝ }
-{
-    let g = table_checks::frame(lengths, rows, i);
-    g.group == group
-}
 
 // Whether the group has frames.
 fn has_frames(lengths: [[u32; 9]; 2], rows: &[u32], group: u32) -> bool
@@ -28,7 +18,8 @@ fn has_frames(lengths: [[u32; 9]; 2], rows: &[u32], group: u32) -> bool
     let n = rows.len() / ROW;
     let mut i: usize = 0;
     while i < n {
-        if is_of(lengths, rows, i, group) {
+        let g = table_checks::frame(lengths, rows, i);
+        if g.group == group {
             return true;
         }
         i += 1;

@@ -11,7 +11,7 @@ use Rattle.bus_model.specs.Frame.{row}
 use Rattle.table_checks.specs.Frames.{framesOf}
 use Rattle.table_checks.specs.laws.Accepted.{length-frames}
 use Rattle.bus_log.specs.Follow.{dueOf, hinders, rowHinders}
-use Rattle.bus_log.specs.theory.Table.{few-lines, row-group}
+use Rattle.bus_log.specs.theory.Table.{few-lines, any-group}
 use Rattle.bus_log.proofs.follow.some_hinders.Statement.{statement}
 use Rattle.bus_log.proofs.follow.some_hinders.Tie as tie
 
@@ -25,22 +25,26 @@ loop-holds : tie.Need-loop-holds Inv-loop μ-loop
 unfolding rowHinders
 loop-holds c = (rw (sub-zero, c .before .before .pre .1 .0, length-frames), search needs)
 
-array-read-row-hinders : tie.Need-array-read-row-hinders Inv-loop μ-loop
-array-read-row-hinders c =
-    let s = c .before .before .before .before in
+array-read-does-hinder : tie.Need-array-read-does-hinder Inv-loop μ-loop
+array-read-does-hinder c =
+    let s = c .before .before .before .before .before in
     omega (arith, few-lines (s .args .rows .now) (s .pre .0))
 
-row-hinders-requires : tie.Need-row-hinders-requires Inv-loop μ-loop
-row-hinders-requires c κs =
-    let s = c .before .before .before .before in
-    let rows = s .args .rows .now in
-    (s .pre .1 .1, row-group (s .args .lengths) rows (s .pre .0) (c .before .loop .i) (omega arith), s .pre .1 .2)
+does-hinder-requires : tie.Need-does-hinder-requires Inv-loop μ-loop
+does-hinder-requires c κs =
+    let s = c .before .before .before .before .before in
+    (s .pre .1 .1, rw (c .frame .ensures) (any-group (s .args .lengths) (s .args .rows .now) (s .pre .0) _), s .pre .1 .2)
+
+-- the test of row i
+tested : (c : tie.After-does-hinder Inv-loop μ-loop) → let l = c .before .before .before in let s = l .before .before .before in
+    c .does-hinder .result ≡ hinders (s .args .p) (s .args .own) (s .args .e) (row (framesOf (s .args .lengths) (s .args .rows .now)) (l .loop .i)) (dueOf (s .args .p .due) (l .loop .i))
+tested c = rw (← c .before .frame .ensures) (c .does-hinder .ensures)
 
 returns : tie.Need-returns Inv-loop μ-loop
-returns c = exists-stop _ _ _ _ (c .before .before .loop-test .taken) (c .before .row-hinders .ensures) (c .if1 .taken) ∙ c .before .before .before .loop .inv .0
+returns c = let l = c .before .before .before in exists-stop _ _ _ _ (l .loop-test .taken) (tested (c .before)) (c .if1 .taken) ∙ l .before .loop .inv .0
 
 loop-again : tie.Need-loop-again Inv-loop μ-loop
-loop-again c = (exists-go _ _ _ _ (c .before .before .loop-test .taken) (c .before .row-hinders .ensures) (c .if1 .left) ∙ c .before .before .before .loop .inv .0, search needs)
+loop-again c = let l = c .before .before .before in (exists-go _ _ _ _ (l .loop-test .taken) (tested (c .before)) (c .if1 .left) ∙ l .before .loop .inv .0, search needs)
 
 returns-2 : tie.Need-returns-2 Inv-loop μ-loop
 returns-2 c = exists-end _ _ _ (c .loop-test .left) ∙ c .before .loop .inv .0
@@ -52,9 +56,10 @@ some-hinders-spec =
     Inv-loop
     μ-loop
     loop-holds
+    (λ c κs. search needs)
     (λ c. search needs)
-    array-read-row-hinders
-    row-hinders-requires
+    array-read-does-hinder
+    does-hinder-requires
     returns
     (λ c. search needs)
     (λ c. search needs)

@@ -1,6 +1,7 @@
 -- `simulator::drawing::has_frames` meets its contract: the rows left decide.
 use Prim.Native.Nat.{_-_, _≤_}
 use mathlib.Core.Path.{_≡_, _∙_}
+use borrow.Author.Tests.{eq-eqb, ne-eqb}
 use borrow.Author.Needs.{needs}
 use native.Mathlib.Nat.{sub-zero}
 use lib.Dec.{eqb}
@@ -24,11 +25,16 @@ loop-holds : tie.Need-loop-holds Inv-loop μ-loop
 unfolding hasFrames
 loop-holds c = (rw (sub-zero, length-frames), search needs)
 
+-- the test of row i
+tested : (c : tie.After-frame Inv-loop μ-loop) → let l = c .before .before in let s = l .before .before in
+    eqb (c .frame .result .group) (s .args .group) ≡ eqb (row (framesOf (s .args .lengths) (s .args .rows .now)) (l .loop .i) .group) (s .args .group)
+tested c = rw (c .frame .ensures)
+
 returns : tie.Need-returns Inv-loop μ-loop
-returns c = exists-stop _ _ _ _ (c .before .before .loop-test .taken) (c .before .is-of .ensures) (c .if1 .taken) ∙ c .before .before .before .loop .inv .0
+returns c = let l = c .before .before .before in exists-stop _ _ _ _ (l .loop-test .taken) (tested (c .before .before)) (eq-eqb _ _ (c .if1 .taken)) ∙ l .before .loop .inv .0
 
 loop-again : tie.Need-loop-again Inv-loop μ-loop
-loop-again c = (exists-go _ _ _ _ (c .before .before .loop-test .taken) (c .before .is-of .ensures) (c .if1 .left) ∙ c .before .before .before .loop .inv .0, search needs)
+loop-again c = let l = c .before .before .before in (exists-go _ _ _ _ (l .loop-test .taken) (tested (c .before .before)) (ne-eqb _ _ (c .if1 .left)) ∙ l .before .loop .inv .0, search needs)
 
 returns-2 : tie.Need-returns-2 Inv-loop μ-loop
 returns-2 c = exists-end _ _ _ (c .loop-test .left) ∙ c .before .loop .inv .0
