@@ -9,7 +9,7 @@ use Rattle.bus_log.specs.declared.Line.{Line}
 use Rattle.bus_log.specs.Log.{endFrom, isNamed}
 use Rattle.log_load.specs.declared.Seen.{Seen}
 use Rattle.log_load.specs.Busy.{holds, isBusy, busyAt, busyIn, mostBusy, firstBusiest}
-use Rattle.log_load.specs.Sheet.{response, ofRow, seenOf, firstLine, rowLine, lineOf, sheetOf}
+use Rattle.log_load.specs.Sheet.{ofRow, seenOf, firstLine, rowLine, lineOf, sheetOf}
 
 abbrev line : ℕ → ℕ → ℕ → ℕ → ℕ → Line
 line start identifier kind release length = record { start = start; identifier = identifier; kind = kind; release = release; length = length }
@@ -31,7 +31,7 @@ unfolding firstBusiest mostBusy least orZero busyIn busyAt isBusy holds exists s
 first w = firstBusiest log w
 
 unfoldable seen : ℕ → Seen
-unfolding seenOf ofRow isNamed response keep greatest sum log rows
+unfolding seenOf ofRow isNamed keep greatest sum log rows
 seen i = seenOf rows i log
 
 -- Two lines that meet are one stretch; a later one with as many is not the first.

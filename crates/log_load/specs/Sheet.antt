@@ -13,7 +13,7 @@ use Rattle.log_load.specs.Busy.{mostBusy, firstBusiest}
 -- ---- the rows
 
 -- "Response time is the end minus the queueing"
-unfoldable pub response : Line → ℕ
+abbrev pub response : Line → ℕ
 response l = l .start + l .length - l .release
 
 -- the lines of row i, by identifier and kind

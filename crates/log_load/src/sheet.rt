@@ -2,6 +2,7 @@
 use crate::Best;
 use crate::Seen;
 use crate::lines;
+use crate::stretch::less;
 use arith::greater_wide;
 use bus_log::Line;
 use table_checks::IDENTIFIER;
@@ -28,11 +29,7 @@ fn response(l: Line) -> u64
     ensures { λ r. ⌜ r ≡ response l ⌝ }
     ensures small { λ r. ⌜ r < 2 ^ 41 ⌝ }
 {
-    let end = l.start + l.length;
-    if end < l.release {
-        return 0;
-    }
-    end - l.release
+    less(l.start + l.length, l.release)
 }
 
 // What is seen of row i, with one line more.

@@ -39,7 +39,7 @@ fn walk_to(text: &[u8], walk: Walk, t: u64) -> Walk
 }
 
 // The difference, 0 where b is greater.
-fn less(a: u64, b: u64) -> u64
+pub fn less(a: u64, b: u64) -> u64
     ensures { λ r. ⌜ r ≡ a - b ⌝ }
 {
     if a < b { 0 } else { a - b }

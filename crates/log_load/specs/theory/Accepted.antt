@@ -46,7 +46,7 @@ runs-queued fs t starts T sent free (k ∷ ks) (x ∷ xs) (shows, all) (next, wh
     runs-queued fs t starts T (oneMore sent (x .frame)) (x .start + x .length) ks xs all runs l m
 
 pub accepted-queued : (fs : List Frame) (t : List ℕ) (log : List Line) → AcceptedLog fs t log → (l : Line) → Mem l log → l .release + response l ≡ l .start + l .length
-unfolding AcceptedLog IsBeginning response
+unfolding AcceptedLog IsBeginning
 accepted-queued fs t log (starts, (xs, all, schedule)) l m =
     let queued = runs-queued fs t starts (lastEnd log) (λ i. 0) 0 log xs all (never-plain fs starts (lastEnd log) xs .0 schedule) l m in
     omega arith

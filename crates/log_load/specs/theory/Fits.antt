@@ -24,7 +24,6 @@ use Rattle.log_load.specs.theory.Lines.{few-lines}
 module _ (text : List ℕ) (readable : Readable text) where
   -- A response is no greater than the end.
   log-low : (l : Line) → Mem l (linesOf text) → response l ≤ latest
-  unfolding response
   log-low l m = omega (arith, early (linesOf text) text readable l m .end)
 
   last-low : lastEnd (linesOf text) ≤ latest
