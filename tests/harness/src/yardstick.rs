@@ -162,13 +162,14 @@ impl View {
     }
 
     fn judge(&self, claim: u64) -> Judgement {
-        let Some(rough) = self.approximate() else {
+        let limit = self.limit();
+        let Some(rough) = self.approximate(limit) else {
             return Judgement { verdict: Verdict::NoWindow, bound: 0, margin: 0 };
         };
         let (verdict, bound) = if rough <= claim {
             (Verdict::CertifiedRough, rough)
         } else {
-            let bound = self.precise().expect("the rough bound has a window");
+            let bound = self.precise(limit).expect("the rough bound has a window");
             match (self.scenarios > LIMITS.scenarios, bound <= claim) {
                 (true, true) => (Verdict::CertifiedLevel, bound),
                 (true, false) => (Verdict::Undecided, rough),
@@ -196,15 +197,20 @@ impl View {
         placed
     }
 
-    /// The rough bound, or none if an alignment of the own group has no window. The window with all
-    /// groups open is the limit for each of these; without it, each has its own.
-    fn approximate(&self) -> Option<u64> {
+    /// The window with all groups open, which no other is longer than.
+    fn limit(&self) -> Option<u64> {
         let groups: Vec<&Group> = self.groups.iter().collect();
-        let common = self.settled_window(Scenario { fixed: &self.lone, open: &groups });
+        self.settled_window(Scenario { fixed: &self.lone, open: &groups })
+    }
+
+    /// The rough bound, or none if an alignment of the own group has no window. Without a limit for all
+    /// of these each has its own.
+    fn approximate(&self, limit: Option<u64>) -> Option<u64> {
+        let open: Vec<&Group> = self.groups[1..].iter().collect();
         let mut best = 0;
-        for own in self.groups[0].alignments() {
-            let scenario = Scenario { fixed: &self.placed(own), open: &groups[1..] };
-            let limit = common.or_else(|| self.settled_window(scenario))?;
+        for own in self.groups[0].own_alignments() {
+            let scenario = Scenario { fixed: &self.placed(own), open: &open };
+            let limit = limit.or_else(|| self.settled_window(scenario))?;
             if self.sweep(scenario, released(scenario, limit), best, 0) > 0 {
                 best = self.raised(scenario, best)?;
             }
@@ -214,13 +220,13 @@ impl View {
 
     /// The bound of the deepest level, which is the exact one where all groups are fixed; where the rough
     /// one is found.
-    fn precise(&self) -> Option<u64> {
+    fn precise(&self, limit: Option<u64>) -> Option<u64> {
+        let open: Vec<&Group> = self.groups[1..].iter().collect();
         let mut best = 0;
-        for own in self.groups[0].alignments() {
+        for own in self.groups[0].own_alignments() {
             let mut fixed = self.placed(own);
-            let open: Vec<&Group> = self.groups[1..].iter().collect();
             let scenario = Scenario { fixed: &fixed, open: &open };
-            let reach = released(scenario, self.settled_window(scenario)?);
+            let reach = released(scenario, limit.or_else(|| self.settled_window(scenario))?);
             best = self.improved(&mut fixed, &open, reach, best)?;
         }
         Some(best)

@@ -213,6 +213,12 @@ impl Group {
         std::iter::successors(first, next).take_while(|next| *next < self.turn)
     }
 
+    /// The same for the judged frame's own group, but first the one at which that frame, its first, is released: its response
+    /// is mostly the greatest there.
+    pub fn own_alignments(&self) -> impl Iterator<Item = u64> + '_ {
+        std::iter::once(self.frames[0].phase).chain(self.alignments())
+    }
+
     /// The first alignment with the greatest work in the first n ticks, and that.
     fn best(&self, n: u64) -> (u64, u64) {
         let (frames, end) = (&self.frames[..], self.turn);
