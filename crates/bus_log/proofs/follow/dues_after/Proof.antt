@@ -18,14 +18,6 @@ Inv-loop lengths rows p own e known due₀ i₀ due i = (due ≡ over (map (dueA
 abbrev μ-loop : tie.MeasureT-loop
 μ-loop lengths rows p own e known due₀ i₀ due i = 64 - i
 
-loop-holds : tie.Need-loop-holds Inv-loop μ-loop
-loop-holds c = (refl, search needs, refl, refl)
-
-due-after-requires : tie.Need-due-after-requires Inv-loop μ-loop
-due-after-requires c κs =
-    let s = c .before .before .before .before in
-    (s .pre .0, (refl, s .pre .1 .0, s .pre .1 .1, s .pre .1 .2, s .pre .1 .3))
-
 loop-again : tie.Need-loop-again Inv-loop μ-loop
 loop-again c = let l = c .before .before .loop in (fill-more _ 64 _ _ refl _ _ (l .inv .0) (c .before .loop-test .taken) (c .due-after .ensures), search needs, length-set (l .due) _ _ ∙ l .inv .2, refl)
 
@@ -38,10 +30,10 @@ dues-after-spec =
     (tie.spec
     Inv-loop
     μ-loop
-    loop-holds
     (λ c. search needs)
     (λ c. search needs)
-    due-after-requires
+    (λ c. search needs)
+    (λ c κs. search needs)
     (λ c. search needs)
     (λ c. search needs)
     (λ c. search needs)

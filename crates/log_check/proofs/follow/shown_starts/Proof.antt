@@ -18,9 +18,6 @@ Inv-loop p starts₀ i₀ starts i = (starts ≡ over (map (λ j. startShown p (
 abbrev μ-loop : tie.MeasureT-loop
 μ-loop p starts₀ i₀ starts i = 16 - i
 
-loop-holds : tie.Need-loop-holds Inv-loop μ-loop
-loop-holds c = (refl, search needs, refl, refl)
-
 loop-again : tie.Need-loop-again Inv-loop μ-loop
 loop-again c = let l = c .before .before .loop in (fill-more _ 16 _ _ refl _ _ (l .inv .0) (c .before .loop-test .taken) (c .start-shown .ensures), search needs, length-set (l .starts) _ _ ∙ l .inv .2, refl)
 
@@ -33,7 +30,7 @@ shown-starts-spec =
     (tie.spec
     Inv-loop
     μ-loop
-    loop-holds
+    (λ c. search needs)
     (λ c. search needs)
     (λ c. search needs)
     (λ c κs. search needs)

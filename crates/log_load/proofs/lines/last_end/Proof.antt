@@ -11,12 +11,6 @@ use Rattle.log_load.proofs.lines.last_end.Tie as tie
 returns : tie.Need-returns
 returns c = (last-none _ (sym (c .before .count .ensures .0) ∙ c .if1 .taken), search needs)
 
-line-of-requires : tie.Need-line-of-requires
-line-of-requires c κs = (c .before .before .before .pre, omega (arith, c .if1 .left, c .before .count .ensures .0))
-
-add-result : tie.Need-add-result
-add-result c = let z = c .before .line-of .ensures .1 in omega (arith, z .start, z .length)
-
 returns-2 : tie.Need-returns-2
 returns-2 c =
     let z = c .before .line-of .ensures in
@@ -29,6 +23,6 @@ last-end-spec =
     (λ c κs. search needs)
     returns
     (λ c. search needs)
-    line-of-requires
-    add-result
+    (λ c κs. search needs)
+    (λ c. search needs)
     returns-2)

@@ -11,19 +11,11 @@ use Rattle.log_load.proofs.operation.write_accepted.Tie as tie
 returns : tie.Need-returns
 returns c = width-none _ _ _ _ _ (c .refuse .ensures) (c .before .if1 .taken)
 
-last-end-requires : tie.Need-last-end-requires
-last-end-requires c κs = c .before .before .before .before .pre .1 .0
-
 returns-2 : tie.Need-returns-2
 returns-2 c = width-beyond _ _ _ _ _ (c .refuse2 .ensures) (c .before .before .before .if1 .left) (omega (arith, c .before .if2 .taken, c .before .before .last-end .ensures .0))
 
 returns-3 : tie.Need-returns-3
 returns-3 c = area-short _ _ _ _ (c .before .before .before .before .if1 .left) (omega (arith, c .before .before .if2 .left, c .before .before .before .last-end .ensures .0)) _ (c .refuse3 .ensures) (c .before .if3 .taken)
-
-find-requires : tie.Need-find-requires
-find-requires c κs =
-    let some = c .before .before .before .if1 .left in
-    (c .before .before .before .before .before .before .before .pre .1, (omega arith, omega (arith, c .before .if2 .left, c .before .before .last-end .ensures .0)))
 
 write-rows-requires : tie.Need-write-rows-requires
 write-rows-requires c κs =
@@ -40,14 +32,14 @@ write-accepted-spec =
     (tie.spec
     (λ c κs. search needs)
     returns
-    last-end-requires
+    (λ c κs. search needs)
     (λ c κs. search needs)
     returns-2
     (λ c. search needs)
     (λ c. search needs)
     (λ c κs. search needs)
     returns-3
-    find-requires
+    (λ c κs. search needs)
     (λ c. search needs)
     (λ c. search needs)
     (λ c. search needs)

@@ -1,6 +1,6 @@
 -- `log_load::sheet::seen_of` meets its contract: what is seen and what the lines left show.
 use mathlib.Core.Path.{sym, ap, _∙_}
-use Prim.Native.Nat.{_-_, _*_, _≤_, _<_, _^_}
+use Prim.Native.Nat.{_-_, _*_, _≤_, _^_}
 use native.Mathlib.Omega.{arith}
 use borrow.Author.Needs.{needs}
 use Rattle.arith.specs.laws.Walks.{Through, through-start, through-more, through-end}
@@ -18,20 +18,8 @@ Inv-loop rows text i n seen₀ j₀ seen j = Through (seenOf rows i) joined (lin
 abbrev μ-loop : tie.MeasureT-loop
 μ-loop rows text i n seen₀ j₀ seen j = n - j
 
-count-requires : tie.Need-count-requires Inv-loop μ-loop
-count-requires c κs = c .before .before .pre .1
-
 loop-holds : tie.Need-loop-holds Inv-loop μ-loop
 loop-holds c = let s = c .before .before .before in (through-start _ _ _ _ (seen-start (s .args .rows .now) (s .args .i) (linesOf (s .args .text .now))), search needs, search needs)
-
-line-of-requires : tie.Need-line-of-requires Inv-loop μ-loop
-line-of-requires c κs = (c .before .before .before .before .before .pre .1, omega (arith, c .loop-test .taken, c .before .before .count .ensures .0))
-
-with-line-requires : tie.Need-with-line-requires Inv-loop μ-loop
-with-line-requires c κs =
-    let l = c .before .before .loop in
-    let less : l .j < 1600 = omega (arith, c .before .loop-test .taken, c .before .before .before .count .ensures .1) in
-    (c .before .before .before .before .before .before .pre .0, (c .line-of .ensures .1, omega (arith, l .inv .1), omega (arith, l .inv .2)))
 
 loop-again : tie.Need-loop-again Inv-loop μ-loop
 loop-again c =
@@ -53,10 +41,10 @@ seen-of-spec =
     (tie.spec
     Inv-loop
     μ-loop
-    count-requires
+    (λ c κs. search needs)
     loop-holds
-    line-of-requires
-    with-line-requires
+    (λ c κs. search needs)
+    (λ c κs. search needs)
     (λ c. search needs)
     (λ c. search needs)
     loop-again

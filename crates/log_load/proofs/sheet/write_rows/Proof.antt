@@ -1,9 +1,8 @@
 -- `log_load::sheet::write_rows` meets its contract: after i turns the first i lines are written.
-use mathlib.Core.Path.{_≡_, refl}
+use mathlib.Core.Path.{_≡_}
 use Prim.Native.Nat.{_-_, _*_, _≤_}
-use native.Mathlib.Omega.{arith}
 use borrow.Author.Needs.{needs}
-use lib.ListN.{length, length-take, length-drop}
+use lib.ListN.{length}
 use Rattle.arith.specs.laws.Overwriting.{over}
 use Rattle.arith.specs.laws.Lines.{line-over, lines-over}
 use Rattle.log_check.specs.Check.{linesOf}
@@ -17,14 +16,6 @@ Inv-loop rows text n out₀ i₀ out i = (out ≡ over (linesFrom rows (linesOf 
 
 abbrev μ-loop : tie.MeasureT-loop
 μ-loop rows text n out₀ i₀ out i = n - i
-
-loop-holds : tie.Need-loop-holds Inv-loop μ-loop
-loop-holds c = (refl, search needs, refl)
-
-write-row-requires : tie.Need-write-row-requires Inv-loop μ-loop
-write-row-requires c κs =
-    let start = c .before .before .before .before .before .before in
-    ((omega (arith, c .before .loop-test .taken, start .pre .0), simp (length-take, length-drop) (omega (arith, c .before .before .loop .inv, c .before .loop-test .taken, start .pre .0))), start .pre .1)
 
 loop-again : tie.Need-loop-again Inv-loop μ-loop
 loop-again c =
@@ -44,13 +35,13 @@ write-rows-spec =
     (tie.spec
     Inv-loop
     μ-loop
-    loop-holds
     (λ c. search needs)
     (λ c. search needs)
     (λ c. search needs)
     (λ c. search needs)
     (λ c. search needs)
-    write-row-requires
+    (λ c. search needs)
+    (λ c κs. search needs)
     (λ c. search needs)
     (λ c. search needs)
     loop-again

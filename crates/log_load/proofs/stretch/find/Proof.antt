@@ -17,20 +17,8 @@ Inv-loop text w n last starts₀ ends₀ i₀ starts ends i = Tried (linesOf tex
 abbrev μ-loop : tie.MeasureT-loop
 μ-loop text w n last starts₀ ends₀ i₀ starts ends i = n - i
 
-count-requires : tie.Need-count-requires Inv-loop μ-loop
-count-requires c κs = c .before .pre .0 .0
-
-last-end-requires : tie.Need-last-end-requires Inv-loop μ-loop
-last-end-requires c κs = c .before .before .pre .0 .0
-
-first-window-requires : tie.Need-first-window-requires Inv-loop μ-loop
-first-window-requires c κs = let p = c .before .before .before .pre in let e = c .last-end .ensures in (p .0, (p .1 .1, omega (arith, p .1 .1, e .0, e .1)))
-
 loop-holds : tie.Need-loop-holds Inv-loop μ-loop
 loop-holds c = let f = c .first-window .ensures in (f _, f _, search needs)
-
-line-of-requires : tie.Need-line-of-requires Inv-loop μ-loop
-line-of-requires c κs = (c .before .before .before .before .before .before .pre .0 .0, omega (arith, c .loop-test .taken, c .before .before .before .before .count .ensures .0))
 
 move-to-requires : tie.Need-move-to-requires Inv-loop μ-loop
 move-to-requires c κs =
@@ -40,9 +28,6 @@ move-to-requires c κs =
     let k = c .line-of .ensures in
     let less : l .i < length (linesOf (c .before .before .before .before .before .before .before .args .text .now)) = omega (arith, c .before .loop-test .taken, c .before .before .before .before .before .count .ensures .0) in
     (p .0, ((e .0, omega (arith, p .1 .1, e .0), e .1, omega (arith, k .1 .start)), rw (k .0) (l .inv .0 .before (l .i) (omega arith) less)))
-
-add-less : tie.Need-add-less Inv-loop μ-loop
-add-less c = let z = c .before .before .line-of .ensures .1 in omega (arith, z .start, z .length)
 
 move-to-requires-2 : tie.Need-move-to-requires-2 Inv-loop μ-loop
 move-to-requires-2 c κs =
@@ -80,13 +65,13 @@ find-spec =
     (tie.spec
     Inv-loop
     μ-loop
-    count-requires
-    last-end-requires
-    first-window-requires
+    (λ c κs. search needs)
+    (λ c κs. search needs)
+    (λ c κs. search needs)
     loop-holds
-    line-of-requires
+    (λ c κs. search needs)
     move-to-requires
-    add-less
+    (λ c. search needs)
     (λ c κs. search needs)
     move-to-requires-2
     add-i

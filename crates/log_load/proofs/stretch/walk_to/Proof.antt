@@ -17,18 +17,6 @@ Inv-loop text t n line₀ done₀ line done = Walked (linesOf text) t line done
 abbrev μ-loop : tie.MeasureT-loop
 μ-loop text t n line₀ done₀ line done = n - line
 
-count-requires : tie.Need-count-requires Inv-loop μ-loop
-count-requires c κs = c .before .pre .0 .0
-
-loop-holds : tie.Need-loop-holds Inv-loop μ-loop
-loop-holds c = c .before .before .pre .1 .1
-
-line-of-requires : tie.Need-line-of-requires Inv-loop μ-loop
-line-of-requires c κs = (c .before .before .before .before .pre .0 .0, omega (arith, c .loop-test .taken, c .before .before .count .ensures .0))
-
-add-if1 : tie.Need-add-if1 Inv-loop μ-loop
-add-if1 c = let z = c .before .line-of .ensures .1 in omega (arith, z .start, z .length)
-
 add-busy : tie.Need-add-busy Inv-loop μ-loop
 add-busy c =
     let s = c .before .before .before .before .before .before .before .before in
@@ -49,9 +37,6 @@ add-done c =
     let s = c .before .before .before .before .before .before .before .before in
     let done = walk-done _ (s .pre .0 .1) (c .before .before .before .before .before .loop .inv) in
     omega (arith, done, s .pre .1 .0, c .before .before .before .line-of .ensures .1 .length)
-
-add-line : tie.Need-add-line Inv-loop μ-loop
-add-line c = omega (arith, c .before .before .before .before .loop-test .taken, c .before .before .before .before .before .before .count .ensures .1)
 
 loop-again : tie.Need-loop-again Inv-loop μ-loop
 loop-again c =
@@ -74,15 +59,15 @@ walk-to-spec =
     (tie.spec
     Inv-loop
     μ-loop
-    count-requires
-    loop-holds
-    line-of-requires
-    add-if1
+    (λ c κs. search needs)
+    (λ c. search needs)
+    (λ c κs. search needs)
+    (λ c. search needs)
     (λ c κs. search needs)
     add-busy
     returns
     add-done
-    add-line
+    (λ c. search needs)
     (λ c. search needs)
     loop-again
     returns-2)

@@ -19,9 +19,6 @@ loop-holds : tie.Need-loop-holds Inv-loop μ-loop
 unfolding startsDrawn
 loop-holds c = (refl, search needs)
 
-draw-start-requires : tie.Need-draw-start-requires Inv-loop μ-loop
-draw-start-requires c κs = (c .before .before .before .pre, (omega arith, omega arith))
-
 loop-again : tie.Need-loop-again Inv-loop μ-loop
 unfolding startsDrawn
 loop-again c = let l = c .before .before .loop in (c .draw-start .ensures ∙ rw (l .inv .0, add-one (l .j)), search needs)
@@ -37,7 +34,7 @@ draw-starts-spec =
     μ-loop
     loop-holds
     (λ c. search needs)
-    draw-start-requires
+    (λ c κs. search needs)
     (λ c. search needs)
     (λ c. search needs)
     loop-again

@@ -18,12 +18,6 @@ Inv-loop lengths rows d due₀ i₀ due i = (due ≡ over (map (firstDue (frames
 abbrev μ-loop : tie.MeasureT-loop
 μ-loop lengths rows d due₀ i₀ due i = 64 - i
 
-loop-holds : tie.Need-loop-holds Inv-loop μ-loop
-loop-holds c = (refl, search needs, refl, refl)
-
-first-due-requires : tie.Need-first-due-requires Inv-loop μ-loop
-first-due-requires c κs = c .before .before .before .pre
-
 loop-again : tie.Need-loop-again Inv-loop μ-loop
 loop-again c = let l = c .before .before .loop in (fill-more _ 64 _ _ refl _ _ (l .inv .0) (c .before .loop-test .taken) (c .first-due .ensures), search needs, length-set (l .due) _ _ ∙ l .inv .2, refl)
 
@@ -36,8 +30,8 @@ first-dues-spec =
     (tie.spec
     Inv-loop
     μ-loop
-    loop-holds
-    first-due-requires
+    (λ c. search needs)
+    (λ c κs. search needs)
     (λ c. search needs)
     (λ c. search needs)
     (λ c. search needs)

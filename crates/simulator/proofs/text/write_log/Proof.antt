@@ -3,7 +3,7 @@ use Prim.Native.Nat.{_-_, _*_, _≤_}
 use mathlib.Core.Path.{_≡_, refl, ap, _∙_}
 use native.Mathlib.Omega.{arith}
 use borrow.Author.Needs.{needs}
-use lib.ListN.{length, length-take, length-drop}
+use lib.ListN.{length}
 use Rattle.table_checks.specs.Frames.{framesOf}
 use Rattle.arith.specs.laws.Overwriting.{over}
 use Rattle.arith.specs.laws.Lines.{line-over, lines-over}
@@ -25,15 +25,6 @@ loop-holds : tie.Need-loop-holds Inv-loop μ-loop
 unfolding after
 loop-holds c = (refl, refl, search needs, refl)
 
-entry-next-requires : tie.Need-entry-next-requires Inv-loop μ-loop
-entry-next-requires c κs = c .before .before .before .before .before .pre .0
-
-mul-from : tie.Need-mul-from Inv-loop μ-loop
-mul-from c = omega (arith, c .before .before .before .loop .inv .2, c .before .before .before .before .before .before .pre .1 .1)
-
-add-to : tie.Need-add-to Inv-loop μ-loop
-add-to c = omega (arith, c .before .before .before .loop .inv .2, c .before .before .before .before .before .before .pre .1 .1)
-
 -- what the transmission has
 small : (c : tie.After-entry-next Inv-loop μ-loop) → Small (c .before .before .before .before .before .before .args .rows .now) (c .entry-next .result)
 small c =
@@ -43,12 +34,6 @@ small c =
 
 line-of-requires : tie.Need-line-of-requires Inv-loop μ-loop
 line-of-requires c κs = (small c .inside, small c .row)
-
-part-write-line-end : tie.Need-part-write-line-end Inv-loop μ-loop
-part-write-line-end c = let k = c .before in omega (arith, k .before .before .loop-test .taken, k .before .before .before .loop .inv .3, k .before .before .before .before .before .before .pre .1 .2)
-
-write-line-requires : tie.Need-write-line-requires Inv-loop μ-loop
-write-line-requires c κs = let k = c .before .before in simp (length-take, length-drop) (omega (arith, k .before .before .loop-test .taken, k .before .before .before .loop .inv .3, k .before .before .before .before .before .before .pre .1 .2))
 
 moved-by-requires : tie.Need-moved-by-requires Inv-loop μ-loop
 moved-by-requires c κs = let z = small (c .before .before .before .before .before) in (z .row, omega (arith, z .start), omega (arith, z .release), omega (arith, z .length-max))
@@ -79,14 +64,14 @@ write-log-spec =
     μ-loop
     loop-holds
     (λ c κs. search needs)
-    entry-next-requires
-    mul-from
-    add-to
+    (λ c κs. search needs)
+    (λ c. search needs)
+    (λ c. search needs)
     line-of-requires
     (λ c. search needs)
     (λ c. search needs)
-    part-write-line-end
-    write-line-requires
+    (λ c. search needs)
+    (λ c κs. search needs)
     moved-by-requires
     (λ c. search needs)
     (λ c. search needs)
