@@ -1,4 +1,6 @@
 // A group's alignments, one after the other: no array holds them. Which instants this walk visits: specs/Walk.
+#![tactic(auto)]
+
 ghost use Rattle.std.specs.Prelude.{◌≡◌, cond, ◌+◌, ◌-◌, ◌*◌, ◌≤◌, ◌<◌, max, eqb, ltb, length};
 ghost use mathlib.Core.List.{Memᴰ as Mem};
 ghost use Rattle.arith.specs.Lists.{sum, greatest};

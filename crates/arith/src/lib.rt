@@ -1,5 +1,7 @@
 // Arithmetic that the other crates share: the answer of a search, one of two numbers, their product, the greatest common divisor and the
 // least common multiple. The definitions and their laws are in specs/.
+#![tactic(auto)]
+
 ghost use Rattle.std.specs.Prelude.{◌≡◌, cond, ◌*◌, ◌≤◌, ◌<◌, ◌^◌, min, max};
 ghost use Rattle.arith.specs.Least.{or_zero};
 ghost use Rattle.arith.specs.Multiples.{gcd, lcm};

@@ -1,4 +1,6 @@
 // The bounds of a frame's response time over all scenarios, computed over an accepted table.
+#![tactic(auto)]
+
 mod alignments;
 mod case;
 mod count;

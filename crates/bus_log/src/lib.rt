@@ -1,4 +1,6 @@
 // A bus log, and whether it is the beginning of a schedule of its table.
+#![tactic(auto)]
+
 
 mod follow;
 

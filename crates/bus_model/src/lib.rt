@@ -1,4 +1,6 @@
 // The types that the definitions in specs/ share with the code of the crates above.
+#![tactic(auto)]
+
 use arith::Found;
 
 // A frame of the table, by the numbers that the bus rule and the bounds read.

@@ -1,4 +1,6 @@
 // The command busiest: the width as it is typed, and the sheet of a log, or its refusal, as they are printed.
+#![tactic(auto)]
+
 ghost use Rattle.std.specs.Prelude.{◌≡◌};
 ghost use Rattle.table_checks.specs.declared.Checked.TheVariants.{Passed};
 ghost use Rattle.frame_table.specs.Table.{answer_for, area_after};

@@ -1,5 +1,7 @@
 // Cases of the test programs on standard input: a header of 18 bytes, a letter, two numbers of 8 columns
 // each and a line feed, and then as many bytes as the second number says.
+#![tactic(auto)]
+
 ghost use Rattle.std.specs.Prelude.{◌≡◌, ◌/◌, min, ◌++◌, length, take, drop};
 ghost use Rattle.decimal.specs.Decimal.{read_column};
 ghost use Rattle.case_reader.specs.Cases.{number_in, PayloadRead, word_of, words_of};

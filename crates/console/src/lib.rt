@@ -1,6 +1,8 @@
 // What the programs share: lengths and table on standard input, a file that an argument names, an operation's answer on standard output,
 // and complaints on standard error. An input of any length is judged by its true length, though no more is held of it than an accepted one
 // can have.
+#![tactic(auto)]
+
 ghost use Rattle.std.specs.Prelude.{length};
 ghost use Rattle.io.specs.Counts.{IsPrefixLen};
 ghost use Rattle.console.specs.Steps.{Held, Within};

@@ -1,5 +1,7 @@
 // The command explain: the row as it is typed, and its line of the listing with the case that breaks its claim, or the refusal, as they
 // are printed.
+#![tactic(auto)]
+
 ghost use Rattle.std.specs.Prelude.{◌≡◌, ◌++◌, ◌+◌, ◌≤◌, length};
 ghost use Rattle.decimal.specs.Numbered.{numbered_lines};
 ghost use Rattle.table_checks.specs.declared.Checked.TheVariants.{Passed};

@@ -1,4 +1,6 @@
 // The command faults: the gap as it is typed, and the listing under faults, or the refusal, as they are printed.
+#![tactic(auto)]
+
 ghost use Rattle.std.specs.Prelude.{◌≡◌};
 ghost use Rattle.lengths_file.specs.Input.{lengths_part, table_part};
 ghost use Rattle.certifier.specs.FaultsListing.{list_faults_file, listed_file};

@@ -1,4 +1,6 @@
 // The exact length of a data frame on the wire: its bits are sent one by one, with their stuff bits and CRC.
+#![tactic(auto)]
+
 ghost use Rattle.std.specs.Prelude.{◌≡◌, ◌+◌, ◌*◌, ◌≤◌, ◌<◌, length};
 ghost use Rattle.frame_length.specs.DataFrame.{bit, bits, arbitration, control, data_field, before_crc};
 ghost use Rattle.frame_length.specs.Crc.{crc_step};

@@ -2,6 +2,8 @@
 // A case is a header of 18 bytes, the letter L, a number that is not used (8), the size (8) and a line feed, and then
 // so many bytes: kind (20), identifier (20), and the payload's digits. A line is what the command prints, or says that an
 // argument is malformed.
+#![tactic(auto)]
+
 use certifier::Reply;
 use frame_table::Answer;
 

@@ -1,4 +1,6 @@
 // The command frame-length: kind, identifier and payload as they are typed, and the line that is printed.
+#![tactic(auto)]
+
 ghost use Rattle.std.specs.Prelude.{◌≡◌, ◌++◌, ◌/◌, ◌≤◌, length, drop};
 ghost use Rattle.table_checks.specs.declared.Checked.TheVariants.{Passed};
 ghost use Rattle.frame_table.specs.Table.{answer_for, area_after};

@@ -1,4 +1,6 @@
 // Frame tables, read from a file and written to a file.
+#![tactic(auto)]
+
 mod text;
 
 ghost use Rattle.std.specs.Prelude.{◌≡◌, ℕ, ◌<◌, ◌≤◌, ◌^◌, ◌++◌, length, get_or, drop};

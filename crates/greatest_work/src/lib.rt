@@ -1,4 +1,6 @@
 // The greatest work that a group's alignments give, remembered in stairs, and guesses of the alignment that gives it.
+#![tactic(auto)]
+
 mod greatest;
 mod guesses;
 mod stairs;

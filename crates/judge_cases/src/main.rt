@@ -2,6 +2,8 @@
 // The first number of a header is the row, and the payload is the table's rows. J judges the row, P gives its
 // precise bound. A line is the letter and 0 (3), and then for J the verdict (3), the bound (8) and the margin
 // (9), for P the bound (8); or the letter, the number (3) and the place (6) of a refusal.
+#![tactic(auto)]
+
 use certifier::{Bounded, Judged, Refusal};
 
 fn main() {

@@ -1,4 +1,6 @@
 // The file of the lengths: two lines, kind 11 and then kind 29, of nine numbers in columns 5 wide, a line feed after each.
+#![tactic(auto)]
+
 mod input;
 mod text;
 

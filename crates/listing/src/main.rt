@@ -1,5 +1,7 @@
 // Lists the judgements of the frame table on standard input, behind the 92 bytes of the lengths: a line a row, or one line with the
 // number and the place of the refusal. Where standard input cannot be read, nothing is judged, and standard error says so.
+#![tactic(auto)]
+
 use console::BUFFER;
 
 // Room for a line of each row.

@@ -1,4 +1,6 @@
 // The load sheet of a table: each node's bus load, and the greatest of them.
+#![tactic(auto)]
+
 mod loads;
 mod sheet;
 

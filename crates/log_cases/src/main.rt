@@ -1,6 +1,8 @@
 // Answers the commands check-log, busiest and simulate for the cases on standard input, and prints what each prints.
 // A case is a header of 18 bytes, the letter C, B or S, the size of lengths and table (8), the size of all (8) and a line feed, and then
 // so many bytes: two arguments (20 each), lengths and table, and the log. An argument that is malformed is said.
+#![tactic(auto)]
+
 use certifier::Reply;
 use frame_table::Answer;
 

@@ -1,4 +1,6 @@
 // A bus log checked against its table. It takes any input, and checks its lengths and table itself.
+#![tactic(auto)]
+
 mod files;
 mod follow;
 mod text;

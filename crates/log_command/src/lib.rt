@@ -1,4 +1,6 @@
 // The command check-log: the starts of groups 1 to 16 with which a log is the beginning of a schedule, or its refusal, as they are printed.
+#![tactic(auto)]
+
 ghost use Rattle.std.specs.Prelude.{◌≡◌, ◌++◌, ◌≤◌, length, drop};
 ghost use Rattle.table_checks.specs.declared.Checked.TheVariants.{Passed};
 ghost use Rattle.frame_table.specs.Table.{answer_for, area_after};

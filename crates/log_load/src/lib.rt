@@ -1,4 +1,6 @@
 // The busiest stretch of a log, and the sheet of its rows. Operations take any input, and check lengths, table and log themselves.
+#![tactic(auto)]
+
 mod files;
 mod lines;
 mod operation;

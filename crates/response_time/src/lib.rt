@@ -1,5 +1,7 @@
 // The response times of a frame in a scenario: the searches for its busy window and for the starts of its instances, and which of these
 // need not be made.
+#![tactic(auto)]
+
 mod exceeding;
 mod reach;
 mod response;

@@ -1,6 +1,8 @@
 // The judgement of a row of a frame table, with the case that breaks its claim or without, and its precise bound. All take any input, and
 // check their lengths and table themselves; judge_accepted and bound_accepted take accepted ones, for what has read them from files,
 // judge_row for the listing, which judges all its rows, and prepare_row for other searches.
+#![tactic(auto)]
+
 mod bound;
 mod decide;
 mod explanation;

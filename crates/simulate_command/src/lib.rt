@@ -1,4 +1,6 @@
 // The command simulate: seed and lines as they are typed, and what is printed.
+#![tactic(auto)]
+
 ghost use Rattle.std.specs.Prelude.{◌≡◌};
 ghost use Rattle.table_checks.specs.declared.Checked.TheVariants.{Passed};
 ghost use Rattle.decimal.specs.Decimal.{read_column};

@@ -1,4 +1,6 @@
 // A log written by the bus rule, from a seed.
+#![tactic(auto)]
+
 mod drawing;
 mod operation;
 mod text;

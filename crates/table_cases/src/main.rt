@@ -3,6 +3,8 @@
 // line feed, and then the payload: for R a file to be read, for C and W rows to be checked and written,
 // each number four bytes with the lowest first. A line is the letter, the number (3) and the place (6) of a
 // refusal, or 0 and the count of lines, and for R and W the fingerprint (10) of the lent area.
+#![tactic(auto)]
+
 use frame_table::Answer;
 use table_checks::Checked;
 

@@ -1,5 +1,7 @@
 // What is checked of a frame table, why one is turned back, and its rows as frames.
 // A table is a row of numbers a line, one a column.
+#![tactic(auto)]
+
 mod checks;
 mod frames;
 mod lengths;

@@ -1,6 +1,8 @@
 // Entries for a test program in another language, for the operations that have no entry for C. Each answers one signed
 // number: how many elements were written, 0 for a check that passed, a judgement or a bound as certifier encodes it, or
 // minus (number × 10000 + place) for a refusal. Lengths are given as numbers, eighteen where none is missing.
+#![tactic(auto)]
+
 mod lengths;
 
 ghost use Rattle.std.specs.Prelude.{◌≡◌};

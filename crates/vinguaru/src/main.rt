@@ -1,5 +1,7 @@
 // Does what the command says that is the program's first argument; lengths and a frame table stand on standard input. Another command is a
 // variant of Command, a line in `read_command`, an arm in `main` with a function of its own, and a line of the usage text.
+#![tactic(auto)]
+
 ghost use Rattle.io.specs.Counts.{IsPrefixLen};
 
 use certifier::Reply;

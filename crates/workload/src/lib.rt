@@ -1,5 +1,7 @@
 // The work that the frames ahead of one bring at fixed alignments. What is needed of an accepted table beside its rows is prepared once
 // for each judged row; a search places the frames that load a scenario before it begins.
+#![tactic(auto)]
+
 mod blocking;
 mod faults;
 mod groups;

@@ -1,6 +1,8 @@
 // The worst case of the frame that ranks last: the starts of the groups with which its precise bound is reached to the tick, where all
 // transmissions have their largest lengths, and the instance whose response it is. It takes any input, and checks its lengths and its table
 // itself; last_row and worst_row take accepted ones.
+#![tactic(auto)]
+
 mod last;
 mod row;
 mod starts;

@@ -1,4 +1,6 @@
 // The command worst: the line of the listing of the frame that ranks last, and its worst case, as they are printed.
+#![tactic(auto)]
+
 ghost use Rattle.std.specs.Prelude.{◌≡◌, ◌++◌, ◌<◌, ◌/◌, length};
 ghost use Rattle.bus_model.specs.declared.Faults.TheVariants.{Never};
 ghost use Rattle.decimal.specs.Numbered.{numbered_lines};
