@@ -7,7 +7,7 @@ ghost use Rattle.arith.specs.Least.{or_zero};
 ghost use Rattle.arith.specs.Multiples.{gcd, lcm};
 
 // The answer of a search.
-#[derive(Drop)]
+#[derive(Clone, Copy)]
 pub enum Found {
     At(u32),
     Nothing,

@@ -7,7 +7,7 @@ mod follow;
 pub use follow::{begin, entry_of, follow_line, is_named, start_shown};
 
 // A line of a log.
-#[derive(Drop)]
+#[derive(Clone, Copy)]
 pub struct Line {
     pub start: u64,
     pub identifier: u64,
@@ -18,7 +18,7 @@ pub struct Line {
 }
 
 // A line by the row of its frame.
-#[derive(Drop)]
+#[derive(Clone, Copy)]
 pub struct Entry {
     pub frame: usize,
     pub start: u64,
@@ -27,7 +27,7 @@ pub struct Entry {
 }
 
 // What the lines so far say.
-#[derive(Drop)]
+#[derive(Clone, Copy)]
 pub struct Progress {
     // The last end: the tick from which the bus is free.
     pub free: u64,

@@ -4,7 +4,7 @@
 use arith::Found;
 
 // A frame of the table, by the numbers that the bus rule and the bounds read.
-#[derive(Drop)]
+#[derive(Clone, Copy)]
 pub struct Frame {
     // Nodes that start together are a group; which of its nodes sends the frame plays no part.
     pub group: u32,
@@ -20,7 +20,7 @@ pub struct Frame {
 
 // A group's part in a scenario: whichever of its alignments gives the greatest sum, chosen anew at each tick,
 // or one of them.
-#[derive(Drop)]
+#[derive(Clone, Copy)]
 pub enum Choice {
     Any,
     Fixed(u32),
@@ -28,14 +28,14 @@ pub enum Choice {
 
 // A premise about faults on the bus (document 02, request 9): none ever begins, or they begin at least so many
 // ticks apart.
-#[derive(Drop)]
+#[derive(Clone, Copy)]
 pub enum Faults {
     Never,
     Apart(u32),
 }
 
 // The named outcomes of judging a claim, each but the last with the bound used.
-#[derive(Drop)]
+#[derive(Clone, Copy)]
 pub enum Outcome {
     // "Certified by the rough bound".
     CertifiedApproximate(u32),

@@ -31,7 +31,7 @@ pub enum Measured {
 }
 
 // The bits sent so far: the last one, how many equal ones end with it, how many they are, and their CRC.
-#[derive(Drop)]
+#[derive(Clone, Copy)]
 pub struct Sent {
     pub last: bool,
     pub run: u32,

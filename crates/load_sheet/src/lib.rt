@@ -10,7 +10,7 @@ pub use sheet::{write, write_input};
 pub const LONGEST: usize = 494;
 
 // A node's load: its work × 10000, divided by the hyperperiod of its group.
-#[derive(Drop)]
+#[derive(Clone, Copy)]
 pub struct Load {
     pub quotient: u64,
     pub remainder: u64,

@@ -40,7 +40,7 @@ pub enum Answer {
 }
 
 // A stretch: how many of its ticks are busy, and its first tick.
-#[derive(Drop)]
+#[derive(Clone, Copy)]
 pub struct Best {
     pub count: u64,
     pub first: u64,
@@ -48,7 +48,7 @@ pub struct Best {
 
 // A walk along a log to some tick: the first line that ends after it, the ticks that the lines before that one hold, and how many
 // ticks before it are busy.
-#[derive(Drop)]
+#[derive(Clone, Copy)]
 pub struct Walk {
     pub line: usize,
     pub done: u64,
@@ -56,7 +56,7 @@ pub struct Walk {
 }
 
 // A stretch that moves along a log: a walk to each end of it, and the best that it has been.
-#[derive(Drop)]
+#[derive(Clone, Copy)]
 pub struct Window {
     pub from: Walk,
     pub to: Walk,

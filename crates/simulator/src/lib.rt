@@ -15,7 +15,7 @@ pub const MOST_LINES: u64 = 1600;
 pub const LONGEST: usize = 64_000;
 
 // The state of a simulation.
-#[derive(Drop)]
+#[derive(Clone, Copy)]
 pub struct Engine {
     // The number drawn last.
     pub drawn: u32,
@@ -26,7 +26,7 @@ pub struct Engine {
 }
 
 // The starts drawn so far, for each group at its number, and the number drawn last.
-#[derive(Drop)]
+#[derive(Clone, Copy)]
 pub struct Starts {
     pub drawn: u32,
     pub starts: [u64; 17],

@@ -56,7 +56,7 @@ pub const MALFORMED: u64 = 1_000_000_000_000_000_000;
 pub const UNTERMINATED: u64 = 1_000_000_000_000_000_001;
 
 // Why a table, or the lengths, are turned back.
-#[derive(Drop)]
+#[derive(Clone, Copy)]
 pub enum Cause {
     // The file's length is 0 or no multiple of a line's, or a line's last character is no line feed.
     FileForm,
@@ -84,14 +84,14 @@ pub enum Cause {
 }
 
 // A cause, and the line (from 1) or the group where it was found, or 0.
-#[derive(Drop)]
+#[derive(Clone, Copy)]
 pub struct Refusal {
     pub cause: Cause,
     pub place: u32,
 }
 
 // What checking a table finds: nothing against it, or the first cause against it.
-#[derive(Drop)]
+#[derive(Clone, Copy)]
 pub enum Checked {
     Passed,
     Failed(Refusal),

@@ -21,7 +21,7 @@ pub use work::{
 };
 
 // The frame that is judged, with its blocking, the premise about faults, and what one costs it at most.
-#[derive(Drop)]
+#[derive(Clone, Copy)]
 pub struct Target {
     pub frame: Frame,
     pub blocked: u32,
@@ -30,7 +30,7 @@ pub struct Target {
 }
 
 // What is looked for in a scenario: its busy window, or the start of an instance.
-#[derive(Drop)]
+#[derive(Clone, Copy)]
 pub enum Search {
     Window,
     Instance(u32),
