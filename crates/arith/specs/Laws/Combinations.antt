@@ -31,10 +31,10 @@ module _ {A : Type 0} where
   pub length-combination : {t : List A} (ls : List (List A)) → Mem t (combinations ls) → length t ≡ length ls
   unfolding combinations
   length-combination [] m = ap length (Memᴰ.eq_of_singleton m)
-  length-combination (xs ∷ ls) m =
+  length-combination {t = t} (xs ∷ ls) m =
       let (x, l, o) = of-flat_map _ xs m in
       let (u, n, e) = of_map (λ (v : List A). x ∷ v) (combinations ls) o in
-      rw e (ap suc (length-combination ls n))
+      rw e (ap suc (length-combination {t = u} ls n))
 
 -- ---- joins
 

@@ -24,6 +24,7 @@ module _ {A : Type 0} where
   -- What passes is kept.
   pub mem-keep : (p : A → Bool) {x : A} {xs : List A} → Mem x xs → T (p x) → Mem x (keep p xs)
   unfolding keep
+  mem-keep p {x = x} {xs = []} x6 t = elim x6 [ ]
   mem-keep p {x} {xs = y ∷ ys} (here e) t = go (p y) (rw e at t)
     where
       go : (b : Bool) → T b → Mem x (cond b (y ∷ keep p ys) (keep p ys))
@@ -69,6 +70,7 @@ module _ {A : Type 0} where
   -- Where an element passes, one exists.
   pub exists-mem : (p : A → Bool) {x : A} {xs : List A} → Mem x xs → T (p x) → T (exists p xs)
   unfolding exists
+  exists-mem p {x = x} {xs = []} x6 t = elim x6 [ ]
   exists-mem p {x} {xs = y ∷ ys} (here e) t = go (p y) (rw e at t)
     where
       go : (b : Bool) → T b → T (b || exists p ys)
@@ -128,6 +130,7 @@ module _ {A : Type 0} where
 
   pub keep-shorter : (p : A → Bool) {x : A} {xs : List A} → Mem x xs → ¬ T (p x) → length (keep p xs) < length xs
   unfolding keep
+  keep-shorter p {x = x} {xs = []} x6 fails = elim x6 [ ]
   keep-shorter p {x} {xs = y ∷ ys} (here e) fails = go (p y) (rw e at fails)
     where
       go : (b : Bool) → ¬ T b → length (cond b (y ∷ keep p ys) (keep p ys)) < suc (length ys)
@@ -313,6 +316,7 @@ module _ {A B : Type 0} (f : A → List B) {y : B} where
   -- What one of the lists joined holds is in the join.
   mem-flat_map : {x : A} (xs : List A) → Mem x xs → Mem y (f x) → Mem y (flat_map f xs)
   unfolding flat_map
+  mem-flat_map [] x3 m = elim x3 [ ]
   mem-flat_map (z ∷ zs) (here e) m = Memᴰ.append_left (flat_map f zs) (rw e at m)
   mem-flat_map (z ∷ zs) (there n) m = Memᴰ.append_right (f z) (mem-flat_map zs n m)
 

@@ -113,6 +113,7 @@ module _ {A : Type 0} (f : A → ℕ) where
   -- The value of each element divides it.
   pub divides-lcm_of : {x : A} (xs : List A) → Mem x xs → f x ∣ lcm_of f xs
   unfolding lcm_of
+  divides-lcm_of {x = x} [] x'' = elim x'' [ ]
   divides-lcm_of (y ∷ ys) (here e) = rw e (lcm-multiple (f y) (lcm_of f ys)).0
   divides-lcm_of {x} (y ∷ ys) (there m) = dvd_trans (f x) (divides-lcm_of ys m) (lcm-multiple (f y) (lcm_of f ys)).1
 

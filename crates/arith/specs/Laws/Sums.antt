@@ -65,6 +65,7 @@ module _ {A : Type 0} where
   -- A value is at most the greatest.
   pub le-greatest : (f : A → ℕ) {x : A} {xs : List A} → Mem x xs → f x ≤ greatest f xs
   unfolding greatest
+  le-greatest f {x = x} {xs = []} x3 = elim x3 [ ]
   le-greatest f {x} {xs = y ∷ ys} (here e) = rw e (omega arith)
   le-greatest f {x} {xs = y ∷ ys} (there m) = omega (arith, le-greatest f m)
 
