@@ -100,7 +100,7 @@ module _ (fs : List Frame) (t : List ℕ) (names : Names fs t) where
     end_after : (sent : ℕ → ℕ) (free : ℕ) (log : List Line) → Follows fs starts sent free (entries_of t log) → free ≤ end_from free log
     unfolding Follows end_from entry_of
     end_after sent free [] h = omega arith
-    end_after sent free (l ∷ ls) (sends, h) = omega (arith, end_after _ (l.start + l.length) ls h, sends.0.after)
+    end_after sent free (l ∷ ls) (sends, h) = omega (arith, end_after (one_more sent (row_of t l)) (l.start + l.length) ls h, sends.0.after)
 
     from_entries : (sent : ℕ → ℕ) (free : ℕ) (log : List Line) → Follows fs starts sent free (entries_of t log)
         → ShowsAll fs t starts log (sendings sent (entries_of t log)) × PlainRuns fs starts (end_from free log) sent free (sendings sent (entries_of t log))
@@ -110,7 +110,7 @@ module _ (fs : List Frame) (t : List ℕ) (names : Names fs t) where
         let (all, runs) = from_entries (one_more sent (row_of t l)) (l.start + l.length) ls h in
         let (a, b) = row_named l sends.0.waiting.0 in (
           (record { identifier = a; kind = b; queueing = sends.1; start = refl; length = refl }, all),
-          (sends.0, refl, omega (arith, end_after _ (l.start + l.length) ls h, sends.0.positive), runs),
+          (sends.0, refl, omega (arith, end_after (one_more sent (row_of t l)) (l.start + l.length) ls h, sends.0.positive), runs),
         )
 
 -- With these starts a log is a beginning just where its entries follow the bus rule.

@@ -60,6 +60,7 @@ same-tick is = cc
 
 -- The only fault is that of tick 134.
 one-fault : (f : ℕ) → FaultIn (first ∷ again ∷ []) f → f ≡ 134
+one-fault f (x , there (there x11) , is) = elim x11 [ ]
 one-fault f (x, here e, is) = same-tick (sym is ∙ ap (λ (y : Transmission). y.fault) e)
 one-fault f (x, there (here e), is) = absurd (not_at (sym (ap (λ (y : Transmission). y.fault) e) ∙ is))
 
@@ -82,6 +83,7 @@ alone-late meets =
     omega (arith, f.ended, ends f.sent f.listed f.whole)
   where
     ends : (x : Transmission) → Mem x (first ∷ again ∷ []) → x.fault ≡ Nothing → 301 ≤ x.start + x.length
+    ends x (there (there x10)) whole = elim x10 [ ]
     ends x (here e) whole = absurd (not_at (sym whole ∙ ap (λ (y : Transmission). y.fault) e))
     ends x (there (here e)) whole = rw e (omega arith)
 

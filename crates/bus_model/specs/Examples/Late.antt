@@ -60,6 +60,7 @@ module _ (sent : ℕ → ℕ) (x : Transmission) where
 
 -- No fault cuts one of its transmissions.
 whole : (x : Transmission) → Mem x run → x.fault ≡ Nothing
+whole x (there (there x9)) = elim x9 [ ]
 whole x (here e) = rw e refl
 whole x (there (here e)) = rw e refl
 
@@ -83,6 +84,7 @@ scheduled end started ended = (runs end started ended, λ t (x, m, is). not-cut 
 
 -- Frame 64 stands in it once, and ends at 200.
 ends : (x : Transmission) → Mem x run → x.frame ≡ 3 → 200 ≤ x.start + x.length
+ends x (there (there x10)) same = elim x10 [ ]
 ends x (here e) same = absurd (omega (arith, ap (λ (y : Transmission). y.frame) e))
 ends x (there (here e)) same = rw e (omega arith)
 

@@ -102,6 +102,7 @@ some-alignment (a ∷ als) = (a, here refl)
 -- The bounds look at every alignment.
 pub or-empty : {a : ℕ} {als : List ℕ} → Mem a als → Mem a (or_empty als)
 unfolding or_empty
+or-empty {a = a} {als = []} m = elim m [ ]
 or-empty {als = b ∷ bs} m = m
 
 -- ---- distances

@@ -17,7 +17,7 @@ use Rattle.arith.specs.Laws.Members.{mem-get_d, get_d-within}
 use Rattle.arith.specs.Laws.Maps.{sum-map, greatest-map, lcm_of-map, exists-map, keep-map}
 use Rattle.bus_model.specs.Frame.{no_frame, row}
 use Rattle.bus_model.specs.Release.{release}
-use Rattle.bus_model.specs.Bus.{Transmission, Waiting, Idle, Next, signalling, Runs, Schedule, MeetsClaim}
+use Rattle.bus_model.specs.Bus.{Transmission, Waiting, Idle, Next, signalling, Runs, sent_after, free_after, Schedule, MeetsClaim}
 use Rattle.bus_model.specs.Valid.{ValidFrame, Valid}
 use Rattle.bus_model.specs.Pattern.{of_group, hyperperiod}
 use Rattle.bus_model.specs.Bounds.{groups, window_limit, is_ahead, is_better, is_below, ahead, better, below, blocking, fault_time, fault_load, phase, is_released_at, alignments, distance, choice_of, or_empty, choices, scenarios, own_group, demand, work_at, group_work, work, window_load, busy_window, delay_load, queueing_delay, own_distance, instance_response, response_time, scenario_response, bound_of, scenario_count}
@@ -235,7 +235,7 @@ module _ {fs gs : List Frame} (twin : Twin fs gs) (starts : ℕ → ℕ) where
   runs-twin : (end : ℕ) (sent : ℕ → ℕ) (free : ℕ) (xs : List Transmission) → Runs fs starts end sent free xs → Runs gs starts end sent free xs
   unfolding Runs
   runs-twin end sent free [] idle = idle-twin sent free end idle
-  runs-twin end sent free (x ∷ xs) (n, before, more) = (next-twin sent free n, before, runs-twin end _ _ xs more)
+  runs-twin end sent free (x ∷ xs) (n, before, more) = (next-twin sent free n, before, runs-twin end (sent_after sent x) (free_after x) xs more)
 
 -- So a row that meets its claim in the second meets it in the first.
 meets-twin : {fs gs : List Frame} → Twin fs gs → (faults : Faults) (k claim : ℕ) → k < length fs → MeetsClaim faults gs k claim → MeetsClaim faults fs k claim

@@ -162,6 +162,7 @@ module _ (faults : Faults) (fs : List Frame) (k : Frame) (claim : ℕ) where
   -- and one where one does.
   pub among-some : {cs : List Choice} {xs : List (List Choice)} → Mem cs xs → claim < scenario_response faults fs k cs → Exists (first_among faults fs k claim xs)
   unfolding first_among
+  among-some {cs = cs} {xs = []} m over = elim m [ ]
   among-some {xs = ds ∷ xs} m over =
       elim (dec_le (scenario_response faults fs k ds) claim) [
         | yes within ↦

@@ -5,7 +5,7 @@ use Rattle.std.specs.Prelude.{◌≡◌, refl, ◌≢◌, length}
 use Rattle.std.proofs.Math.Logic.{inl, inr}
 use mathlib.Core.List.Memᴰ.{head as here}
 use mathlib.Core.List.Memᴰ.{tail as there}
-use mathlib.Core.List.{List, ◌∷◌, Memᴰ as Mem}
+use mathlib.Core.List.{List, [], ◌∷◌, Memᴰ as Mem}
 use Rattle.std.proofs.Common.{le_refl, mul-zero}
 use Rattle.std.proofs.Math.Nat.{le_of_suc-le-suc, mul-le-mul_left, mul-suc}
 use Rattle.std.proofs.Math.Decide.{dec_lt}
@@ -47,6 +47,7 @@ module _
     pub sent-in : (xs : List Transmission) (sent : ℕ → ℕ) (free : ℕ) → Runs fs starts T sent free xs → Longest fs xs → P sent free
         → {x : Transmission} → Mem x xs → Sending fs starts P x
     unfolding Runs
+    sent-in [] sent free runs long p {x = x} x6 = elim x6 [ ]
     sent-in (y ∷ ys) sent free runs long p {x} (here e) = rw e (record { sent = sent; free = free; next = runs.0; holds = p })
     sent-in (y ∷ ys) sent free runs long p (there m) =
         sent-in ys _ _ runs.2 (λ z n. long z (there n)) (step sent free y runs.0 (long y (here refl)) p) m

@@ -128,7 +128,7 @@ module _ {k : Frame} (valid : ValidFrame k) (cs : List Choice) (long : length cs
   open_next {j} e = go (is_open cs k.group) refl e
     where
       go : (b : Bool) → is_open cs k.group ≡ b → cond b (At k.group) (least (is_open cs) groups 1) ≡ At j → (js : List ℕ) × (open_groups k cs ≡ j ∷ js)
-      go true t is = let same : k.group ≡ j = cc in (keep (is_open cs) (keep (λ i. not (eqb i k.group)) (range 1 groups)), rw (t, same))
+      go true t is = let same : k.group ≡ j = cc in let rest = keep (is_open cs) (keep (λ (i : ℕ). not (eqb i k.group)) (range 1 groups)) in (rest, rw t (ap (λ (g : ℕ). g ∷ rest) same))
       go false t is = (keep (is_open cs) (range (suc j) (17 - suc j)), open-rising t ∙ keep-next (is_open cs) 17 1 j is)
 
   -- it is a group, and open;
