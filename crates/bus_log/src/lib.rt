@@ -1,7 +1,6 @@
 // A bus log, and whether it is the beginning of a schedule of its table.
 #![tactic(auto)]
 
-
 mod follow;
 
 pub use follow::{begin, entry_of, follow_line, is_named, start_shown};

@@ -1,0 +1,68 @@
+use Prim.Native.Nat.{ℕ, ◌+◌, ◌-◌, ◌*◌, ◌≤◌}
+use mathlib.Core.Path.{sym, ap, ◌∙◌}
+use native.Mathlib.Omega.{arith}
+use native.Mathlib.Nat.{div-mul-le_self, mod-eq-sub-div-mul}
+use borrow.Author.Rules.{rules}
+use lib.ListN.{length}
+use Rattle.bus_model.specs.Bounds.{phase}
+use Rattle.workload.specs.Prepared.{table_of}
+use Rattle.workload.specs.Laws.Fine.{SumTo, sum-none, sum-next, sum-all}
+use Rattle.alignment_walk.specs.Steps.{wait_from, whole_demand}
+use Rattle.alignment_walk.specs.Laws.Parts.{wait-first}
+use Rattle.alignment_walk.specs.Laws.Steps.{NotedTo, note-none, note-more, note-all, NotesTo, notes-none, notes-more, notes-all, whole-small}
+use Rattle.alignment_walk.proofs.begin.Goals as goal
+use Rattle.alignment_walk.proofs.begin.Goals.{After-listed_row-r, After-quotient-times, In-loop-i}
+
+pub loop-i-init : goal.loop-i-init
+loop-i-init c = let p = c.requires.n_bound.1 in (sum-none, notes-none p.0, note-none p.1)
+
+-- the row is one of 64
+few : (c : In-loop-i) → c.loop-i.i + 1 ≤ 64
+few c = omega (arith, c.loop-i-test.true, c.requires.fine_part.few)
+
+-- the whole periods are no more than n,
+inside : (c : After-quotient-times) → c.quotient-times.result * c.listed_row-r.result.frame.period ≤ c.args.n
+inside c = rw c.quotient-times.ensures (div-mul-le_self _ _)
+
+-- and their demand is small
+small : (c : After-quotient-times) → c.listed_row-r.result.frame.length * c.quotient-times.result ≤ 400000400
+small c = rw c.quotient-times.ensures (whole-small c.listed_row-r.ensures.listed.1 c.args.n c.requires.n_bound.0.0)
+
+pub overflow_mul-notes : goal.overflow_mul-notes
+overflow_mul-notes c = omega (arith, inside (goal.at.overflow_mul-notes c).After-way_told-1)
+
+pub overflow_sub-notes : goal.overflow_sub-notes
+overflow_sub-notes c = omega (arith, inside (goal.at.overflow_sub-notes c).After-way_told-1)
+
+-- the first alignment is not after its first release
+first-inside : (c : After-listed_row-r) → c.args.first ≤ phase c.listed_row-r.result.frame
+first-inside c = c.requires.n_bound.0.1 _ c.listed_row-r.ensures.listed.0
+
+pub overflow_sub-waits : goal.overflow_sub-waits
+overflow_sub-waits c = rw c.phase_of.ensures.value (first-inside (goal.at.overflow_sub-waits c).After-g-1)
+
+pub overflow_mul-whole : goal.overflow_mul-whole
+overflow_mul-whole c = omega (arith, small (goal.at.overflow_mul-whole c).After-struct_known-1)
+
+pub overflow_add-whole : goal.overflow_add-whole
+overflow_add-whole c = omega (arith, small (goal.at.overflow_add-whole c).After-struct_known-1, c.before.before.before.before.before.before.before.loop.invariant.0.small, few (goal.at.overflow_add-whole c).After-g-1)
+
+pub loop-i-preserved : goal.loop-i-preserved
+loop-i-preserved c =
+    let l = c.before.before.before.before.before.before.before.loop in
+    let a = c.before.before.before.before.before.before.before.before.before.before.before.args in
+    let g = c.before.before.before.before.before.listed-row.result.frame in
+    let read = c.before.before.before.before.before.listed-row.ensures.0 in
+    let times = c.before.before.before.quotient.ensures in
+    let room = few (goal.at.loop-i-preserved c).After-g-1 in (
+      sum-next l.invariant.0 c.before.before.before.before.before.before.loop-test.true (ap (λ (x : ℕ). g.length * x) times ∙ ap (whole_demand a.n) read) (small (goal.at.loop-i-preserved c).After-struct_known-1),
+      notes-more l.invariant.1 (omega arith) read (ap (λ (x : ℕ). a.n - x * g.period) times ∙ sym (mod-eq-sub-div-mul a.n g.period)),
+      note-more _ l.invariant.2 (omega arith) (ap (λ (x : ℕ). x - a.first) c.before.phase-of.ensures.0 ∙ wait-first c.before.before.before.before.before.listed-row.ensures.1.1 a.first (first-inside (goal.at.loop-i-preserved c).After-quotient-times) ∙ ap (wait_from a.first a.first) read),
+    )
+
+pub returns : goal.returns
+returns c =
+    let l = c.loop-i in
+    let over = c.loop-i-test.false in
+    let all = sum-all l.invariant.0 over c.requires.fine_part.few in
+    let answer = (all.0, (all.1, (notes-all l.invariant.1 over, note-all l.invariant.2 over))) in record { value = answer.0; small = answer.1; notes = answer.2; waits = answer.3 }

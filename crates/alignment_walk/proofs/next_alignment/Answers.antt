@@ -1,0 +1,23 @@
+use Prim.Native.Nat.{◌-◌}
+use mathlib.Core.Path.{ap, ◌∙◌}
+use native.Mathlib.Nat.{le_refl}
+use borrow.Author.Rules.{rules}
+use lib.ListN.{length}
+use Rattle.workload.specs.Prepared.{table_of}
+use Rattle.alignment_walk.specs.Steps.{next_release}
+use Rattle.alignment_walk.specs.Laws.Parts.{FirstTo, first-none, first_next, next-is, next-none}
+use Rattle.alignment_walk.proofs.next_alignment.Goals as goal
+
+pub loop-i-init : goal.loop-i-init
+loop-i-init c = first-none (le_refl _)
+
+pub loop-i-preserved : goal.loop-i-preserved
+loop-i-preserved c =
+    let l = c.before.before.before.before.loop in
+    first_next l.invariant c.before.before.before.loop-test.true (c.next_release.ensures ∙ ap (next_release c.before.before.before.before.before.before.before.before.args.after) c.before.before.listed-row.ensures.0) c.lesser-best.ensures
+
+pub returns-then-best-end : goal.returns-then-best-end
+returns-then-best-end c = next-is c.requires.fine_part c.loop-i.invariant c.loop-i-test.false c.if-best-end.true
+
+pub returns-else-best-end : goal.returns-else-best-end
+returns-else-best-end c = next-none c.requires.fine_part c.loop-i.invariant c.loop-i-test.false c.if-best-end.false

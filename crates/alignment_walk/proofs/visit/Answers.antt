@@ -1,0 +1,74 @@
+use Prim.Native.Nat.{◌+◌, ◌-◌, ◌≤◌}
+use mathlib.Core.Path.{◌≡◌, ◌∙◌}
+use native.Mathlib.Omega.{arith}
+use borrow.Author.Rules.{rules}
+use lib.ListN.{length, get_or}
+use Rattle.bus_model.specs.declared.Frame.{Frame}
+use Rattle.bus_model.specs.Frame.{row}
+use Rattle.workload.specs.Prepared.{Fine, table_of}
+use Rattle.workload.specs.Laws.Fine.{part-listed, SumTo, sum-none, sum-next, sum-all}
+use Rattle.alignment_walk.specs.Steps.{wait_from, extra_demand, NotesOf}
+use Rattle.alignment_walk.specs.Laws.Parts.{next-late, FirstTo, first-none, first_next, next-or-end}
+use Rattle.alignment_walk.specs.Laws.Steps.{NotedTo, NotedFrom, note-none, note-more, note-left, note-all, extra-small, wait-rest, wait-next}
+use Rattle.alignment_walk.proofs.visit.Goals as goal
+use Rattle.alignment_walk.proofs.visit.Goals.{After-in_rest-extra, In-loop-i}
+
+pub loop-i-init : goal.loop-i-init
+loop-i-init c =
+    (sum-none, first-none (omega (arith, c.requires.gap_le_a.0)), omega arith, note-none c.requires.gap_le_a.1.1.size, record { each = λ j late l. c.requires.gap_le_a.1.1.each j l })
+
+-- the frame of the row
+abbrev frame : (c : In-loop-i) → Frame
+frame c = row (table_of c.args.rows.now c.args.prepared.now) (get_or c.args.part.now c.loop-i.i 0)
+
+-- it is within its limits
+fine : (c : In-loop-i) → Fine (frame c)
+fine c = c.requires.fine_part.fine _ (part-listed (table_of c.args.rows.now c.args.prepared.now) c.args.part.now c.loop-i-test.true)
+
+-- and one of 64
+few : (c : In-loop-i) → c.loop-i.i + 1 ≤ 64
+few c = omega (arith, c.loop-i-test.true, c.requires.fine_part.few)
+
+-- what is noted of it
+notes : (c : In-loop-i) → NotesOf c.args.n (frame c) c.args.notes.now c.loop-i.i
+notes c = c.requires.gap_le_a.1.0.each c.loop-i.i c.loop-i-test.true
+
+-- how long it is waited for, from the last alignment and from this one
+waited : (c : In-loop-i) → let a = c.args in let w = get_or c.loop-i.waits c.loop-i.i 0 in (a.gap ≤ w) × (w - a.gap ≡ wait_from a.a a.a (frame c))
+waited c =
+    let is = c.loop-i.invariant.4.each c.loop-i.i (omega arith) c.loop-i-test.true in
+    let late = next-late (fine c) c.args.a in
+    (omega (arith, c.requires.gap_le_a.0), omega (arith, c.requires.gap_le_a.0))
+
+pub overflow_sub-wait : goal.overflow_sub-wait
+overflow_sub-wait c = omega (arith, (waited (goal.at.overflow_sub-wait c).After-way_told-1).0)
+
+-- what the rest asks for
+extra : (c : After-in_rest-extra) → (c.in-default.result ≡ extra_demand c.before.before.before.before.before.before.before.before.before.args.a c.before.before.before.before.before.before.before.before.before.args.n (frame c.before.before.before.before)) × (c.in-default.result ≤ 400)
+extra c =
+    let is = rw ((notes c.before.before.before.before).length, (notes c.before.before.before.before).rest) at c.in-default.ensures ∙ wait-rest (fine c.before.before.before.before) c.before.before.before.before.before.before.before.before.before.args.a (waited c.before.before.before.before).1 c.before.before.before.before.before.before.before.before.before.args.n in
+    (is, omega (arith, is, extra-small (fine c.before.before.before.before) c.before.before.before.before.before.before.before.before.before.args.a c.before.before.before.before.before.before.before.before.before.args.n))
+
+pub overflow_add-extra : goal.overflow_add-extra
+overflow_add-extra c = omega (arith, extra c, c.before.before.before.before.before.loop.invariant.0.small, few (goal.at.overflow_add-extra c).After-wait-1)
+
+pub loop-i-preserved : goal.loop-i-preserved
+loop-i-preserved c =
+    let l = c.before.before.before.before.before.before.before.before.loop in
+    let less = c.before.before.before.before.before.before.before.loop-test.true in
+    let a = c.before.before.before.before.before.before.before.before.before.before.before.before.args in
+    let asked = extra (goal.at.loop-i-preserved c).After-in_rest-extra in
+    let later = rw (notes (goal.at.loop-i-preserved c).After-wait-1).period at c.wait_after-later.ensures ∙ wait-next (fine (goal.at.loop-i-preserved c).After-wait-1) a.a (waited (goal.at.loop-i-preserved c).After-wait-1).1 in (
+      sum-next l.invariant.0 less asked.0 asked.1,
+      first_next {x = a.a + c.wait_after-later.result} l.invariant.1 less (omega (arith, later, next-late (fine (goal.at.loop-i-preserved c).After-wait-1) (a.a + 1))) (omega (arith, c.lesser-least.ensures)),
+      omega (arith, l.invariant.2, c.lesser-least.ensures),
+      note-more _ l.invariant.3 (omega (arith, few (goal.at.loop-i-preserved c).After-wait-1)) later,
+      note-left _ l.invariant.4,
+    )
+
+pub returns : goal.returns
+returns c =
+    let l = c.loop-i in
+    let over = c.loop-i-test.false in
+    let all = sum-all l.invariant.0 over c.requires.fine_part.few in
+    let answer = (all.0, (next-or-end c.requires.fine_part l.invariant.1 over (omega (arith, l.invariant.2, c.requires.gap_le_a.0)), ((all.1, l.invariant.2), note-all l.invariant.3 over))) in record { extra_value = answer.0; next = answer.1; small = answer.2; waits = answer.3 }

@@ -1,0 +1,44 @@
+use Prim.Native.Nat.{◌+◌, ◌-◌, ◌≤◌}
+use mathlib.Core.Path.{◌≡◌, sym, ◌∙◌}
+use mathlib.Core.List.{map}
+use native.Mathlib.Omega.{arith}
+use borrow.Author.Rules.{rules}
+use Rattle.bus_model.specs.Case.{shown}
+use Rattle.workload.specs.Prepared.{table_of}
+use Rattle.greatest_work.specs.Ready.{Ready}
+use Rattle.bounds.specs.Case.{LeadsTo}
+use Rattle.bounds.specs.Laws.Case.{leads-start, leads-at, leads-own, leads-window, leads-case, shown-set, shown-free}
+use Rattle.bounds.proofs.case.first_case.Goals as goal
+use Rattle.bounds.proofs.case.first_case.Goals.{After-loop-i}
+
+pub loop-i-init : goal.loop-i-init
+loop-i-init c = (leads-start _ _ _ _, shown-free, omega arith, c.requires.ready)
+
+pub first_exceeding-a-requires : goal.first_exceeding-a-requires
+first_exceeding-a-requires c = let answer = (c.loop-i.invariant.3, (c.loop-i.invariant.0, (omega arith, omega (arith, c.loop-i-test.true), c.requires.frame_value))) in record { ready_2 = answer.0; leads_to = answer.1; le_group = answer.2 }
+
+pub loop-i-preserved : goal.loop-i-preserved
+loop-i-preserved c =
+    (leads-at c.loop-i.choices c.loop-i.i c.first_exceeding-a.result c.first_exceeding-a.ensures.leads_to_2, shown-set c.loop-i.choices c.loop-i.i c.first_exceeding-a.result c.loop-i.invariant.1, omega (arith, c.loop-i-test.true), c.first_exceeding-a.ensures.ready)
+
+pub busy_window-requires : goal.busy_window-requires
+busy_window-requires c = c.loop-i.invariant.3
+
+-- all groups are fixed
+leads : (c : After-loop-i) → LeadsTo c.args.target.faults (table_of c.args.rows.now c.args.prepared.now) c.args.target.frame c.args.claim 17 c.loop-i.choices
+leads c =
+    let all : c.loop-i.i + 1 ≡ 17 = omega (arith, c.loop-i.invariant.2, c.loop-i-test.false) in
+    rw all at c.loop-i.invariant.0
+
+pub exceeding_instance-instance-requires : goal.exceeding_instance-instance-requires
+exceeding_instance-instance-requires c =
+    let l = leads (goal.at.exceeding_instance-instance-requires c).After-loop-i in
+    let p = c.requires.ready in
+    let answer = (c.busy_window.ensures.ready, (leads-own p.prepared.filled.table p.listed l, leads-window p.prepared.filled.table p.listed l c.requires.frame_value c.busy_window.ensures.value c.or_zero-window.ensures)) in record { ready_2 = answer.0; own_fixed = answer.1; choices_value = answer.2 }
+
+pub shape_of-memory : goal.shape_of-memory
+shape_of-memory c = c.exceeding_instance-instance.ensures.ready.remembered.size ∙ sym c.requires.ready.remembered.size
+
+pub returns : goal.returns
+returns c =
+    let p = c.requires.ready in c.case_of.ensures ∙ leads-case p.prepared.filled.table p.listed (leads (goal.at.returns c).After-loop-i) c.exceeding_instance-instance.ensures.value c.loop-i.invariant.1

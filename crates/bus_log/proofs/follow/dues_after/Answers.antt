@@ -1,0 +1,17 @@
+use borrow.Author.Rules.{rules}
+use Prim.Native.Nat.{◌-◌, ◌≤◌}
+use mathlib.Core.Path.{◌≡◌, refl, ◌∙◌}
+use mathlib.Core.List.{map}
+use lib.ListN.{length, length-set}
+use Rattle.bus_log.specs.Theory.Filled.{fill_more, fill-all}
+use Rattle.arith.specs.Lists.{range}
+use Rattle.arith.specs.Laws.Overwriting.{over}
+use Rattle.table_checks.specs.Frames.{frames_of}
+use Rattle.bus_log.specs.Follow.{due_after}
+use Rattle.bus_log.proofs.follow.dues_after.Goals as goal
+
+pub loop-i-preserved : goal.loop-i-preserved
+loop-i-preserved c = let l = c.loop-i in (fill_more _ 64 _ _ refl _ _ l.invariant.0 c.loop-i-test.true c.due_after.ensures, search rules, length-set l.due _ _ ∙ l.invariant.2, refl)
+
+pub returns : goal.returns
+returns c = fill-all _ 64 _ _ refl _ c.loop-i.invariant.0 c.loop-i.invariant.1 c.loop-i-test.false

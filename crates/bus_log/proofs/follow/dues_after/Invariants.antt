@@ -1,0 +1,18 @@
+-- `bus_log::follow::dues_after` meets its contract: after i turns the first i are written.
+use borrow.Author.Rules.{rules}
+use Prim.Native.Nat.{◌-◌, ◌≤◌}
+use mathlib.Core.Path.{◌≡◌, refl, ◌∙◌}
+use mathlib.Core.List.{map}
+use lib.ListN.{length, length-set}
+use Rattle.bus_log.specs.Theory.Filled.{fill_more, fill-all}
+use Rattle.arith.specs.Lists.{range}
+use Rattle.arith.specs.Laws.Overwriting.{over}
+use Rattle.table_checks.specs.Frames.{frames_of}
+use Rattle.bus_log.specs.Follow.{due_after}
+use Rattle.bus_log.proofs.follow.dues_after.Given as goal
+
+abbrev pub invariant-loop-i : goal.invariant-loop-i
+invariant-loop-i l = (l.due ≡ over (map (due_after (frames_of l.lengths l.rows) l.p l.e) (range 0 64)) l.i l.initial.due) × (l.i ≤ 64) × (length l.due ≡ 64) × (length l.initial.due ≡ 64)
+
+abbrev pub decreases-loop-i : goal.decreases-loop-i
+decreases-loop-i l = 64 - l.i

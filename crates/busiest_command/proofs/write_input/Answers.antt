@@ -1,0 +1,13 @@
+-- `busiest_command::write_input` meets its contract: the width is read, and the text is that for it.
+use mathlib.Core.Path.{refl, ap}
+use borrow.Author.Rules.{rules}
+use Rattle.certifier.specs.declared.Reply.TheVariants.{Answered}
+use Rattle.busiest_command.proofs.write_input.Goals as goal
+
+pub returns-in_default : goal.returns-in_default
+returns-in_default c = rw (← c.read-read.ensures, c.in_default.is) (refl, refl)
+
+pub returns : goal.returns
+returns c =
+    let t = c.write_text.ensures in
+    rw (← c.read-read.ensures, c.in-Value.is) (ap Answered t.0, rw t.0 at t.1)

@@ -1,0 +1,29 @@
+-- The count is small and is read as signed as it stands; number and place are those of the refusal.
+use Prim.Native.Nat.{◌≤◌}
+use mathlib.Core.Path.{◌∙◌}
+use native.Mathlib.Omega.{arith}
+use borrow.Author.Rules.{rules}
+use borrow.Author.Tests.{ne_eqb}
+use Rattle.arith.specs.Laws.Signed.{to_z_pos, kept}
+use Rattle.log_load.specs.Returns.{answer_returns}
+use Rattle.log_load.specs.Theory.Returns.{cause-some}
+use Rattle.certifier.specs.LogEntry.{encode_answered}
+use Rattle.certifier.proofs.busiest_entry.encode_sheet.Goals as goal
+use Rattle.certifier.proofs.busiest_entry.encode_sheet.Goals.{In-Done}
+
+-- the count is small
+small : (c : In-Done) → c.in-Done.n ≤ 2711
+small c = c.requires _ c.in-Done.is
+
+pub overflow_cast-result : goal.overflow_cast-result
+overflow_cast-result c = record { sfits = omega (arith, small c) }
+
+pub returns-in-Done : goal.returns-in-Done
+unfolding encode_answered answer_returns
+returns-in-Done c = rw c.in-Done.is (to_z_pos _ (omega (arith, small c)))
+
+pub returns-in-Refused : goal.returns-in-Refused
+unfolding encode_answered answer_returns
+returns-in-Refused c =
+    let a = c.answer-in-Refused-1.given in
+    rw (a.1, ne_eqb _ 0 (cause-some a.0.0.cause), ← c.number.ensures) (kept _ c.encode_turned.type-inv ∙ c.encode_turned.ensures)

@@ -1,0 +1,43 @@
+-- The file is read into rows of its own; a refusal of the file is encoded, and a table that was read is judged and its judgement encoded.
+use Prim.Native.Nat.{ℕ}
+use mathlib.Core.Path.{refl, sym, ap, subst, ◌∙◌}
+use mathlib.Core.List.{List}
+use borrow.Author.Rules.{rules}
+use Rattle.arith.specs.Laws.Signed.{kept}
+use Rattle.row_judgement.specs.Judge.{judge_row}
+use Rattle.certifier.specs.Encode.{judge_read, encode_judged, encode_refusal}
+use Rattle.certifier.specs.Steps.{Encodable}
+use Rattle.certifier.specs.Laws.Small.{judged-encodable}
+use Rattle.frame_table.specs.Laws.Reading.{ReadRows, read-refused, read-rows}
+use Rattle.certifier.proofs.encode.judge_table.Goals as goal
+use Rattle.certifier.proofs.encode.judge_table.Goals.{In-Done}
+
+-- what was read is the table
+table : (c : In-Done) → ReadRows c.args.table.now c.read-answer.new.rows c.in-Done.n
+table c = let r = c.read-answer in read-rows _ _ _ refl r.ensures.value _ _ r.ensures.rows_after.0 c.in-Done.is
+
+pub slice_bounds-rows-end : goal.slice_bounds-rows-end
+slice_bounds-rows-end c = (table c).room
+
+pub slice_bounds-judge_accepted-end : goal.slice_bounds-judge_accepted-end
+slice_bounds-judge_accepted-end c = (table (goal.at.slice_bounds-judge_accepted-end c).In-Done).size
+
+pub judge_accepted-requires : goal.judge_accepted-requires
+judge_accepted-requires c = (c.requires, (table (goal.at.judge_accepted-requires c).In-Done).accepted)
+
+pub encode_judged-requires : goal.encode_judged-requires
+encode_judged-requires c = subst Encodable (sym c.judge_accepted.ensures) (judged-encodable _ _ _)
+
+pub returns-in-Refused : goal.returns-in-Refused
+unfolding encode_judged judge_read
+returns-in-Refused c =
+    kept _ c.encode_refusal.type-inv ∙ c.encode_refusal.ensures
+    ∙ rw (read-refused c.args.table.now _ _ refl c.read-answer.ensures.value _ c.in-Refused.is) (ap encode_refusal c.of_table.ensures)
+
+pub returns-in-Done : goal.returns-in-Done
+unfolding judge_read
+returns-in-Done c =
+    let t = table (goal.at.returns-in-Done c).In-Done in
+    let a = c.args in
+    kept _ c.encode_judged.type-inv ∙ c.encode_judged.ensures
+    ∙ ap encode_judged (c.judge_accepted.ensures ∙ rw t.passed (ap (λ (rows : List ℕ). judge_row a.lengths rows a.row) t.rows))

@@ -1,0 +1,27 @@
+-- A refusal of the lengths is encoded; with lengths that were read the row is explained.
+use mathlib.Core.Path.{◌∙◌}
+use borrow.Author.Rules.{rules}
+use Rattle.arith.specs.Laws.Signed.{kept}
+use Rattle.lengths_file.specs.Laws.Input.{ReadLengths, lengths_read, lengths-refused}
+use Rattle.certifier.specs.ExplainEntry.{explain_file, explain_read}
+use Rattle.certifier.specs.Laws.ExplainEntry.{shown-refused}
+use Rattle.certifier.proofs.explain_entry.certifier_explain.Goals as goal
+use Rattle.certifier.proofs.explain_entry.certifier_explain.Goals.{After-lengths_of}
+
+pub returns-in-Failed : goal.returns-in-Failed
+unfolding explain_file explain_read
+returns-in-Failed c =
+    let (a, b) = shown-refused (explain_file c.args.lengths.now c.args.table.now c.args.row) c.of_table.result c.args.shown.now
+    (rw (lengths-refused _ c.args.table.now c.read-loaded.ensures.value c.in-Failed.is, c.of_table.ensures)) in
+    record { value = kept _ c.encode_refusal.type-inv ∙ c.encode_refusal.ensures ∙ a; shown_after = b }
+
+-- the lengths of the file
+loaded : (c : After-lengths_of) → ReadLengths c.args.lengths.now c.args.table.now c.lengths_of.result
+loaded c = lengths_read _ _ c.read-loaded.ensures.value c.in-Passed.is c.lengths_of.ensures
+
+pub returns-in-Passed : goal.returns-in-Passed
+unfolding explain_file
+returns-in-Passed c =
+    let l = loaded (goal.at.returns-in-Passed c).After-lengths_of in
+    let e = c.explain_table.ensures in
+    rw (l.passed, ← l.is) (kept _ c.explain_table.type-inv ∙ e.0, e.1)

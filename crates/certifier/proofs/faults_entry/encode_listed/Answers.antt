@@ -1,0 +1,29 @@
+-- The count is small and is read as signed as it stands; a refusal is encoded by its own function.
+use Prim.Native.Nat.{◌^◌, ◌<◌}
+use mathlib.Core.Path.{subst, ◌∙◌}
+use native.Mathlib.Omega.{arith}
+use borrow.Author.Rules.{rules}
+use borrow.Author.Tests.{ne_eqb}
+use Rattle.arith.specs.Laws.Signed.{to_z_pos, kept}
+use Rattle.row_judgement.specs.Laws.Returns.{number-some}
+use Rattle.certifier.specs.FaultsListing.{listed_returns}
+use Rattle.certifier.specs.LogEntry.{encode_answered}
+use Rattle.certifier.specs.Encode.{encode_refusal}
+use Rattle.certifier.specs.Steps.{CountableListing}
+use Rattle.certifier.proofs.faults_entry.encode_listed.Goals as goal
+use Rattle.certifier.proofs.faults_entry.encode_listed.Goals.{In-Written}
+
+-- the count is small
+small : (c : In-Written) → c.in-Written.n < 2 ^ 63
+small c = subst CountableListing c.in-Written.is c.requires
+
+pub overflow_cast-result : goal.overflow_cast-result
+overflow_cast-result c = record { sfits = omega (arith, small c) }
+
+pub returns-in-Written : goal.returns-in-Written
+unfolding encode_answered listed_returns
+returns-in-Written c = rw c.in-Written.is (to_z_pos _ (omega (arith, small c)))
+
+pub returns-in-NotListed : goal.returns-in-NotListed
+unfolding encode_answered listed_returns encode_refusal
+returns-in-NotListed c = rw (c.in-NotListed.is, ne_eqb _ 0 (number-some c.in-NotListed.refusal.cause)) (kept _ c.encode_refusal.type-inv ∙ c.encode_refusal.ensures)

@@ -1,0 +1,32 @@
+-- The file is read into rows of its own; a refusal of the file is answered, and a table that was read is listed.
+use mathlib.Core.Path.{refl, ap}
+use borrow.Author.Rules.{rules}
+use Rattle.frame_table.specs.Laws.Reading.{ReadRows, read-refused, read-rows}
+use Rattle.certifier.specs.declared.Listed.TheVariants.{NotListed}
+use Rattle.certifier.specs.FaultsListing.{list_faults_read, listed_read}
+use Rattle.certifier.proofs.faults_listing.list_faults_table.Goals as goal
+use Rattle.certifier.proofs.faults_listing.list_faults_table.Goals.{In-Done}
+
+-- what was read is the table
+table : (c : In-Done) → ReadRows c.args.table.now c.read-answer.new.rows c.in-Done.n
+table c = read-rows _ _ _ refl c.read-answer.ensures.value _ _ c.read-answer.ensures.rows_after.0 c.in-Done.is
+
+pub slice_bounds-rows-end : goal.slice_bounds-rows-end
+slice_bounds-rows-end c = (table c).room
+
+pub slice_bounds-list_faults_rows-end : goal.slice_bounds-list_faults_rows-end
+slice_bounds-list_faults_rows-end c = (table (goal.at.slice_bounds-list_faults_rows-end c).In-Done).size
+
+pub list_faults_rows-requires : goal.list_faults_rows-requires
+list_faults_rows-requires c = (c.requires, (table (goal.at.list_faults_rows-requires c).In-Done).accepted)
+
+pub returns-in-Refused : goal.returns-in-Refused
+unfolding list_faults_read listed_read
+returns-in-Refused c =
+    rw (read-refused c.args.table.now _ _ refl c.read-answer.ensures.value _ c.in-Refused.is) (ap NotListed c.of_table.ensures, refl)
+
+pub returns-in-Done : goal.returns-in-Done
+unfolding list_faults_read listed_read
+returns-in-Done c =
+    let t = table (goal.at.returns-in-Done c).In-Done in
+    rw (t.passed, ← t.rows) c.list_faults_rows.ensures

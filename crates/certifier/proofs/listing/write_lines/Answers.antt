@@ -1,0 +1,30 @@
+use Prim.Native.Nat.{◌-◌, ◌*◌, ◌≤◌}
+use mathlib.Core.Path.{◌≡◌, refl}
+use native.Mathlib.Omega.{arith}
+use borrow.Author.Rules.{rules}
+use lib.ListN.{length, length-take, length-drop}
+use Rattle.arith.specs.Laws.Overwriting.{over}
+use Rattle.arith.specs.Laws.Lines.{line-over, lines-over}
+use Rattle.certifier.specs.Listing.{lines_from}
+use Rattle.certifier.specs.Laws.Listing.{listing-lines}
+use Rattle.certifier.proofs.listing.write_lines.Goals as goal
+
+pub loop-i-init : goal.loop-i-init
+loop-i-init c = (refl, search rules, refl)
+
+pub write_row-requires : goal.write_row-requires
+write_row-requires c =
+    let answer = (c.requires.loadable, (c.requires.fine_faults.0, (search rules, simp (length-take, length-drop) (omega (arith, c.loop-i.invariant, c.loop-i-test.true, c.requires.fine_faults.1))))) in record { loadable = answer.0; fine_faults = answer.1; i_in_bounds = answer.2 }
+
+pub loop-i-preserved : goal.loop-i-preserved
+loop-i-preserved c =
+    let lines = listing-lines c.args.faults c.args.lengths c.args.rows.now in (
+      line-over lines _ _ _ _ c.loop-i.invariant.0 _ c.loop-i-test.true c.write_row.ensures,
+      search rules,
+      search rules,
+    )
+
+pub returns : goal.returns
+returns c =
+    let lines = listing-lines c.args.faults c.args.lengths c.args.rows.now in
+    lines-over lines _ _ _ _ c.loop-i.invariant.0 c.loop-i.invariant.1 c.loop-i-test.false

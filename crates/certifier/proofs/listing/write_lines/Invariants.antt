@@ -1,0 +1,17 @@
+-- `certifier::listing::write_lines` meets its contract: after i turns the first i lines are written, and the rest is as it was.
+use Prim.Native.Nat.{◌-◌, ◌*◌, ◌≤◌}
+use mathlib.Core.Path.{◌≡◌, refl}
+use native.Mathlib.Omega.{arith}
+use borrow.Author.Rules.{rules}
+use lib.ListN.{length, length-take, length-drop}
+use Rattle.arith.specs.Laws.Overwriting.{over}
+use Rattle.arith.specs.Laws.Lines.{line-over, lines-over}
+use Rattle.certifier.specs.Listing.{lines_from}
+use Rattle.certifier.specs.Laws.Listing.{listing-lines}
+use Rattle.certifier.proofs.listing.write_lines.Given as goal
+
+abbrev pub invariant-loop-i : goal.invariant-loop-i
+invariant-loop-i l = (l.out ≡ over (lines_from l.faults l.lengths l.rows l.lines 0) (31 * l.i) l.initial.out) × (l.i ≤ l.lines) × (length l.out ≡ length l.initial.out)
+
+abbrev pub decreases-loop-i : goal.decreases-loop-i
+decreases-loop-i l = l.lines - l.i

@@ -1,0 +1,11 @@
+-- `certifier::listing::write_refusal` meets its contract: number and place are those of the refusal.
+use borrow.Author.Rules.{rules}
+use Rattle.table_checks.specs.declared.Checked.TheVariants.{Passed}
+use Rattle.table_checks.specs.Refusal.{check_returns}
+use Rattle.frame_table.specs.Laws.Returns.{answer-told}
+use Rattle.certifier.proofs.listing.write_refusal.Goals as goal
+
+pub returns : goal.returns
+unfolding check_returns
+returns c =
+    let answer = answer-told Passed _ _ (rw (← c.number.ensures) c.write_refusal_line.ensures) in record { value = answer.0; out_after = answer.1; in_numbers = answer.2 }

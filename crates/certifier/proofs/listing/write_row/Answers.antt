@@ -1,0 +1,16 @@
+-- `certifier::listing::write_row` meets its contract: the line is written from the identifier of the row and from its judgement.
+use mathlib.Core.Path.{ap, ◌∙◌}
+use native.Mathlib.Omega.{arith}
+use borrow.Author.Rules.{rules}
+use Rattle.table_checks.specs.Laws.Accepted.{length-frames}
+use Rattle.certifier.specs.Listing.{listing_line, line_of}
+use Rattle.certifier.proofs.listing.write_row.Goals as goal
+
+pub judge_row-judgement-requires : goal.judge_row-judgement-requires
+judge_row-judgement-requires c =
+    let answer = (c.requires.loadable, (omega (arith, length-frames c.args.lengths c.args.rows.now, c.requires.fine_faults.1.0), c.requires.fine_faults.0)) in record { loadable = answer.0; i_in_bounds = answer.1; fine_faults = answer.2 }
+
+pub returns : goal.returns
+unfolding line_of
+returns c =
+    c.write_line.ensures ∙ ap (listing_line _) c.judge_row-judgement.ensures

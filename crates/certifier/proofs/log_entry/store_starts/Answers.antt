@@ -1,0 +1,13 @@
+-- `certifier::log_entry::store_starts` meets its contract: in a shorter area nothing is stored.
+use borrow.Author.Rules.{rules}
+use mathlib.Core.Path.{◌∙◌}
+use Rattle.certifier.specs.Laws.LogEntry.{stored_short, stored-all}
+use Rattle.certifier.proofs.log_entry.store_starts.Goals as goal
+
+pub returns-then-area-lt-GROUPS : goal.returns-then-area-lt-GROUPS
+returns-then-area-lt-GROUPS c = let answer = stored_short c.args.starts.now c.args.area.now c.requires c.if-area-lt-GROUPS.true in record { value = answer.0; area_after = answer.1 }
+
+pub returns : goal.returns
+returns c =
+    let (a, b) = stored-all c.args.starts.now c.args.area.now c.requires c.if-area-lt-GROUPS.false in
+    record { value = a; area_after = c.copy.ensures ∙ b }

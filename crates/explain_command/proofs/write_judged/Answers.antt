@@ -1,0 +1,10 @@
+-- By the instance.
+use borrow.Author.Rules.{rules}
+use Rattle.explain_command.specs.Laws.Text.{text-none, text-case}
+use Rattle.explain_command.proofs.write_judged.Goals as goal
+
+pub returns-in-Nothing : goal.returns-in-Nothing
+returns-in-Nothing c = rw (text-none c.args.breaking _ c.in-Nothing.is) c.write_one.ensures
+
+pub returns-in-At : goal.returns-in-At
+returns-in-At c = rw (text-case c.args.breaking _ c.in-At.is) c.write_case.ensures

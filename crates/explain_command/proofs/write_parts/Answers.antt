@@ -1,0 +1,11 @@
+-- The two parts that are read are those of the input.
+use Prim.Native.Nat.{ℕ}
+use mathlib.Core.List.{List}
+use borrow.Author.Rules.{rules}
+use Rattle.lengths_file.specs.Laws.Input.{first_part, second-part}
+use Rattle.explain_command.proofs.write_parts.Goals as goal
+
+pub returns : goal.returns
+returns c =
+    let xs : List ℕ = c.args.input.now in
+    rw (← first_part xs _ c.lengths_end-end.ensures, ← second-part xs _ c.lengths_end-end.ensures) c.write_files.ensures

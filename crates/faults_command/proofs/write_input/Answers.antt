@@ -1,0 +1,13 @@
+-- The gap is read, and the listing is that under it.
+use mathlib.Core.Path.{refl, ap}
+use borrow.Author.Rules.{rules}
+use Rattle.certifier.specs.declared.Reply.TheVariants.{Answered}
+use Rattle.faults_command.proofs.write_input.Goals as goal
+
+pub returns-in_default : goal.returns-in_default
+returns-in_default c = rw (← c.read-read.ensures, c.in_default.is) (refl, refl)
+
+pub returns : goal.returns
+returns c =
+    let t = c.write_parts.ensures in
+    rw (← c.read-read.ensures, c.in-Value.is) (ap Answered t.0, t.1)

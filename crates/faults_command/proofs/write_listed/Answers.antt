@@ -1,0 +1,12 @@
+-- A listing stands in the area already; a refusal is written as such.
+use mathlib.Core.Path.{refl}
+use borrow.Author.Rules.{rules}
+use Rattle.faults_command.proofs.write_listed.Goals as goal
+
+pub returns-in-Written : goal.returns-in-Written
+returns-in-Written c = rw c.in-Written.is (refl, refl)
+
+pub returns-in-NotListed : goal.returns-in-NotListed
+returns-in-NotListed c =
+    let e = c.write_refusal.ensures in
+    rw c.in-NotListed.is (e.0, rw e.0 at e.1.0)

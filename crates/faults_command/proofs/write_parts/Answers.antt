@@ -1,0 +1,13 @@
+-- The two parts that are listed are those of the input.
+use Prim.Native.Nat.{ℕ}
+use mathlib.Core.List.{List}
+use borrow.Author.Rules.{rules}
+use Rattle.lengths_file.specs.Laws.Input.{first_part, second-part}
+use Rattle.faults_command.proofs.write_parts.Goals as goal
+
+pub returns : goal.returns
+returns c =
+    let xs : List ℕ = c.args.input.now in
+    let end = c.lengths_end-end.ensures in
+    let l = c.list_faults-listed.ensures in
+    rw (← first_part xs _ end, ← second-part xs _ end, ← l.0, ← l.1.0) c.write_listed.ensures

@@ -1,0 +1,13 @@
+-- `frame_length_command::write_measured` meets its contract: the line goes by what was measured.
+use borrow.Author.Rules.{rules}
+use Rattle.frame_length.specs.FrameLength.{measured_returns}
+use Rattle.frame_length_command.specs.Command.{line_of}
+use Rattle.frame_length_command.proofs.write_measured.Goals as goal
+
+pub returns-in-Length : goal.returns-in-Length
+unfolding line_of measured_returns
+returns-in-Length c = rw c.before.before.before.before.before.decreases.given.1 c.write_length.ensures
+
+pub returns-in-Refused : goal.returns-in-Refused
+unfolding line_of measured_returns
+returns-in-Refused c = rw c.in-Refused.is c.write_refusal_line.ensures

@@ -1,0 +1,62 @@
+-- What a stair tells is the work; else it is looked for, and remembered.
+use mathlib.Core.Path.{sym}
+use native.Mathlib.Omega.{arith}
+use borrow.Author.Rules.{rules}
+use Rattle.bus_model.specs.declared.Choice.TheVariants.{Any}
+use Rattle.bus_model.specs.Bounds.{group_work}
+use Rattle.bus_model.specs.Theory.Turns.{first-aligned}
+use Rattle.workload.specs.Laws.Fine.{group-fine}
+use Rattle.workload.specs.Laws.Groups.{cycle-small, cycle-pos, read-group, read-alignments}
+use Rattle.greatest_work.specs.Laws.Memory.{told_is, put-guess}
+use Rattle.greatest_work.proofs.greatest.stair_work.Goals as goal
+
+pub cycle_of-cycle-requires : goal.cycle_of-cycle-requires
+cycle_of-cycle-requires c = (c.requires.ready_2.prepared.filled.size, c.requires.j_bound.0)
+
+pub first_of-requires : goal.first_of-requires
+first_of-requires c = (c.requires.ready_2.prepared.filled.size, c.requires.j_bound.0)
+
+pub count_of-requires : goal.count_of-requires
+count_of-requires c = (c.requires.ready_2.prepared.filled.size, c.requires.j_bound.0)
+
+pub set_of-set-requires : goal.set_of-set-requires
+set_of-set-requires c =
+    let few = c.requires.ready_2.prepared.by-group.inside c.args.j c.requires.j_bound.0 in
+    (omega (arith, few, c.first_of.ensures), omega (arith, few, c.count_of.ensures), c.requires.j_bound.1, omega (arith, c.cycle_of-cycle.ensures, cycle-pos c.requires.ready_2.prepared c.args.j c.requires.j_bound.0))
+
+pub lookup-found-requires : goal.lookup-found-requires
+lookup-found-requires c = let s = c.before.before.before.before.before.before.before.before in (s.requires.0.remembered.size, c.before.set-of.ensures)
+
+pub returns-in-At : goal.returns-in-At
+returns-in-At c = let s = c.before.before.before.before.before.before.before.before.before.before.before.before in record { value = told_is s.requires.0.remembered (c.lookup-found.ensures _ c.in-At.is); ready = s.requires.0 }
+
+pub part_of-part-requires : goal.part_of-part-requires
+part_of-part-requires c = let s = c.before.before.before.before.before.before.before.before.before.before.before in (s.requires.0.prepared.filled.size, s.requires.1.0, s.requires.0.prepared.by-group.inside s.args.j s.requires.1.0)
+
+pub best_alignment-best-requires : goal.best_alignment-best-requires
+best_alignment-best-requires c =
+    let s = c.before.before.before.before.before.before.before.before.before.before.before.before in
+    record { fine_part = rw c.part_of-part.ensures (group-fine s.requires.0.prepared s.args.j s.requires.1.0); end_bound = (omega (arith, c.before.before.before.before.before.before.before.before.cycle-of.ensures, cycle-small s.requires.0.prepared s.args.j s.requires.1.0), s.requires.1.1) }
+
+pub insert-requires : goal.insert-requires
+insert-requires c = let s = c.before.before.before.before.before.before.before.before.before.before.before.before.before.before in (s.requires.0.remembered.size, c.before.before.before.before.before.before.before.set-of.ensures, s.requires.1.0, omega (arith, s.requires.1.1))
+
+pub overflow_add-memory-2 : goal.overflow_add-memory-2
+overflow_add-memory-2 c = omega (arith, c.before.before.before.before.before.before.before.before.before.before.before.before.before.before.before.before.before.before.requires.1.0)
+
+pub offset_bounds-memory-j : goal.offset_bounds-memory-j
+offset_bounds-memory-j c = omega (arith, c.before.before.before.before.before.before.before.before.before.before.before.before.before.before.before.before.before.before.requires.1.0)
+
+pub bounds-memory-j : goal.bounds-memory-j
+bounds-memory-j c = omega (arith, c.before.before.before.before.before.before.before.before.before.before.before.before.before.before.before.before.before.before.requires.1.0, c.insert.auto.0, c.before.before.before.before.before.before.before.before.before.before.before.before.before.before.before.before.before.before.requires.0.remembered.size)
+
+pub returns : goal.returns
+unfolding group_work
+returns c =
+    let s = c.before.before.before.before.before.before.before.before.before.before.before.before.before.before.before.before.before.before in
+    let p = s.requires.0.prepared in
+    let g = rw (c.part_of-part.ensures, c.before.before.before.before.before.before.before.before.before.before.before.before.before.before.cycle-of.ensures) at c.best_alignment-best.ensures in
+    let is = read-group p s.args.j s.requires.1.0 Any s.args.n g.1.0 in
+    let listed = first-aligned p.filled.table.valid _ _ (rw (read-alignments p s.args.j s.requires.1.0) at g.0) in
+    let kept = c.insert.ensures _ _ p.filled.table.valid (sym is) s.requires.0.remembered in
+    record { value = is; ready = record { prepared = p; listed = s.requires.0.listed; blocked = s.requires.0.blocked; target = s.requires.0.target; cost = s.requires.0.cost; remembered = put-guess kept s.args.j _ s.requires.1.0 (search rules) listed } }

@@ -1,0 +1,28 @@
+-- A stair of the same work is widened, or a new one is put in its place.
+use mathlib.Core.Path.{◌≡◌, sym, ◌∙◌}
+use native.Mathlib.Omega.{arith}
+use native.Mathlib.Nat.{le_refl}
+use borrow.Author.Rules.{rules}
+use lib.ListN.{get_or}
+use Rattle.greatest_work.specs.Laws.Memory.{holds-packed, holds-widened, put-stair}
+use Rattle.greatest_work.proofs.stairs.insert.Goals as goal
+
+pub returns-then-work-ge-UNIT : goal.returns-then-work-ge-UNIT
+returns-then-work-ge-UNIT c = λ fs k valid is kept. kept
+
+pub returns-then-is_of : goal.returns-then-is_of
+returns-then-is_of c =
+    let s = c.before.before.before.before.before.before.before.before in
+    let p = c.place_for-p.result in
+    let inside = c.place_for-p.ensures in
+    λ fs k valid is kept.
+    put-stair kept p _ inside
+    (rw c.widen.ensures (holds-widened valid (get_or s.args.memory.now p 0) s.args.j s.args.n s.args.work (kept.stairs p inside) (sym c.is_of.ensures ∙ c.if-is_of.true) s.requires.3 is))
+
+pub returns-else-is_of : goal.returns-else-is_of
+returns-else-is_of c =
+    let s = c.before.before.before.before.before.before.before.before in
+    λ fs k valid is kept.
+    put-stair kept _ _ c.place_for-p.ensures
+    (rw c.pack.ensures
+    (holds-packed s.args.j s.requires.3 s.requires.3 c.before.before.before.before.before.before.if1.false (le_refl s.args.n) (λ m low high. let same : m ≡ s.args.n = omega arith in rw same is)))

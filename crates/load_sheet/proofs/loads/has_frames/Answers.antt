@@ -1,0 +1,18 @@
+use Prim.Native.Nat.{◌-◌, ◌/◌, ◌≤◌}
+use borrow.Author.Rules.{rules}
+use lib.ListN.{length}
+use Rattle.table_checks.specs.Columns.{columns}
+use Rattle.load_sheet.specs.Laws.Loads.{Decides, decides-first, found_here, found-later, found_none}
+use Rattle.load_sheet.proofs.loads.has_frames.Goals as goal
+
+pub loop-i-init : goal.loop-i-init
+loop-i-init c = (decides-first _ _, search rules)
+
+pub returns-then-rows-i : goal.returns-then-rows-i
+returns-then-rows-i c = found_here _ _ _ c.loop-i-test.true c.loop-i.invariant.0 c.if-rows-i.true
+
+pub loop-i-preserved : goal.loop-i-preserved
+loop-i-preserved c = (found-later _ _ _ c.loop-i-test.true c.loop-i.invariant.0 c.if-rows-i.false, search rules)
+
+pub returns : goal.returns
+returns c = found_none _ _ _ c.loop-i-test.false c.loop-i.invariant.0

@@ -1,0 +1,41 @@
+-- `load_sheet::loads::node_load` meets its contract: the divisor is the hyperperiod of the node's group, which is not 0.
+use Prim.Native.Nat.{◌≤◌}
+use mathlib.Core.Path.{◌≡◌, sym, ◌∙◌}
+use native.Mathlib.Omega.{arith}
+use borrow.Author.Rules.{rules}
+use Rattle.bus_model.specs.Pattern.{of_group, hyperperiod}
+use Rattle.table_checks.specs.Frames.{frames_of}
+use Rattle.table_checks.specs.Laws.Accepted.{hyper-same}
+use Rattle.load_sheet.specs.Sheet.{group_of, node_load}
+use Rattle.load_sheet.specs.Laws.Loads.{group-limits, divisor-limits, load_is}
+use Rattle.load_sheet.proofs.loads.node_load.Goals as goal
+use Rattle.load_sheet.proofs.loads.node_load.Goals.{After-hyperperiod-divisor}
+
+-- the hyperperiod is the same by any lengths
+divisor : (c : After-hyperperiod-divisor) → let a = c.args in c.hyperperiod-divisor.result ≡ hyperperiod (of_group (frames_of a.lengths a.rows.now) (group_of a.rows.now a.node))
+divisor c =
+    let a = c.args in
+    rw (← c.before.Group-of.ensures) (c.hyperperiod-divisor.ensures ∙ sym (hyper-same a.lengths a.rows.now _))
+
+limits : (c : After-hyperperiod-divisor) → (1 ≤ c.hyperperiod-divisor.result) × (c.hyperperiod-divisor.result ≤ 1000000)
+limits c =
+    let pre = c.requires in
+    rw (divisor c) (divisor-limits _ pre.loadable.1 _ pre.loadable.0 _ pre.node_value)
+
+pub hyperperiod-divisor-requires : goal.hyperperiod-divisor-requires
+hyperperiod-divisor-requires c =
+    let pre = c.requires in
+    record { accepted = pre.loadable.1; le_group = rw c.Group-of.ensures (group-limits _ pre.loadable.1 _ pre.node_value) }
+
+pub work-dividend-requires : goal.work-dividend-requires
+work-dividend-requires c = record { loadable = c.requires.loadable; h_bound = (limits c).1 }
+
+pub nonzero_div-result : goal.nonzero_div-result
+nonzero_div-result c = omega (arith, (limits (goal.at.nonzero_div-result c).After-hyperperiod-divisor).0)
+
+pub nonzero_rem-result : goal.nonzero_rem-result
+nonzero_rem-result c = omega (arith, (limits (goal.at.nonzero_rem-result c).After-hyperperiod-divisor).0)
+
+pub returns : goal.returns
+unfolding node_load
+returns c = load_is _ _ _ _ (divisor (goal.at.returns c).After-hyperperiod-divisor) c.work-dividend.ensures.value

@@ -1,0 +1,19 @@
+-- `load_sheet::loads::work` meets its contract: the invariant has the work of the frames read.
+use Prim.Native.Nat.{◌-◌, ◌*◌, ◌/◌, ◌≤◌, ◌<◌}
+use mathlib.Core.Path.{◌∙◌}
+use native.Mathlib.Omega.{arith}
+use borrow.Author.Rules.{rules}
+use lib.ListN.{length}
+use Rattle.arith.specs.Lists.{range}
+use Rattle.arith.specs.Laws.Walks.{Down, down-end}
+use Rattle.table_checks.specs.Columns.{columns}
+use Rattle.table_checks.specs.Laws.Accepted.{frame_row, accepted-size}
+use Rattle.load_sheet.specs.Sheet.{node_frames, rows_of}
+use Rattle.load_sheet.specs.Laws.Loads.{frame-limits, work_of, work_none, work-more}
+use Rattle.load_sheet.proofs.loads.work.Given as goal
+
+abbrev pub invariant-loop-i : goal.invariant-loop-i
+invariant-loop-i l = Down (work_of l.lengths l.rows l.h l.node) (range 0 (length l.rows / columns)) l.sum l.i × (l.sum ≤ 400000000 * (length l.rows / columns - l.i)) × (l.i ≤ length l.rows / columns)
+
+abbrev pub decreases-loop-i : goal.decreases-loop-i
+decreases-loop-i l = l.i

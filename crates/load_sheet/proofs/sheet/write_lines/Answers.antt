@@ -1,0 +1,27 @@
+use Prim.Native.Nat.{◌-◌}
+use mathlib.Core.Path.{◌≡◌, refl}
+use native.Mathlib.Omega.{arith}
+use borrow.Author.Rules.{rules}
+use lib.ListN.{length, length-take, length-drop}
+use Rattle.load_sheet.specs.Sheet.{node_load}
+use Rattle.load_sheet.specs.Laws.Lines.{Written, written_none, written-more, written_all}
+use Rattle.load_sheet.proofs.sheet.write_lines.Goals as goal
+
+pub loop-i-init : goal.loop-i-init
+loop-i-init c = (written_none _ _ _, refl)
+
+pub node_load-load-requires : goal.node_load-load-requires
+node_load-load-requires c =
+    let limits = c.requires.nodes.0.each c.loop-i.i c.loop-i-test.true in
+    record { loadable = c.requires.loadable; node_value = limits }
+
+pub write_line-requires : goal.write_line-requires
+write_line-requires c =
+    simp (length-take, length-drop) (omega (arith, c.loop-i.invariant.1, c.loop-i-test.true, c.requires.nodes.1))
+
+pub loop-i-preserved : goal.loop-i-preserved
+loop-i-preserved c =
+    (written-more _ _ _ c.loop-i.invariant.0 _ _ _ _ c.loop-i-test.true refl c.node_load-load.ensures c.write_line.ensures c.greater-most.ensures, search rules)
+
+pub returns : goal.returns
+returns c = let answer = written_all _ _ _ c.loop-i.invariant.0 c.loop-i-test.false in record { value = answer.0; out_after = answer.1 }

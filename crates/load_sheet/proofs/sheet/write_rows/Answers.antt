@@ -1,0 +1,34 @@
+-- `load_sheet::sheet::write_rows` meets its contract: lines and last line are written where they have room, and else the area is left.
+use mathlib.Core.Path.{refl, sym, ap, ◌∙◌}
+use native.Mathlib.Omega.{arith}
+use borrow.Author.Rules.{rules}
+use lib.ListN.{length}
+use Rattle.table_checks.specs.declared.Checked.TheVariants.{Passed}
+use Rattle.frame_table.specs.Laws.Areas.{area-short, area-written}
+use Rattle.load_sheet.specs.Sheet.{sheet_of}
+use Rattle.load_sheet.specs.Laws.Lines.{nodes-of, length-sheet, sheet-written}
+use Rattle.load_sheet.proofs.sheet.write_rows.Goals as goal
+
+pub returns-then-out-end : goal.returns-then-out-end
+returns-then-out-end c =
+    let answer = area-short Passed (sheet_of c.args.lengths c.args.rows.now) c.args.out.now _ _
+    (length-sheet c.args.lengths c.args.rows.now _ c.find_nodes-count.ensures.counted.0) refl c.if-out-end.true c.no_room.ensures in record { value = answer.0; out_after = answer.1 }
+
+pub slice_bounds-write_lines-end : goal.slice_bounds-write_lines-end
+slice_bounds-write_lines-end c =
+    let found = c.find_nodes-count.ensures in
+    found.1.0 ∙ ap length (sym found.0)
+
+pub write_lines-most-requires : goal.write_lines-most-requires
+write_lines-most-requires c =
+    let found = c.find_nodes-count.ensures in
+    let size = ap length found.0 in
+    let answer = (c.requires, (nodes-of _ _ found.0 (omega (arith, size, found.1)), omega (arith, size, found.1, c.if-out-end.false))) in record { loadable = answer.0; nodes = answer.1; nodes_in_bounds = answer.2 }
+
+pub returns : goal.returns
+returns c =
+    let found = c.find_nodes-count.ensures in
+    let lines = c.write_lines-most.ensures in
+    let answer = area-written Passed (sheet_of c.args.lengths c.args.rows.now) c.args.out.now _ _
+    (length-sheet c.args.lengths c.args.rows.now _ found.1.0) refl c.if-out-end.false
+    (sheet-written c.args.lengths c.args.rows.now _ _ _ _ _ _ found.0 found.1.0 lines.0 lines.1 c.write_last.ensures) in record { value = answer.0; out_after = answer.1 }

@@ -1,0 +1,20 @@
+-- `log_check::check_log` meets its contract: each answer is that of the definition.
+use borrow.Author.Rules.{rules}
+use mathlib.Core.Path.{sym, ◌∙◌}
+use Rattle.table_checks.specs.Laws.Accepted.{loaded-both}
+use Rattle.log_check.specs.Check.{checked_answer}
+use Rattle.log_check.specs.Laws.Answer.{told}
+use Rattle.log_check.proofs.check_log.Goals as goal
+
+pub check_text-requires : goal.check_text-requires
+check_text-requires c = loaded-both _ _ (sym c.check_loaded-checked.ensures.value ∙ c.in-Passed.is)
+
+pub returns-in-Failed : goal.returns-in-Failed
+unfolding checked_answer
+returns-in-Failed c =
+    let answer = told _ _ _ c.check_loaded-checked.ensures.value
+    (rw (c.in-Failed.is, ← c.of_table.ensures) c.refuse.ensures) in record { value = answer.0; says = answer.1; in_numbers = answer.2 }
+
+pub returns-in-Passed : goal.returns-in-Passed
+unfolding checked_answer
+returns-in-Passed c = let answer = told _ _ _ c.check_loaded-checked.ensures.value (rw c.in-Passed.is c.check_text.ensures) in record { value = answer.0; says = answer.1; in_numbers = answer.2 }

@@ -1,0 +1,12 @@
+-- `log_command::write_checked` meets its contract: the text goes by the outcome.
+use borrow.Author.Rules.{rules}
+use Rattle.log_command.specs.Laws.Lines.{text-accepted, text-refused}
+use Rattle.log_command.proofs.write_checked.Goals as goal
+
+pub returns-in-Refused : goal.returns-in-Refused
+returns-in-Refused c =
+    rw (text-refused c.args.checked _ c.in-Refused.is, ← c.number.ensures) c.write_refusal_line.ensures
+
+pub returns-in-Accepted : goal.returns-in-Accepted
+returns-in-Accepted c =
+    rw (text-accepted c.args.checked c.in-Accepted.is) c.write_starts.ensures

@@ -1,0 +1,6 @@
+-- `log_command::write_files` meets its contract: the numbers of the check are printed.
+use borrow.Author.Rules.{rules}
+use Rattle.log_command.proofs.write_files.Goals as goal
+
+pub returns : goal.returns
+returns c = rw (← c.check_files.ensures.says.1) c.write_checked.ensures

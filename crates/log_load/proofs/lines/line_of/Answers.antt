@@ -1,0 +1,11 @@
+-- `log_load::lines::line_of` meets its contract: the line stands in the text.
+use mathlib.Core.Path.{sym, ◌∙◌}
+use native.Mathlib.Omega.{arith}
+use Rattle.log_load.specs.Theory.Lines.{few-lines, line-stands, line-is}
+use Rattle.log_load.proofs.lines.line_of.Goals as goal
+
+pub line_of-requires : goal.line_of-requires
+line_of-requires c = let (readable, h) = c.requires in (omega (arith, few-lines _ readable), rw (← line-is _ readable _ h) (line-stands _ readable _ h))
+
+pub returns : goal.returns
+returns c = let (readable, h) = c.requires in record { value = c.Line-of.ensures.0 ∙ sym (line-is _ readable _ h); small = c.Line-of.ensures.1 }

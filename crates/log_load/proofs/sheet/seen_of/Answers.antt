@@ -1,0 +1,27 @@
+use mathlib.Core.Path.{sym, ap, ◌∙◌}
+use Prim.Native.Nat.{◌-◌, ◌*◌, ◌≤◌, ◌^◌}
+use native.Mathlib.Omega.{arith}
+use borrow.Author.Rules.{rules}
+use Rattle.arith.specs.Laws.Walks.{Through, through-start, through-more, through-end}
+use Rattle.bus_log.specs.declared.Line.{Line}
+use Rattle.log_check.specs.Check.{lines_of}
+use Rattle.log_load.specs.Sheet.{seen_of}
+use Rattle.log_load.specs.Steps.{no_line, with_line}
+use Rattle.log_load.specs.Theory.Sheet.{joined, seen_more, seen_start, seen_end}
+use Rattle.log_load.proofs.sheet.seen_of.Goals as goal
+
+pub loop-j-init : goal.loop-j-init
+loop-j-init c = (through-start _ _ _ _ (seen_start c.args.rows.now c.args.i (lines_of c.args.text.now)), search rules, search rules)
+
+pub loop-j-preserved : goal.loop-j-preserved
+loop-j-preserved c =
+    let l = c.loop-j in
+    let w = c.with_line-seen.ensures in (
+      through-more _ _ _ _ no_line l.invariant.0 (omega (arith, c.loop-j-test.true, c.count-n.ensures.value))
+          (λ ls. seen_more c.args.rows.now c.args.i l.seen _ _ ls (w.0 ∙ ap (λ (k : Line). with_line c.args.rows.now c.args.i k l.seen) c.before.Line-of.ensures.0)),
+      omega (arith, l.invariant.1, w.1.0),
+      omega (arith, l.invariant.2, w.1.1),
+    )
+
+pub returns : goal.returns
+returns c = sym (seen_end c.args.rows.now c.args.i _) ∙ through-end _ _ _ _ c.loop-j.invariant.0 (omega (arith, c.loop-j-test.false, c.count-n.ensures.value))

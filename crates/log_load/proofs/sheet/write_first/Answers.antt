@@ -1,0 +1,13 @@
+-- `log_load::sheet::write_first` meets its contract: the two columns and the line feed fill the line.
+use lib.ListN.{length-set}
+use borrow.Author.Rules.{rules}
+use Rattle.log_load.specs.Theory.Sheet.{first-written}
+use Rattle.log_load.proofs.sheet.write_first.Goals as goal
+
+pub shape_of-line : goal.shape_of-line
+shape_of-line c = simp length-set (search rules)
+
+pub returns : goal.returns
+returns c =
+    let best = c.args.best in
+    first-written best.count best.first c.args.line.now _ _ c.requires c.write.ensures c.write-2.ensures

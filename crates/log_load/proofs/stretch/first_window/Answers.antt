@@ -1,0 +1,16 @@
+-- `log_load::stretch::first_window` meets its contract.
+use mathlib.Core.Path.{refl}
+use Prim.Native.Nat.{◌-◌}
+use native.Mathlib.Omega.{arith}
+use Rattle.log_load.specs.Theory.Walk.{walk_start}
+use Rattle.log_load.specs.Theory.Best.{tried-start}
+use Rattle.log_load.proofs.stretch.first_window.Goals as goal
+
+pub walk_to-to-requires : goal.walk_to-to-requires
+walk_to-to-requires c = let p = c.requires in let answer = (p.readable, (omega (arith, p.w_bound.1), walk_start _ p.readable.1 _)) in record { readable = answer.0; t_bound = answer.1; walked = answer.2 }
+
+pub returns : goal.returns
+returns c =
+    let p = c.requires in
+    let t = c.walk_to-to.ensures in
+    λ place. tried-start _ _ p.readable.1 place _ _ p.w_bound.0 refl refl t.0 t.1

@@ -1,0 +1,66 @@
+use Prim.Native.Nat.{◌-◌, ◌+◌, ◌*◌, ◌≤◌, ◌<◌}
+use mathlib.Core.Path.{sym, ◌∙◌}
+use native.Mathlib.Omega.{arith}
+use native.Mathlib.Nat.{sub-zero, le-mul_of_pos_right}
+use borrow.Author.Rules.{rules}
+use Rattle.bus_model.specs.Bounds.{own_distance}
+use Rattle.workload.specs.Prepared.{table_of}
+use Rattle.workload.specs.Laws.Fine.{in-table-fine}
+use Rattle.greatest_work.specs.Ready.{Ready}
+use Rattle.response_time.specs.Laws.Searches.{placed-any}
+use Rattle.response_time.specs.Laws.Within.{Swept, swept_none, swept-shown, swept-missed, swept_all}
+use Rattle.response_time.proofs.reach.sweep.Goals as goal
+use Rattle.response_time.proofs.reach.sweep.Goals.{In-loop-q}
+
+pub place-to-requires : goal.place-to-requires
+place-to-requires c = let p = c.requires.ready_2 in let answer = (p.prepared.filled, (p.target, search rules)) in record { filled = answer.0; fine_target = answer.1; area_len = answer.2 }
+
+pub loop-q-init : goal.loop-q-init
+loop-q-init c = (swept_none, c.requires.ready_2, omega arith)
+
+-- the release of an instance and its number are small
+fits : (c : In-loop-q) →
+    let a = c.args in (own_distance a.target.frame a.choices + c.loop-q.q * a.target.frame.period < 1000000) × (c.loop-q.q < 1000000)
+fits c =
+    let p = c.requires in
+    let early = p.own_fixed.1.early c.loop-q.q c.loop-q-test.true in
+    (early, omega (arith, early, le-mul_of_pos_right c.loop-q.q (in-table-fine _ p.ready_2.prepared.filled.table p.ready_2.listed).period-low))
+
+pub shown_within-shown-requires : goal.shown_within-shown-requires
+shown_within-shown-requires c =
+    let f = fits (goal.at.shown_within-shown-requires c).At-loop-q in
+    let answer = (c.before.before.before.before.loop.invariant.1, ((c.before.before.before.before.before.before.before.before.before.before.before.requires.1.0, omega (arith, f.1)), (f.0, rw sub-zero c.before.before.before.before.before.before.place.ensures.0 ∙ placed-any _ c.before.before.before.before.before.before.before.before.before.before.before.args.target _ c.before.before.before.before.loop.q))) in record { ready_2 = answer.0; asked = answer.1; period_bound = answer.2; placed_value = answer.3 }
+
+pub overflow_add-q : goal.overflow_add-q
+overflow_add-q c = record { fits = omega (arith, (fits (goal.at.overflow_add-q c).At-loop-q).1, c.shown_within-shown.ensures.small.0) }
+
+pub loop-q-smaller-then-shown-gt0 : goal.loop-q-smaller-then-shown-gt0
+loop-q-smaller-then-shown-gt0 c = omega (arith, c.before.before.before.before.before.before.before.before.before.before.loop-test.true, c.if-shown-gt0.true, c.lesser-q.ensures)
+
+pub loop-q-preserved-then-shown-gt0 : goal.loop-q-preserved-then-shown-gt0
+loop-q-preserved-then-shown-gt0 c =
+    (rw c.lesser-q.ensures (swept-shown c.before.before.before.before.before.before.before.before.before.before.before.loop.invariant.0 c.before.before.before.before.before.before.before.before.before.before.loop-test.true c.shown_within-shown.result.count c.shown_within-shown.ensures.by_index), c.shown_within-shown.ensures.small.1, omega (arith, c.before.before.before.before.before.before.before.before.before.before.before.loop.invariant.2, c.lesser-q.ensures, c.before.before.before.before.before.before.before.before.before.before.loop-test.true))
+
+pub shape_of-memory-then-patience-missed : goal.shape_of-memory-then-patience-missed
+shape_of-memory-then-patience-missed c = c.shown_within-shown.ensures.small.1.remembered.size ∙ sym c.before.before.before.before.before.before.before.before.before.before.before.before.before.before.before.before.before.requires.0.remembered.size
+
+pub returns-then-patience-missed : goal.returns-then-patience-missed
+returns-then-patience-missed c = record { reaches_2 = c.before.before.before.before.before.before.before.before.before.before.before.before.before.before.before.before.before.requires.1.1; ready = c.shown_within-shown.ensures.small.1 }
+
+pub overflow_add-missed : goal.overflow_add-missed
+overflow_add-missed c = record { fits = omega (arith, (fits (goal.at.overflow_add-missed c).At-loop-q).1, c.before.before.before.before.before.before.before.before.before.before.loop.invariant.2) }
+
+pub overflow_add-q-in-loop-q : goal.overflow_add-q-in-loop-q
+overflow_add-q-in-loop-q c = record { fits = omega (arith, (fits (goal.at.overflow_add-q-in-loop-q c).At-loop-q).1) }
+
+pub loop-q-smaller : goal.loop-q-smaller
+loop-q-smaller c = omega (arith, c.before.before.before.before.before.before.before.before.before.loop-test.true)
+
+pub loop-q-preserved : goal.loop-q-preserved
+loop-q-preserved c = (swept-missed c.before.before.before.before.before.before.before.before.before.before.loop.invariant.0 c.before.before.before.before.before.before.before.before.before.loop-test.true, c.shown_within-shown.ensures.small.1, omega (arith, c.before.before.before.before.before.before.before.before.before.before.loop.invariant.2))
+
+pub shape_of-memory : goal.shape_of-memory
+shape_of-memory c = c.loop-q.invariant.1.remembered.size ∙ sym c.requires.ready_2.remembered.size
+
+pub returns : goal.returns
+returns c = record { reaches_2 = swept_all c.requires.own_fixed.1 c.loop-q.invariant.0 c.loop-q-test.false; ready = c.loop-q.invariant.1 }

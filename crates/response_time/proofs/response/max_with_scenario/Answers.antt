@@ -1,0 +1,39 @@
+-- Where it is shown of all instances, `best` stays; elsewhere the window is taken, and the greatest response in it.
+use Prim.Native.Nat.{max}
+use mathlib.Core.Path.{sym, ap, ◌∙◌}
+use native.Mathlib.Omega.{arith}
+use borrow.Author.Rules.{rules}
+use Rattle.bus_model.specs.Theory.Response.{response-at, response-none}
+use Rattle.response_time.specs.Laws.Within.{reach-none}
+use Rattle.response_time.proofs.response.max_with_scenario.Goals as goal
+
+pub returns-then-reach-eq0 : goal.returns-then-reach-eq0
+returns-then-reach-eq0 c = record { value = omega (arith, reach-none _ _ _ _ (rw c.if-reach-eq0.true at c.requires.own_fixed.1)); ready = c.requires.ready_2 }
+
+pub shape_of-memory-then-sweep-eq0 : goal.shape_of-memory-then-sweep-eq0
+shape_of-memory-then-sweep-eq0 c = c.sweep.ensures.ready.remembered.size ∙ sym c.requires.ready_2.remembered.size
+
+pub returns-then-sweep-eq0 : goal.returns-then-sweep-eq0
+returns-then-sweep-eq0 c = record { value = omega (arith, reach-none _ _ _ _ (rw c.if-sweep-eq0.true at c.sweep.ensures.reaches_2)); ready = c.sweep.ensures.ready }
+
+pub busy_window-found-requires : goal.busy_window-found-requires
+busy_window-found-requires c = c.sweep.ensures.ready
+
+pub shape_of-memory-in_default : goal.shape_of-memory-in_default
+shape_of-memory-in_default c = c.busy_window-found.ensures.ready.remembered.size ∙ sym c.requires.ready_2.remembered.size
+
+pub returns-in_default : goal.returns-in_default
+returns-in_default c =
+    let none = response-none _ _ _ _ (sym c.busy_window-found.ensures.value ∙ c.in_default.is) in
+    record { value = omega (arith, none); ready = c.busy_window-found.ensures.ready }
+
+pub max_with_window-requires : goal.max_with_window-requires
+max_with_window-requires c = let answer = (c.busy_window-found.ensures.ready, (c.requires.own_fixed.0, sym c.busy_window-found.ensures.value ∙ c.in-At.is)) in record { ready_2 = answer.0; own_fixed = answer.1; choices_value = answer.2 }
+
+pub shape_of-memory : goal.shape_of-memory
+shape_of-memory c = c.max_with_window.ensures.ready.remembered.size ∙ sym c.requires.ready_2.remembered.size
+
+pub returns : goal.returns
+returns c =
+    let is = response-at _ _ _ _ _ (sym c.busy_window-found.ensures.value ∙ c.in-At.is) in
+    record { value = c.max_with_window.ensures.value ∙ ap (max c.args.best) (sym is); ready = c.max_with_window.ensures.ready }

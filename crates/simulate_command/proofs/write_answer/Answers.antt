@@ -1,0 +1,20 @@
+-- `simulate_command::write_answer` meets its contract: 21 and 22 are lines, and else the answer decides.
+use native.Mathlib.Omega.{arith}
+use borrow.Author.Rules.{rules}
+use Rattle.simulator.specs.Simulate.{simulated_returns}
+use Rattle.simulate_command.specs.Laws.Printed.{line-printed}
+use Rattle.simulate_command.proofs.write_answer.Goals as goal
+
+pub returns-in-Answered : goal.returns-in-Answered
+returns-in-Answered c =
+    rw c.in-Answered.is c.write_refused.ensures
+
+pub returns-in-ZeroSeed : goal.returns-in-ZeroSeed
+unfolding simulated_returns
+returns-in-ZeroSeed c =
+    rw c.in-ZeroSeed.is (line-printed _ _ (λ e. omega arith) c.write_refusal_line.ensures)
+
+pub returns-in-LineCount : goal.returns-in-LineCount
+unfolding simulated_returns
+returns-in-LineCount c =
+    rw c.in-LineCount.is (line-printed _ _ (λ e. omega arith) c.write_refusal_line-in-LineCount.ensures)

@@ -1,0 +1,19 @@
+-- `simulate_command::write_refused` meets its contract.
+use mathlib.Core.Path.{refl}
+use borrow.Author.Rules.{rules}
+use Rattle.table_checks.specs.Laws.Returns.{number-some}
+use Rattle.frame_table.specs.Table.{answer_returns}
+use Rattle.simulator.specs.Simulate.{simulated_returns}
+use Rattle.simulate_command.specs.Steps.{answer_after, area_printed}
+use Rattle.simulate_command.specs.Laws.Printed.{line-printed}
+use Rattle.simulate_command.proofs.write_refused.Goals as goal
+
+pub returns-in-Done : goal.returns-in-Done
+unfolding simulated_returns answer_returns answer_after area_printed
+returns-in-Done c = rw c.in-Done.is (refl, refl)
+
+pub returns-in-Refused : goal.returns-in-Refused
+unfolding simulated_returns answer_returns
+returns-in-Refused c =
+    rw c.in-Refused.is
+    (line-printed _ _ (number-some _) (rw (← c.number.ensures) c.write_refusal_line.ensures))

@@ -1,0 +1,19 @@
+use Prim.Native.Nat.{◌-◌, ◌≤◌}
+use mathlib.Core.Path.{◌≡◌, refl, ap, ◌∙◌}
+use native.Mathlib.Omega.{arith}
+use borrow.Author.Rules.{rules}
+use native.Mathlib.Numerals.{add-one}
+use Rattle.table_checks.specs.Frames.{frames_of}
+use Rattle.simulator.specs.Starts.{starts_drawn}
+use Rattle.simulator.proofs.drawing.draw_starts.Goals as goal
+
+pub loop-j-init : goal.loop-j-init
+unfolding starts_drawn
+loop-j-init c = (refl, search rules)
+
+pub loop-j-preserved : goal.loop-j-preserved
+unfolding starts_drawn
+loop-j-preserved c = let l = c.loop-j in (c.draw_start-d.ensures ∙ rw (l.invariant.0, add-one l.j), search rules)
+
+pub returns : goal.returns
+returns c = let l = c.loop-j in let z : l.j ≡ 16 = omega (arith, l.invariant.1, c.loop-j-test.false) in l.invariant.0 ∙ ap (starts_drawn (frames_of c.args.lengths c.args.rows.now) c.args.seed) z

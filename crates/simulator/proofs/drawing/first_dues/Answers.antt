@@ -1,0 +1,17 @@
+use Prim.Native.Nat.{◌-◌, ◌≤◌}
+use mathlib.Core.Path.{◌≡◌, refl, ◌∙◌}
+use borrow.Author.Rules.{rules}
+use mathlib.Core.List.{map}
+use lib.ListN.{length, length-set}
+use Rattle.table_checks.specs.Frames.{frames_of}
+use Rattle.bus_log.specs.Theory.Filled.{fill_more, fill-all}
+use Rattle.arith.specs.Lists.{range}
+use Rattle.arith.specs.Laws.Overwriting.{over}
+use Rattle.simulator.specs.Starts.{first_due}
+use Rattle.simulator.proofs.drawing.first_dues.Goals as goal
+
+pub loop-i-preserved : goal.loop-i-preserved
+loop-i-preserved c = let l = c.loop-i in (fill_more _ 64 _ _ refl _ _ l.invariant.0 c.loop-i-test.true c.first_due.ensures, search rules, length-set l.due _ _ ∙ l.invariant.2, refl)
+
+pub returns : goal.returns
+returns c = fill-all _ 64 _ _ refl _ c.loop-i.invariant.0 c.loop-i.invariant.1 c.loop-i-test.false

@@ -1,0 +1,33 @@
+-- `simulator::operation::simulate_file` meets its contract: what the file is read into is its table, and a file that is turned back is answered with its refusal.
+use mathlib.Core.Path.{refl}
+use borrow.Author.Rules.{rules}
+use Rattle.frame_table.specs.Laws.Reading.{ReadRows, read-rows, read-refused}
+use Rattle.simulator.specs.Theory.Answers.{left-refused, left_passed}
+use Rattle.simulator.proofs.operation.simulate_file.Goals as goal
+use Rattle.simulator.proofs.operation.simulate_file.Goals.{In-Done}
+
+-- the table of the file
+read : (c : In-Done) → ReadRows c.args.file.now c.read-answer.new.rows c.in-Done.n
+read c =
+    let both = c.read-answer.ensures in
+    read-rows _ _ _ refl both.0 _ _ both.1.0 c.in-Done.is
+
+pub slice_bounds-rows-end : goal.slice_bounds-rows-end
+slice_bounds-rows-end c = (read c).room
+
+pub slice_bounds-simulate_accepted-end : goal.slice_bounds-simulate_accepted-end
+slice_bounds-simulate_accepted-end c = (read (goal.at.slice_bounds-simulate_accepted-end c).In-Done).size
+
+pub simulate_accepted-requires : goal.simulate_accepted-requires
+simulate_accepted-requires c =
+    let table = read (goal.at.simulate_accepted-requires c).In-Done in
+    (c.requires, table.accepted)
+
+pub returns-in-Refused : goal.returns-in-Refused
+returns-in-Refused c =
+    rw c.in-Refused.is (left-refused _ _ _ _ _ _ (read-refused _ _ _ refl c.read-answer.ensures.value _ c.in-Refused.is))
+
+pub returns-in-Done : goal.returns-in-Done
+returns-in-Done c =
+    let table = read (goal.at.returns-in-Done c).In-Done in
+    let answer = left_passed _ _ _ _ _ table.passed (rw (← table.rows) c.simulate_accepted.ensures) in record { value = answer.0; out_after = answer.1 }

@@ -1,0 +1,8 @@
+-- `simulator::turn::moved_by` meets its contract.
+use borrow.Author.Rules.{rules}
+use Rattle.simulator.specs.Engine.{moved_by}
+use Rattle.simulator.proofs.turn.moved_by.Goals as goal
+
+pub returns : goal.returns
+unfolding moved_by
+returns c = rw (← c.frame-g.ensures)

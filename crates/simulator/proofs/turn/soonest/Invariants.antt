@@ -1,0 +1,15 @@
+-- `simulator::turn::soonest` meets its contract: after i turns it has the soonest of i rows.
+use Prim.Native.Nat.{◌-◌, ◌≤◌, ◌<◌}
+use mathlib.Core.Path.{◌≡◌, refl, sym, ap, ◌∙◌}
+use native.Mathlib.Omega.{arith}
+use borrow.Author.Rules.{rules}
+use Rattle.bus_log.specs.Follow.{due_of}
+use Rattle.simulator.specs.Theory.Lowest.{lowest-more}
+use Rattle.simulator.specs.Engine.{lowest_of}
+use Rattle.simulator.proofs.turn.soonest.Given as goal
+
+abbrev pub invariant-loop-i : goal.invariant-loop-i
+invariant-loop-i l = (l.k ≡ lowest_of (due_of l.due) l.i) × (l.i ≤ l.n) × (l.k < 64)
+
+abbrev pub decreases-loop-i : goal.decreases-loop-i
+decreases-loop-i l = l.n - l.i

@@ -1,0 +1,9 @@
+-- `simulator::turn::start_next` meets its contract.
+use mathlib.Core.Path.{◌∙◌}
+use borrow.Author.Rules.{rules}
+use Rattle.simulator.specs.Engine.{start_next}
+use Rattle.simulator.proofs.turn.start_next.Goals as goal
+
+pub returns : goal.returns
+unfolding start_next
+returns c = c.greater_wide.ensures ∙ rw c.soonest-k.ensures.value

@@ -1,0 +1,20 @@
+use Prim.Native.Nat.{◌-◌, ◌≤◌}
+use mathlib.Core.Path.{◌≡◌, refl, ◌∙◌}
+use borrow.Author.Rules.{rules}
+use Rattle.table_checks.specs.Columns.{columns}
+use Rattle.table_checks.specs.Checks.{first_of, column_check, columns_check}
+use Rattle.table_checks.specs.Laws.First.{first-stop, first-go, first-end}
+use Rattle.table_checks.proofs.checks.columns.Goals as goal
+
+pub loop-j-init : goal.loop-j-init
+unfolding columns_check
+loop-j-init c = (refl, search rules)
+
+pub returns-in_default : goal.returns-in_default
+returns-in_default c = first-stop _ _ _ _ _ c.loop-j-test.true c.column-checked.ensures c.in_default.is ∙ c.loop-j.invariant.0
+
+pub loop-j-preserved : goal.loop-j-preserved
+loop-j-preserved c = (first-go _ _ _ _ c.loop-j-test.true c.column-checked.ensures c.in-Passed.is ∙ c.loop-j.invariant.0, search rules)
+
+pub returns : goal.returns
+returns c = first-end _ _ _ c.loop-j-test.false ∙ c.loop-j.invariant.0

@@ -1,0 +1,16 @@
+use Prim.Native.Nat.{◌-◌, ◌≤◌}
+use mathlib.Core.Path.{◌≡◌, refl}
+use borrow.Author.Rules.{rules}
+use lib.ListN.{length}
+use Rattle.arith.specs.Laws.Overwriting.{over, over-element, over-all}
+use Rattle.table_checks.proofs.widen.Goals as goal
+
+pub loop-k-init : goal.loop-k-init
+loop-k-init c = (refl, search rules, refl)
+
+pub loop-k-preserved : goal.loop-k-preserved
+loop-k-preserved c =
+    (over-element _ _ _ _ refl _ _ c.loop-k.invariant.0 c.loop-k-test.true (search rules) c.wide.ensures, search rules, search rules)
+
+pub returns : goal.returns
+returns c = over-all _ _ _ _ refl _ c.loop-k.invariant.0 c.loop-k.invariant.1 c.loop-k-test.false

@@ -1,0 +1,93 @@
+use Rattle.std.proofs.Common.{◌≡◌, ℕ, ◌+◌, ◌-◌, ◌≤◌, length, sym, refl, ◌∙◌, arith, length-set, rules}
+use borrow.Rule.Slice.PartMut.{mid_of, put_mid, mid_len, same_len_mid}
+use Rattle.bus_model.specs.Pattern.{of_group}
+use Rattle.bus_model.specs.Bounds.{ahead}
+use Rattle.table_checks.specs.Frames.{frames_of}
+use Rattle.workload.specs.Prepared.{frames_in}
+use Rattle.workload.specs.Laws.Groups.{before-none, part-within, part-turn, part-read, ListedTo, listed-room, listed_more, listed-all}
+use Rattle.workload.proofs.groups.by_group.Goals as goal
+use Rattle.workload.proofs.groups.by_group.Goals.{After-gather-count, In-loop-j}
+
+pub loop-j-init : goal.loop-j-init
+loop-j-init c = record { size = c.requires.lists_len; count = sym (before-none c.requires.fine_table c.args.k); each = λ i l. absurd (omega arith) }
+
+-- the next group's rows find room
+room : (c : In-loop-j) → c.loop-j.listed + length (of_group (ahead (frames_of c.args.lengths c.args.rows.now) c.args.k) (c.loop-j.j + 1)) ≤ 64
+room c = listed-room c.requires.fine_table _ c.loop-j.invariant
+
+pub overflow_add-from : goal.overflow_add-from
+overflow_add-from c = omega (arith, room c)
+
+pub offset_bounds-lists-from : goal.offset_bounds-lists-from
+offset_bounds-lists-from c = omega (arith, room (c))
+
+pub slice_bounds-gather-count : goal.slice_bounds-gather-count
+slice_bounds-gather-count c = omega (arith, room (c))
+
+pub slice_bounds-gather-start : goal.slice_bounds-gather-start
+slice_bounds-gather-start c = omega (arith, room (c))
+
+pub slice_bounds-gather-end : goal.slice_bounds-gather-end
+slice_bounds-gather-end c = omega (arith, c.loop-j.invariant.size)
+
+pub gather-count-requires : goal.gather-count-requires
+gather-count-requires c =
+    let r = room (goal.at.gather-count-requires c).In-loop-j in
+    let n : ℕ = 64 + c.loop-j.listed in
+    record { rows_len_bound = c.requires.fine_table.few; group_in_bounds = omega (arith, r, mid_len n 128 c.loop-j.lists (omega (arith, c.loop-j.invariant.size, r))) }
+
+-- the area stays as long as it is
+size : (c : After-gather-count) → let n : ℕ = 64 + c.loop-j.listed in length (put_mid n (128 - n) c.loop-j.lists c.gather-count.new.rows.1.1.1.0) ≡ 128
+size c = let n : ℕ = 64 + c.loop-j.listed in same_len_mid n (128 - n) c.loop-j.lists c.gather-count.new.rows.1.1.1.0 c.gather-count.auto.1.1.1.1.0 ∙ c.loop-j.invariant.size
+
+-- what is read has the group's frames
+read : (c : After-gather-count) → let n : ℕ = 64 + c.loop-j.listed in frames_in (frames_of c.args.lengths c.args.rows.now) (mid_of n (n + c.gather-count.result - n) (put_mid n (128 - n) c.loop-j.lists c.gather-count.new.rows.1.1.1.0)) ≡ of_group (ahead (frames_of c.args.lengths c.args.rows.now) c.args.k) (c.loop-j.j + 1)
+read c =
+    let n : ℕ = 64 + c.loop-j.listed in
+    let r = room c.before.before in
+    part-read (frames_of c.args.lengths c.args.rows.now) c.gather-count.result n c.loop-j.lists c.gather-count.new.rows.1.1.1.0 (omega (arith, r, c.loop-j.invariant.size))
+    (omega (arith, r, c.gather-count.ensures.count, c.gather-count.auto.1.1.1.1.0, mid_len n 128 c.loop-j.lists (omega (arith, c.loop-j.invariant.size, r))))
+    ∙ c.gather-count.ensures.area_after
+
+pub overflow_add-to : goal.overflow_add-to
+overflow_add-to c = omega (arith, room (goal.at.overflow_add-to c).In-loop-j, c.gather-count.ensures.count)
+
+pub offset_bounds-lists-from-in-loop-j : goal.offset_bounds-lists-from-in-loop-j
+offset_bounds-lists-from-in-loop-j c = omega (arith, room (goal.at.offset_bounds-lists-from-in-loop-j c).In-loop-j, c.gather-count.ensures.count)
+
+pub slice_bounds-part_hyperperiod-end : goal.slice_bounds-part_hyperperiod-end
+slice_bounds-part_hyperperiod-end c = omega (arith, room (goal.at.slice_bounds-part_hyperperiod-end c).At-loop-j, c.before.before.before.gather.ensures.1, size (goal.at.slice_bounds-part_hyperperiod-end c).After-gather-arg-1)
+
+pub part_hyperperiod-cycle-requires : goal.part_hyperperiod-cycle-requires
+part_hyperperiod-cycle-requires c = let answer = part-within _ c.before.before.before.before.before.before.before.before.before.before.args.k _ (read (goal.at.part_hyperperiod-cycle-requires c).After-gather-arg-1) c.before.before.before.before.before.before.before.before.before.before.requires.0 (omega arith) (omega (arith, c.before.before.before.before.before.before.loop-test.true)) in record { fine = answer.0; part_bound = answer.1 }
+
+pub overflow_cast-lists : goal.overflow_cast-lists
+overflow_cast-lists c = omega (arith, room (goal.at.overflow_cast-lists c).At-loop-j)
+
+pub bounds-lists-at : goal.bounds-lists-at
+bounds-lists-at c = omega (arith, size (goal.at.bounds-lists-at c).After-gather-arg-1, c.before.before.before.before.before.before.before.before.loop-test.true)
+
+pub overflow_cast-lists-in-loop-j : goal.overflow_cast-lists-in-loop-j
+overflow_cast-lists-in-loop-j c = omega (arith, room (goal.at.overflow_cast-lists-in-loop-j c).At-loop-j, c.before.before.before.before.before.before.gather.ensures.1)
+
+pub bounds-lists-at-in-loop-j : goal.bounds-lists-at-in-loop-j
+bounds-lists-at-in-loop-j c = simp length-set (omega (arith, size (goal.at.bounds-lists-at-in-loop-j c).After-gather-arg-1, c.before.before.before.before.before.before.before.before.loop-test.true))
+
+pub bounds-lists-at-in-loop-j-2 : goal.bounds-lists-at-in-loop-j-2
+bounds-lists-at-in-loop-j-2 c = simp length-set (omega (arith, size (goal.at.bounds-lists-at-in-loop-j-2 c).After-gather-arg-1, c.before.before.before.before.before.before.before.before.loop-test.true))
+
+pub bounds-lists-at-in-loop-j-3 : goal.bounds-lists-at-in-loop-j-3
+bounds-lists-at-in-loop-j-3 c = simp length-set (omega (arith, size (goal.at.bounds-lists-at-in-loop-j-3 c).After-gather-arg-1, c.before.before.before.before.before.before.before.before.loop-test.true))
+
+pub overflow_add-listed : goal.overflow_add-listed
+overflow_add-listed c = omega (arith, room (goal.at.overflow_add-listed c).At-loop-j, c.before.before.before.before.before.before.gather.ensures.1)
+
+pub loop-j-preserved : goal.loop-j-preserved
+loop-j-preserved c =
+    let s = c.before.before.before.before.before.before.before.before.before.before.before.before in
+    let g = c.before.before.before.before.before.before.gather in
+    listed_more s.requires.0 _ g.result c.part_hyperperiod-cycle.result c.group_hyperperiod-hyperperiod.result _ g.new.1.1.1.1.0 c.before.before.before.before.before.before.before.before.before.loop.invariant c.before.before.before.before.before.before.before.before.loop-test.true refl
+    g.auto.1.1.1.1.0 g.ensures.0 g.ensures.1 (c.part_hyperperiod-cycle.ensures ∙ part-turn _ s.args.k _ (read (goal.at.loop-j-preserved c).After-gather-arg-1)) c.group_hyperperiod-hyperperiod.ensures
+
+pub returns : goal.returns
+returns c = listed-all c.requires.fine_table _ c.loop-j.invariant c.loop-j-test.false

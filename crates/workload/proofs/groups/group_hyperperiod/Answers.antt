@@ -1,0 +1,34 @@
+use Rattle.std.proofs.Common.{ℕ, ◌-◌, ◌<◌, ◌≤◌, eqb, List, length, refl, subst, arith, rules}
+use Rattle.arith.specs.Laws.Walks.{Down, down-end}
+use Rattle.bus_model.specs.declared.Frame.{Frame}
+use Rattle.bus_model.specs.Frame.{row}
+use Rattle.bus_model.specs.Pattern.{of_group}
+use Rattle.bus_model.specs.Theory.Hyperperiod.{hyper_of, common-none, hyper-more, hyper-le}
+use Rattle.table_checks.specs.Frames.{frames_of}
+use Rattle.table_checks.specs.Laws.Accepted.{length-frames}
+use Rattle.workload.specs.Prepared.{FineTable}
+use Rattle.workload.proofs.groups.group_hyperperiod.Goals as goal
+
+pub loop-i-init : goal.loop-i-init
+unfolding of_group
+loop-i-init c = (subst (Down (hyper_of _) _ 1) (length-frames _ _) (common-none _ (λ (g : Frame). eqb g.group c.args.group)), search rules)
+
+periods : {fs : List Frame} → FineTable fs → (i : ℕ) → i < length fs → 1 ≤ (row fs i).period
+periods table i l = (table.fine i l).period-low
+
+pub joined-h-requires : goal.joined-h-requires
+joined-h-requires c =
+    let l = c.loop-i in
+    let (table, within) = c.requires in
+    let inside : l.i - 1 < length (frames_of c.args.lengths c.args.rows.now) = omega (arith, l.invariant.0.inside, c.loop-i-test.true) in
+    let m = hyper-more _ c.args.group (periods table) l.invariant.0 c.loop-i-test.true c.frame-g.ensures refl in
+    (l.invariant.1, rw c.frame-g.ensures (table.fine (l.i - 1) inside).period-high, omega (arith, hyper-le _ c.args.group (periods table) _ _ m.0, table.hyper c.args.group within.0 within.1))
+
+pub loop-i-preserved : goal.loop-i-preserved
+loop-i-preserved c =
+    let l = c.loop-i in
+    let m = hyper-more _ c.args.group (periods c.requires.fine_table) l.invariant.0 c.loop-i-test.true c.frame-g.ensures c.joined-h.ensures in
+    (m.0, omega (arith, m.1, l.invariant.1))
+
+pub returns : goal.returns
+returns c = down-end _ _ c.loop-i.invariant.0 c.loop-i-test.false

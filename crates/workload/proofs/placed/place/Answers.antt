@@ -1,0 +1,10 @@
+-- The frames, and the faults behind them.
+use Rattle.std.proofs.Common.{List, ◌++◌, ap, ◌∙◌, rules}
+use Rattle.workload.specs.Placed.{Placed, placed_faults}
+use Rattle.workload.proofs.placed.place.Goals as goal
+
+pub returns : goal.returns
+returns c =
+    let frames = c.place_frames-found.ensures in
+    let faults = c.place_faults.ensures in
+    record { area_after = faults.0 ∙ ap (λ (xs : List Placed). xs ++ placed_faults c.before.before.before.before.before.before.before.before.before.before.before.args.target c.before.before.before.before.before.before.before.before.before.before.before.args.search) frames.0; few = faults.1 }

@@ -1,0 +1,31 @@
+-- Where faults begin, the first after the lead is put behind the frames.
+use Rattle.std.proofs.Common.{◌≡◌, ℕ, ◌+◌, ◌-◌, ◌*◌, ◌≤◌, List, [], ◌∷◌, ◌++◌, take, sym, ap, ◌∙◌, append-nil, arith, rules}
+use Rattle.arith.specs.Releases.{releases_before}
+use Rattle.workload.specs.Faults.{FineFaults, lead_of}
+use Rattle.workload.specs.Placed.{Placed, placed_in, fault_frame, fault_frames}
+use Rattle.workload.specs.Laws.Placed.{placed-more}
+use Rattle.workload.proofs.placed.place_faults.Goals as goal
+use Rattle.workload.proofs.placed.place_faults.Goals.{In-Apart}
+
+pub returns-in_default : goal.returns-in_default
+unfolding fault_frames
+returns-in_default c = record { area_after = rw c.in_default.is (sym (append-nil _)); few = omega (arith, c.requires.found_bound.0) }
+
+-- the gap is within its limits
+premise : (c : In-Apart) → (1 ≤ c.in-Apart.gap) × (c.in-Apart.gap ≤ 1000000)
+unfolding FineFaults
+premise c = rw c.in-Apart.is at c.requires.fine_target.premise
+
+pub first_fault-first-requires : goal.first_fault-first-requires
+first_fault-first-requires c = let p = premise (goal.at.first_fault-first-requires c).After-lead_of-arg-1 in (p.0, p.1, c.lead_of-lead.ensures.small)
+
+pub returns : goal.returns
+unfolding fault_frames
+returns c =
+    let told = c.before.before.before.before.before.before.before.faults.given in
+    let first = c.first_fault-first in
+    let lead = c.lead_of-lead in
+    let x : Placed = record { length = c.before.before.before.before.before.before.before.before.before.before.args.target.cost; period = told.0.0; first = first.result } in
+    let is : x ≡ fault_frame c.before.before.before.before.before.before.before.before.before.before.args.target.cost told.0.0 (lead_of c.before.before.before.before.before.before.before.before.before.before.args.search c.before.before.before.before.before.before.before.before.before.before.args.target.frame)
+    = ap {B = Placed} (λ (n : ℕ). record { length = c.before.before.before.before.before.before.before.before.before.before.args.target.cost; period = told.0.0; first = n }) (first.ensures ∙ ap (λ (n : ℕ). releases_before 0 told.0.0 n * told.0.0 - n) lead.ensures.value) in
+    record { area_after = rw told.1 (ap (λ (xs : List ℕ). placed_in (take (4 * (c.before.before.before.before.before.before.before.before.before.before.args.found + 1)) xs)) c.put.ensures ∙ placed-more c.before.before.before.before.before.before.before.before.before.before.args.area.now c.before.before.before.before.before.before.before.before.before.before.args.found c.before.before.before.before.before.before.before.before.before.before.requires.1.1 c.before.before.before.before.before.before.before.before.before.before.requires.1.0 x 0 ∙ ap {B = List Placed} (λ (y : Placed). placed_in (take (4 * c.before.before.before.before.before.before.before.before.before.before.args.found) c.before.before.before.before.before.before.before.before.before.before.args.area.now) ++ (y ∷ [])) is); few = omega (arith, c.before.before.before.before.before.before.before.before.before.before.requires.1.0) }

@@ -1,0 +1,13 @@
+-- The invariant has the frames that are placed, and those to come from the rows that are left.
+use Rattle.std.proofs.Common.{◌≡◌, ◌-◌, ◌<◌, length, sym, ap, ◌∙◌, ⊎_elim, arith, rules}
+use Rattle.workload.specs.Prepared.{Fine, table_of}
+use Rattle.workload.specs.Placed.{Placed, placed_frame}
+use Rattle.workload.specs.Laws.Prepared.{length-table}
+use Rattle.workload.specs.Laws.Placed.{PlacedTo, place_none, place-put, place-skip, place-all}
+use Rattle.workload.proofs.placed.place_frames.Given as goal
+
+abbrev pub invariant-loop-i : goal.invariant-loop-i
+invariant-loop-i l = PlacedTo (table_of l.rows l.prepared) l.k l.search l.choices l.area l.found l.i × (l.all ≡ length (table_of l.rows l.prepared))
+
+abbrev pub decreases-loop-i : goal.decreases-loop-i
+decreases-loop-i l = l.all - l.i

@@ -1,0 +1,14 @@
+-- The demand from the frame's distance.
+use Rattle.std.proofs.Common.{ℕ, ◌*◌, ap, ◌∙◌, arith, rules}
+use Rattle.arith.specs.Releases.{releases_before}
+use Rattle.bus_model.specs.Bounds.{demand}
+use Rattle.workload.proofs.work.frame_demand.Goals as goal
+
+pub demand_from-requires : goal.demand_from-requires
+demand_from-requires c = (omega (arith, c.requires.fine.length_high), c.requires.fine.period-low, c.requires.fine.period-high, c.requires.n_bound)
+
+pub returns : goal.returns
+unfolding demand
+returns c =
+    let a = c.args in
+    record { value = c.demand_from.ensures.value ∙ ap (λ (d : ℕ). a.g.length * releases_before d a.g.period a.n) c.distance_from-d.ensures.value; small = omega (arith, c.demand_from.ensures.small, c.requires.fine.length_high) }

@@ -1,0 +1,19 @@
+use Rattle.std.proofs.Common.{ℕ, ◌-◌, length, ap, ◌∙◌, rules}
+use Rattle.bus_model.specs.declared.Frame.{Frame}
+use Rattle.bus_model.specs.Bounds.{demand, work_at}
+use Rattle.workload.specs.Prepared.{table_of}
+use Rattle.workload.specs.Laws.Fine.{SumTo, sum-none, sum-next, sum-all}
+use Rattle.workload.proofs.work.work_in.Goals as goal
+
+pub loop-i-init : goal.loop-i-init
+loop-i-init c = sum-none
+
+pub loop-i-preserved : goal.loop-i-preserved
+loop-i-preserved c =
+    let a = c.before.before.before.before.before.before.before.args in
+    let f : Frame → ℕ = λ g. demand g a.a a.n in
+    sum-next c.before.before.before.loop.invariant c.before.before.loop-test.true (c.frame_demand-sum.ensures.value ∙ ap f c.before.listed-row.ensures.0) c.frame_demand-sum.ensures.small
+
+pub returns : goal.returns
+unfolding work_at
+returns c = let answer = sum-all c.loop-i.invariant c.loop-i-test.false c.requires.fine_part.few in record { value = answer.0; small = answer.1 }

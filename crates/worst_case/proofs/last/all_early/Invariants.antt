@@ -1,0 +1,17 @@
+-- The loop finds no late offset before the row at which it stands.
+use Prim.Native.Nat.{◌/◌, ◌-◌, ◌≤◌}
+use mathlib.Core.Path.{◌≡◌, refl}
+use native.Mathlib.Omega.{arith}
+use borrow.Author.Rules.{rules}
+use lib.ListN.{length}
+use Rattle.table_checks.specs.Columns.{columns}
+use Rattle.table_checks.specs.Frames.{frames_of}
+use Rattle.table_checks.specs.Laws.Accepted.{length-frames}
+use Rattle.worst_case.specs.Laws.Last.{EarlyTo, late-found, early-next, early-end}
+use Rattle.worst_case.proofs.last.all_early.Given as goal
+
+abbrev pub invariant-loop-i : goal.invariant-loop-i
+invariant-loop-i l = (l.lines ≡ length l.rows / columns) × (l.i ≤ l.lines) × EarlyTo (frames_of l.lengths l.rows) l.i
+
+abbrev pub decreases-loop-i : goal.decreases-loop-i
+decreases-loop-i l = l.lines - l.i

@@ -1,0 +1,8 @@
+-- The alignments give the starts, and that of the own group with the number the instance.
+use borrow.Author.Rules.{rules}
+use Rattle.worst_case.specs.Steps.{case_shown}
+use Rattle.worst_case.proofs.row.show.Goals as goal
+
+pub returns : goal.returns
+unfolding case_shown
+returns c = rw (c.starts_of-starts.ensures, c.instance_from-instance.ensures, c.alignment_of-own.ensures)

@@ -1,0 +1,15 @@
+-- The loop writes one start after the other.
+use Prim.Native.Nat.{◌-◌, ◌≤◌}
+use mathlib.Core.Path.{◌≡◌, refl}
+use native.Mathlib.Omega.{arith}
+use borrow.Author.Rules.{rules}
+use lib.ListN.{length}
+use Rattle.bus_model.specs.Theory.Reached.{alignment-before}
+use Rattle.worst_case.specs.Laws.Starts.{StartsTo, starts_none, starts-next, starts-all}
+use Rattle.worst_case.proofs.starts.starts_of.Given as goal
+
+abbrev pub invariant-loop-i : goal.invariant-loop-i
+invariant-loop-i l = StartsTo l.alignments l.i l.starts × (l.i ≤ 16)
+
+abbrev pub decreases-loop-i : goal.decreases-loop-i
+decreases-loop-i l = 16 - l.i

@@ -1,0 +1,15 @@
+-- The last row, judged, with its worst case.
+use borrow.Author.Rules.{rules}
+use Rattle.workload.specs.Laws.Groups.{fine-never}
+use Rattle.worst_case.specs.Answer.{judged_last}
+use Rattle.worst_case.proofs.worst_of_rows.Goals as goal
+
+pub judge_row-requires : goal.judge_row-requires
+judge_row-requires c = let answer = (c.requires, (c.last_row-i.ensures.listed, fine-never)) in record { loadable = answer.0; i_in_bounds = answer.1; fine_faults = answer.2 }
+
+pub worst_row-requires : goal.worst_row-requires
+worst_row-requires c = record { loadable = c.requires; i_in_bounds = c.last_row-i.ensures.listed }
+
+pub returns : goal.returns
+unfolding judged_last
+returns c = rw (c.judge_row.ensures, c.worst_row.ensures, c.last_row-i.ensures.value)

@@ -1,0 +1,25 @@
+-- The line is written where it has room, and else the area is left.
+use mathlib.Core.Path.{refl}
+use native.Mathlib.Omega.{arith}
+use borrow.Author.Rules.{rules}
+use lib.ListN.{length-take, length-drop}
+use Rattle.table_checks.specs.declared.Checked.TheVariants.{Passed}
+use Rattle.workload.specs.Laws.Groups.{fine-never}
+use Rattle.frame_table.specs.Laws.Areas.{area-short, area-written}
+use Rattle.bus_model.specs.declared.Faults.TheVariants.{Never}
+use Rattle.certifier.specs.Listing.{line_of}
+use Rattle.worst_command.specs.Laws.Text.{length-alone, alone-written}
+use Rattle.worst_command.proofs.write_line.Goals as goal
+
+pub returns-then-out-lt-LINE : goal.returns-then-out-lt-LINE
+returns-then-out-lt-LINE c =
+    let a = c.args in
+    let answer = area-short Passed (line_of Never a.lengths a.rows.now a.i) a.out.now _ _ (length-alone a.lengths a.rows.now a.i) refl c.if-out-lt-LINE.true c.no_room.ensures in record { value = answer.0; out_after = answer.1 }
+
+pub write_row-requires : goal.write_row-requires
+write_row-requires c = let p = c.requires in let answer = (p.loadable, (fine-never, (p.i_in_bounds, simp (length-take, length-drop) (omega (arith, c.if-out-lt-LINE.false))))) in record { loadable = answer.0; fine_faults = answer.1; i_in_bounds = answer.2 }
+
+pub returns : goal.returns
+returns c =
+    let a = c.args in
+    let answer = area-written Passed (line_of Never a.lengths a.rows.now a.i) a.out.now _ _ (length-alone a.lengths a.rows.now a.i) refl c.if-out-lt-LINE.false (alone-written a.lengths a.rows.now a.i a.out.now _ c.write_row.ensures) in record { value = answer.0; out_after = answer.1 }
