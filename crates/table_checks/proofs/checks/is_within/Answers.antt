@@ -33,5 +33,5 @@ returns-in-7 c = rw c.in-7.is c.is_between-in-7.ensures
 pub returns-in_default : goal.returns-in_default
 returns-in_default c =
     let j = c.args.j in
-    let none : ¬ (j < columns) = λ l. each_below (λ k. j ≡ k → ⊥) columns c.in_default.rest j l refl in
+    let none : ¬ (j < columns) = λ l. each_below (λ k. j ≡ k → ⊥) columns c.in_default.in_default-own.rest j l refl in
     sym (get_or-eq_default (limits c.args.before c.args.v) false {n = j} (omega arith))
