@@ -57,6 +57,25 @@ def arguments(s):
     return out
 
 
+def named(fields, rest):
+    """rest, whose first numbers lead to one of nested pairs' parts, with the part's name."""
+    k = 0
+    while k < len(fields) - 1 and k < len(rest) and rest[k] == "1":
+        k += 1
+    if k == len(fields) - 1:
+        return [fields[k]] + rest[k:]
+    if rest[k:k + 1] == ["0"]:
+        return [fields[k]] + rest[k + 1:]
+    return rest
+
+
+def tupled(text, fields):
+    """A record of clauses as the nested pairs that it was."""
+    if len(fields) == 1:
+        return f"{text}.{fields[0]}"
+    return f"({text}.{fields[0]}, {tupled(text, fields[1:])})"
+
+
 class Function:
     def __init__(self, data):
         self.d = data
@@ -66,13 +85,13 @@ class Function:
         self.index = {norm(n): i for i, n in enumerate(self.names)}
         self.parent = [self.index[norm(p[1])] if p[1] else None for p in self.places]
         self.needs = data["needs"]
-        self.goal, self.cited = None, set()
+        self.goal, self.takes = None, {}
 
     def place(self, name):
         return self.index.get(norm(name))
 
     def up(self, i, n):
-        while n and i is not None:
+        while n and i is not None and self.parent[i] is not None:
             i = self.parent[i]
             n -= 1
         return i
@@ -84,24 +103,26 @@ class Function:
 
     def requires(self, rest):
         f = (self.d["pre"] or {}).get("fields") or []
-        if len(f) > 1 and rest and rest[0].isdigit():
-            k = int(rest[0]) - self.d["pre"]["before"]
-            if 0 <= k < len(f):
-                return [f[k]] + rest[1:]
-        return rest
+        return named(f, rest) if len(f) > 1 else rest
+
+    def clauses(self, q):
+        c = self.d["clauses"][q]
+        return c["fields"] if c and len(c["fields"]) > 1 else []
 
     def ensures(self, q, rest):
-        c = self.d["clauses"][q]
-        if c and len(c["fields"]) > 1 and rest[:1] == ["ensures"] and len(rest) > 1 and rest[1].isdigit() and int(rest[1]) < len(c["fields"]):
-            return ["ensures", c["fields"][int(rest[1])]] + rest[2:]
+        if rest[:1] == ["ensures"] and self.clauses(q):
+            return ["ensures"] + named(self.clauses(q), rest[1:])
         return rest
 
     def after(self, q, rest):
         """The new value of a callee's parameter, by its name."""
         callee = self.d["params"].get(self.places[q][3] or "")
-        if callee and rest[:1] == ["new"] and len(rest) > 1 and rest[1].isdigit() and int(rest[1]) < len(callee):
-            more = rest[2:]
-            return ["new", callee[int(rest[1])]] + (more[1:] if more[:1] == ["0"] else more)
+        if callee and rest[:1] and rest[0] in ("new", "auto", "last", "kept") and rest[1:2] and rest[1] in "01":
+            k = 1
+            while rest[k:k + 1] == ["1"]:
+                k += 1
+            if rest[k:k + 1] == ["0"] and k - 1 < len(callee):
+                return [{"last": "new", "kept": "auto"}.get(rest[0], rest[0]), callee[k - 1]] + rest[k + 1:]
         return rest
 
     def arm(self, at, step, rest):
@@ -118,37 +139,60 @@ class Function:
                 return best[1]
         return None
 
-    def cite(self, var, at, ups, fields):
-        """The text of var.before..before.fields, var at a place."""
+    def cite(self, var, at, ups, fields, lemma=None):
+        """The text of var.before..before.fields, var at a place; with no fields, the record that a lemma takes."""
         q = self.up(at, ups)
+        if not fields and lemma in self.takes and self.takes[lemma] in list(self.chain(at)):
+            q = self.takes[lemma]
+            ups = list(self.chain(at)).index(q)
+            plain = var + ".before" * ups
+            if not ups:
+                return plain
         plain = var + ".before" * ups + "".join("." + f for f in fields)
         if self.goal and var == self.goal[1] and not fields and ups and q is not None:
-            self.cited.add(self.new_names[q])
-            return f"(goal.at.{self.goal[0]} {var}).{self.new_names[q]}"
+            at_goal = f"(goal.at.{self.goal[0]} {var})"
+            if self.new_names[q].startswith("At-loop"):
+                return f"{at_goal}.{self.new_names[self.up(at, ups - 1)]}.before"
+            return f"{at_goal}.{self.new_names[q]}"
+        if q is None and fields and fields[0] in ("args", "requires", "ranges"):
+            return self.cite(var, at, len(list(self.chain(at))) - 1, fields)
+        if q is None and fields:
+            q = at
         if q is None or not fields:
             return plain
         f, rest = fields[0], list(fields[1:])
         if self.places[q][1] is None:
             if f == "requires":
                 rest = self.requires(rest)
+                f2 = (self.d["pre"] or {}).get("fields") or []
+                if not rest and len(f2) > 1:
+                    return tupled(var + ".requires", f2)
             for old, new in self.d["args"]:
                 o = (old.replace(" ", "").split(".")[1:], new.replace(" ", "").split(".")[1:])
                 if [f] + rest[: len(o[0]) - 1] == o[0]:
                     return var + "." + ".".join(o[1] + rest[len(o[0]) - 1:])
             return var + "." + ".".join([f] + rest)
+        if norm(f) != norm(self.places[q][2][0]):
+            # other steps stood between: the nearest of that name
+            near = [(abs(k - ups), x) for k, x in enumerate(self.chain(at)) if norm(self.places[x][2][0]) == norm(f) and self.places[x][1] is not None]
+            if f in ("args", "requires", "ranges"):
+                return self.cite(var, at, len(list(self.chain(at))) - 1, fields)
+            if not near:
+                return plain
+            q = min(near)[1]
         old, new = self.places[q][2]
-        if norm(f) != norm(old):
-            return plain
         arm = self.arm(at, f, rest)
         if arm:
             return var + "." + ".".join(arm)
         rest = self.after(q, self.ensures(q, rest))
+        if rest == ["ensures"] and self.clauses(q):
+            return tupled(var + "." + new + ".ensures", self.clauses(q))
         rest = [{"taken": "true", "left": "false", "came": "branch", "inv": "invariant"}.get(r, r) for r in rest]
         return var + "." + ".".join([new] + rest)
 
     def convert(self, text, env):
         env = dict(env)
-        steps, alias = {}, {}
+        steps, alias, given, parts = {}, {}, {}, {}
         out, i = "", 0
         # let x = v.before.before in: another name of a place; of a step
         pattern = re.compile(r"(?<![\w.'\-₀])(%s)((?:\.before)*)((?:\.[\w'\-₀]+)*)" % IDENT)
@@ -172,19 +216,39 @@ class Function:
                     if out.endswith("    ") and text[i - 1] == " " and "\n" in text[m.end():i]:
                         out = out.rstrip(" ") + " " * (i - text.rindex("\n", 0, i) - 1)
                     continue
-                elif whole and len(fields) == 1 and self.up(env[v], ups) is not None:
+                elif whole and len(fields) == 2 and fields[1] == "given":
+                    given[let.group(1)] = (*alias.get(v, (v, 0)), ups, fields)
+                    out = out[: let.start()]
+                    i = m.end() + re.match(r"\s+in\b\s*", text[m.end():]).end()
+                    continue
+                elif whole and fields and fields[-1] == "ensures" and len(fields) == 2:
+                    root, more = alias.get(v, (v, 0))
+                    cited = self.cite(root, env[root], more + ups, [fields[0], "ensures", "0"])
+                    parts[let.group(1)] = next((self.clauses(x) for x in self.chain(env[root]) if norm(self.places[x][2][0]) == norm(fields[0]) and self.clauses(x)), [])
+                    out += re.sub(r"\.ensures\..*$", ".ensures", cited)
+                    i = m.end()
+                    continue
+                elif whole and len(fields) == 1 and self.up(env[v], ups) is not None and fields != ["requires"]:
                     steps[let.group(1)] = (v, ups, fields[0])
                 root, more = alias.get(v, (v, 0))
-                out += self.cite(root, env[root], more + ups, fields)
+                word = re.search(r"(%s)\s+\(?$" % IDENT, out)
+                out += self.cite(root, env[root], more + ups, fields, word and word.group(1))
+            elif v in given and fields:
+                root, more, n, first = given[v]
+                out += self.cite(root, env[root], more + n, first + fields)
+            elif v in parts and parts[v]:
+                out += ".".join([v] + named(parts[v], fields)) if fields else tupled(v, parts[v])
             elif v in steps and fields:
                 w, n, f = steps[v]
                 root, more = alias.get(w, (w, 0))
                 w, n = root, more + n
                 q = self.up(env[w], n)
-                if f == "requires" and self.places[q][1] is None:
-                    out += ".".join([v] + self.requires(fields))
-                elif fields[0] in ("ensures",):
+                if fields == ["ensures"] and self.clauses(q):
+                    out += tupled(v + ".ensures", self.clauses(q))
+                elif fields[0] == "ensures":
                     out += ".".join([v] + self.ensures(q, fields))
+                elif fields[0] in ("new", "auto", "last", "kept"):
+                    out += ".".join([v] + self.after(q, fields))
                 elif self.arm(env[w], f, fields):
                     out += w + "." + ".".join(self.arm(env[w], f, fields))
                 elif f == "args":
@@ -268,11 +332,13 @@ def tail_record(body, fields):
             if depth == 0:
                 closes.append(k)
         items = [x.strip() for x in split_top(t[1:-1], ",") if x.strip()]
+        while closes[:1] == [len(t) - 1] and 1 < len(items) < len(fields) and items[-1].startswith("(") and items[-1].endswith(")"):
+            items[-1:] = [x.strip() for x in split_top(items[-1][1:-1], ",") if x.strip()]
         if closes[:1] == [len(t) - 1] and len(items) == len(fields):
             return lead + "record { " + "; ".join(f"{f} = {x}" for f, x in zip(fields, items)) + " }" + pad
     if re.match(r"(omega|search|grind|rw|simp|cc|elim|let|λ|absurd)\b", t):
         return None
-    return lead + "let answer = " + t + " in record { " + "; ".join(f"{f} = answer.{k}" for k, f in enumerate(fields)) + " }" + pad
+    return lead + "let answer = " + t + " in record { " + "; ".join(f"{f} = answer{'.1' * k}{'' if k == len(fields) - 1 else '.0'}" for k, f in enumerate(fields)) + " }" + pad
 
 
 def turn(folder, path, data):
@@ -342,6 +408,10 @@ def turn(folder, path, data):
         text = "\n".join(comment + [f"pub {new} : goal.{new}"] + unfolding + [f"{new} {var} ={nl}{rest.lstrip()}{where}"])
         out.append(text)
 
+    for d in decls:
+        m = d.head and re.match(r"\(%s : tie\.([A-Za-z0-9_\-]+)" % IDENT, d.type)
+        if m and fn.place(m.group(1)) is not None:
+            fn.takes[d.head[1]] = fn.place(m.group(1))
     for d in decls:
         if d is last:
             continue

@@ -14,7 +14,7 @@ use Rattle.alignment_walk.proofs.begin.Goals as goal
 use Rattle.alignment_walk.proofs.begin.Goals.{After-listed_row-r, After-quotient-times, In-loop-i}
 
 pub loop-i-init : goal.loop-i-init
-loop-i-init c = let p = c.requires.n_bound.1 in (sum-none, notes-none p.0, note-none p.1)
+loop-i-init c = let p = c.requires.notes_len in (sum-none, notes-none p.0, note-none p.1)
 
 -- the row is one of 64
 few : (c : In-loop-i) → c.loop-i.i + 1 ≤ 64
@@ -26,38 +26,38 @@ inside c = rw c.quotient-times.ensures (div-mul-le_self _ _)
 
 -- and their demand is small
 small : (c : After-quotient-times) → c.listed_row-r.result.frame.length * c.quotient-times.result ≤ 400000400
-small c = rw c.quotient-times.ensures (whole-small c.listed_row-r.ensures.listed.1 c.args.n c.requires.n_bound.0.0)
+small c = rw c.quotient-times.ensures (whole-small c.listed_row-r.ensures.fine c.args.n c.requires.n_bound.0)
 
 pub overflow_mul-notes : goal.overflow_mul-notes
-overflow_mul-notes c = omega (arith, inside (goal.at.overflow_mul-notes c).After-way_told-1)
+overflow_mul-notes c = omega (arith, inside (goal.at.overflow_mul-notes c).After-quotient-times)
 
 pub overflow_sub-notes : goal.overflow_sub-notes
-overflow_sub-notes c = omega (arith, inside (goal.at.overflow_sub-notes c).After-way_told-1)
+overflow_sub-notes c = omega (arith, inside (goal.at.overflow_sub-notes c).After-quotient-times)
 
 -- the first alignment is not after its first release
 first-inside : (c : After-listed_row-r) → c.args.first ≤ phase c.listed_row-r.result.frame
-first-inside c = c.requires.n_bound.0.1 _ c.listed_row-r.ensures.listed.0
+first-inside c = c.requires.n_bound.1 _ c.listed_row-r.ensures.listed
 
 pub overflow_sub-waits : goal.overflow_sub-waits
-overflow_sub-waits c = rw c.phase_of.ensures.value (first-inside (goal.at.overflow_sub-waits c).After-g-1)
+overflow_sub-waits c = rw c.phase_of.ensures.value (first-inside (goal.at.overflow_sub-waits c).After-listed_row-r)
 
 pub overflow_mul-whole : goal.overflow_mul-whole
-overflow_mul-whole c = omega (arith, small (goal.at.overflow_mul-whole c).After-struct_known-1)
+overflow_mul-whole c = omega (arith, small (goal.at.overflow_mul-whole c).After-quotient-times)
 
 pub overflow_add-whole : goal.overflow_add-whole
-overflow_add-whole c = omega (arith, small (goal.at.overflow_add-whole c).After-struct_known-1, c.before.before.before.before.before.before.before.loop.invariant.0.small, few (goal.at.overflow_add-whole c).After-g-1)
+overflow_add-whole c = omega (arith, small (goal.at.overflow_add-whole c).After-quotient-times, c.loop-i.invariant.0.small, few (goal.at.overflow_add-whole c).In-loop-i)
 
 pub loop-i-preserved : goal.loop-i-preserved
 loop-i-preserved c =
-    let l = c.before.before.before.before.before.before.before.loop in
-    let a = c.before.before.before.before.before.before.before.before.before.before.before.args in
-    let g = c.before.before.before.before.before.listed-row.result.frame in
-    let read = c.before.before.before.before.before.listed-row.ensures.0 in
-    let times = c.before.before.before.quotient.ensures in
-    let room = few (goal.at.loop-i-preserved c).After-g-1 in (
-      sum-next l.invariant.0 c.before.before.before.before.before.before.loop-test.true (ap (λ (x : ℕ). g.length * x) times ∙ ap (whole_demand a.n) read) (small (goal.at.loop-i-preserved c).After-struct_known-1),
+    let l = c.loop-i in
+    let a = c.args in
+    let g = c.listed_row-r.result.frame in
+    let read = c.listed_row-r.ensures.frame_value in
+    let times = c.quotient-times.ensures in
+    let room = few (goal.at.loop-i-preserved c).In-loop-i in (
+      sum-next l.invariant.0 c.loop-i-test.true (ap (λ (x : ℕ). g.length * x) times ∙ ap (whole_demand a.n) read) (small (goal.at.loop-i-preserved c).After-quotient-times),
       notes-more l.invariant.1 (omega arith) read (ap (λ (x : ℕ). a.n - x * g.period) times ∙ sym (mod-eq-sub-div-mul a.n g.period)),
-      note-more _ l.invariant.2 (omega arith) (ap (λ (x : ℕ). x - a.first) c.before.phase-of.ensures.0 ∙ wait-first c.before.before.before.before.before.listed-row.ensures.1.1 a.first (first-inside (goal.at.loop-i-preserved c).After-quotient-times) ∙ ap (wait_from a.first a.first) read),
+      note-more _ l.invariant.2 (omega arith) (ap (λ (x : ℕ). x - a.first) c.phase_of.ensures.value ∙ wait-first c.listed_row-r.ensures.fine a.first (first-inside (goal.at.loop-i-preserved c).After-listed_row-r) ∙ ap (wait_from a.first a.first) read),
     )
 
 pub returns : goal.returns
@@ -65,4 +65,4 @@ returns c =
     let l = c.loop-i in
     let over = c.loop-i-test.false in
     let all = sum-all l.invariant.0 over c.requires.fine_part.few in
-    let answer = (all.0, (all.1, (notes-all l.invariant.1 over, note-all l.invariant.2 over))) in record { value = answer.0; small = answer.1; notes = answer.2; waits = answer.3 }
+    record { value = all.0; small = all.1; notes = notes-all l.invariant.1 over; waits = note-all l.invariant.2 over }

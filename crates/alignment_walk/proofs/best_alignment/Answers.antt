@@ -27,25 +27,24 @@ unfolding greatest or_empty
 returns-in_default c =
     let a = c.args in
     let empty = rw sub-zero at (keep-end (is_instant (frames_in (table_of a.rows.now a.prepared.now) a.part.now)) a.end 0 (sym c.next_alignment-found.ensures ∙ c.in_default.is)) in
-    let answer = (rw empty (here refl), (rw empty, (sym (ap length (visits-are _ a.end ∙ empty)), (omega arith, omega arith)))) in record { among = answer.0; work_value = answer.1; count = answer.2; small = answer.3 }
+    record { among = rw empty (here refl); work_value = rw empty; count = sym (ap length (visits-are _ a.end ∙ empty)); small = (omega arith, omega arith) }
 
 pub begin-whole-requires : goal.begin-whole-requires
 begin-whole-requires c =
-    let answer = (c.requires.fine_part, ((c.requires.end_bound.1, phase-late c.requires.fine_part c.args.end (sym c.next_alignment-found.ensures ∙ c.in-At.is)), (refl, refl))) in record { fine_part = answer.0; n_bound = answer.1; notes_len = answer.2 }
+    record { fine_part = c.requires.fine_part; n_bound = (c.requires.end_bound.1, phase-late c.requires.fine_part c.args.end (sym c.next_alignment-found.ensures ∙ c.in-At.is)); notes_len = (refl, refl) }
 
 pub loop-work-init : goal.loop-work-init
 loop-work-init c =
-    let found = c.found-1.given in
     let is = c.next_alignment-found.ensures in
     let e = c.args.end in
-    let (low, high, t) = least-within _ _ (sym is ∙ found.1) in
-    let from = rw sub-zero at (keep-next _ e 0 _ (sym is ∙ found.1)) in (
+    let (low, high, t) = least-within _ _ (sym is ∙ c.in-At.is) in
+    let from = rw sub-zero at (keep-next _ e 0 _ (sym is ∙ c.in-At.is)) in (
       walk_start _ _ _ _ _ _ high from (zero-max _),
-      keep-found _ _ 0 is found.1,
+      keep-found _ _ 0 is c.in-At.is,
       omega arith,
-      keep-found _ _ 0 is found.1,
+      keep-found _ _ 0 is c.in-At.is,
       omega arith,
-      rw sub-zero c.begin-whole.ensures.small.1.1,
+      rw sub-zero c.begin-whole.ensures.waits,
       walk_start _ _ _ _ _ _ high from (zero-add _),
       omega arith,
     )
@@ -54,7 +53,7 @@ pub visit-v-requires : goal.visit-v-requires
 visit-v-requires c =
     let l = c.loop-work in
     let b = c.begin-whole.ensures in
-    let answer = (c.requires.fine_part, ((l.invariant.4, l.invariant.0.inside, c.requires.end_bound.0), (b.1.1.0, l.invariant.5))) in record { fine_part = answer.0; gap_le_a = answer.1; notes = answer.2; noted = answer.3 }
+    record { fine_part = c.requires.fine_part; gap_le_a = (l.invariant.4, l.invariant.0.inside, c.requires.end_bound.0); notes = b.notes; noted = l.invariant.5 }
 
 -- the visit's work
 visits : (c : After-visit-v)
@@ -63,7 +62,7 @@ visits : (c : After-visit-v)
 visits c =
     let gs = frames_in (table_of c.args.rows.now c.args.prepared.now) c.args.part.now in (
       ap (λ (x : ℕ). c.begin-whole.result + x) c.visit-v.ensures.extra_value ∙ ap (λ (x : ℕ). x + sum (extra_demand c.loop-work.a c.args.n) gs) c.begin-whole.ensures.value ∙ work-split gs c.requires.fine_part.fine c.loop-work.a c.args.n,
-      omega (arith, c.begin-whole.ensures.small.0, c.visit-v.ensures.next.1.0.0),
+      omega (arith, c.begin-whole.ensures.small, c.visit-v.ensures.small.0),
     )
 
 -- the greater work is kept
@@ -85,32 +84,32 @@ among c =
     ⊎_elim (λ t. rw t.1 l.invariant.1) (λ t. rw t.1 l.invariant.3) c.if-work-visited.branch
 
 pub overflow_add-visited : goal.overflow_add-visited
-overflow_add-visited c = omega (arith, c.begin-whole.ensures.small.0, c.visit-v.ensures.next.1.0.0)
+overflow_add-visited c = omega (arith, c.begin-whole.ensures.small, c.visit-v.ensures.small.0)
 
 pub overflow_add-count : goal.overflow_add-count
 overflow_add-count c = omega (arith, c.loop-work.invariant.7, c.loop-work.invariant.0.inside, c.requires.end_bound.0)
 
 pub overflow_add-a : goal.overflow_add-a
-overflow_add-a c = omega (arith, c.visit-v.ensures.next.1.0.1, c.loop-work.invariant.0.inside, c.requires.end_bound.0)
+overflow_add-a c = omega (arith, c.visit-v.ensures.small.1, c.loop-work.invariant.0.inside, c.requires.end_bound.0)
 
 pub returns-then-end-a : goal.returns-then-end-a
 unfolding greatest
 returns-then-end-a c =
     let v = c.visit-v.ensures in
     let l = c.loop-work in
-    let none = ended-none _ _ _ v.1.0 c.if-end-a.true in
+    let none = ended-none _ _ _ v.next c.if-end-a.true in
     let most = sym (max-zero _) ∙ walk_end _ _ _ _ _ l.invariant.0 (step (goal.at.returns-then-end-a c).Joined-work-visited) none in
     let all = sym (add-zero _) ∙ walk_end _ _ _ _ _ l.invariant.6 (length_more l.count l.a) none in
-    let answer = (or-empty (among (goal.at.returns-then-end-a c).Joined-work-visited), (most, (all ∙ ap length (sym (visits-are _ _)), (omega (arith, l.invariant.2, greater (goal.at.returns-then-end-a c).Joined-work-visited, (visits (goal.at.returns-then-end-a c).After-visit-v).1), omega (arith, l.invariant.7, l.invariant.0.inside, c.requires.end_bound.0))))) in record { among = answer.0; work_value = answer.1; count = answer.2; small = answer.3 }
+    record { among = or-empty (among (goal.at.returns-then-end-a c).Joined-work-visited); work_value = most; count = all ∙ ap length (sym (visits-are _ _)); small = (omega (arith, l.invariant.2, greater (goal.at.returns-then-end-a c).Joined-work-visited, (visits (goal.at.returns-then-end-a c).After-visit-v).1), omega (arith, l.invariant.7, l.invariant.0.inside, c.requires.end_bound.0)) }
 
 -- the next alignment
 found : (c : Else-end-a)
     → let l = c.loop-work in
     least (is_instant (frames_in (table_of c.args.rows.now c.args.prepared.now) c.args.part.now)) (c.args.end - (l.a + 1)) (l.a + 1) ≡ At (l.a + c.visit-v.result.gap)
-found c = ended_at _ _ _ c.visit-v.ensures.next.0 c.if-end-a.false
+found c = ended_at _ _ _ c.visit-v.ensures.next c.if-end-a.false
 
 pub overflow_add-a-in-loop-work : goal.overflow_add-a-in-loop-work
-overflow_add-a-in-loop-work c = omega (arith, c.visit-v.ensures.next.1.0.1, c.loop-work.invariant.0.inside, c.requires.end_bound.0)
+overflow_add-a-in-loop-work c = omega (arith, c.visit-v.ensures.small.1, c.loop-work.invariant.0.inside, c.requires.end_bound.0)
 
 pub loop-work-smaller : goal.loop-work-smaller
 loop-work-smaller c = walk-less _ _ _ _ _ c.loop-work.invariant.0 (found (goal.at.loop-work-smaller c).Else-end-a)
@@ -125,7 +124,7 @@ loop-work-preserved c =
       omega (arith, l.invariant.2, greater (goal.at.loop-work-preserved c).Joined-work-visited, (visits (goal.at.loop-work-preserved c).After-visit-v).1),
       among (goal.at.loop-work-preserved c).Joined-work-visited,
       omega arith,
-      rw (← last) (noted-next c.requires.fine_part (l.a + 1) c.args.end (found (goal.at.loop-work-preserved c).Else-end-a) l.a v.1.1.1),
+      rw (← last) (noted-next c.requires.fine_part (l.a + 1) c.args.end (found (goal.at.loop-work-preserved c).Else-end-a) l.a v.waits),
       walk_more _ _ _ _ _ l.invariant.6 (length_more l.count l.a) (found (goal.at.loop-work-preserved c).Else-end-a),
       omega (arith, l.invariant.7, (least-within _ _ (found (goal.at.loop-work-preserved c).Else-end-a)).0),
     )

@@ -13,8 +13,8 @@ loop-i-init c = first-none (le_refl _)
 
 pub loop-i-preserved : goal.loop-i-preserved
 loop-i-preserved c =
-    let l = c.before.before.before.before.loop in
-    first_next l.invariant c.before.before.before.loop-test.true (c.next_release.ensures ∙ ap (next_release c.before.before.before.before.before.before.before.before.args.after) c.before.before.listed-row.ensures.0) c.lesser-best.ensures
+    let l = c.loop-i in
+    first_next l.invariant c.loop-i-test.true (c.next_release.ensures ∙ ap (next_release c.args.after) c.listed_row-r.ensures.frame_value) c.lesser-best.ensures
 
 pub returns-then-best-end : goal.returns-then-best-end
 returns-then-best-end c = next-is c.requires.fine_part c.loop-i.invariant c.loop-i-test.false c.if-best-end.true

@@ -15,7 +15,7 @@ use Rattle.alignment_walk.proofs.visit.Goals.{After-in_rest-extra, In-loop-i}
 
 pub loop-i-init : goal.loop-i-init
 loop-i-init c =
-    (sum-none, first-none (omega (arith, c.requires.gap_le_a.0)), omega arith, note-none c.requires.gap_le_a.1.1.size, record { each = λ j late l. c.requires.gap_le_a.1.1.each j l })
+    (sum-none, first-none (omega (arith, c.requires.gap_le_a)), omega arith, note-none c.requires.noted.size, record { each = λ j late l. c.requires.noted.each j l })
 
 -- the frame of the row
 abbrev frame : (c : In-loop-i) → Frame
@@ -31,38 +31,38 @@ few c = omega (arith, c.loop-i-test.true, c.requires.fine_part.few)
 
 -- what is noted of it
 notes : (c : In-loop-i) → NotesOf c.args.n (frame c) c.args.notes.now c.loop-i.i
-notes c = c.requires.gap_le_a.1.0.each c.loop-i.i c.loop-i-test.true
+notes c = c.requires.notes.each c.loop-i.i c.loop-i-test.true
 
 -- how long it is waited for, from the last alignment and from this one
 waited : (c : In-loop-i) → let a = c.args in let w = get_or c.loop-i.waits c.loop-i.i 0 in (a.gap ≤ w) × (w - a.gap ≡ wait_from a.a a.a (frame c))
 waited c =
     let is = c.loop-i.invariant.4.each c.loop-i.i (omega arith) c.loop-i-test.true in
     let late = next-late (fine c) c.args.a in
-    (omega (arith, c.requires.gap_le_a.0), omega (arith, c.requires.gap_le_a.0))
+    (omega (arith, c.requires.gap_le_a), omega (arith, c.requires.gap_le_a))
 
 pub overflow_sub-wait : goal.overflow_sub-wait
-overflow_sub-wait c = omega (arith, (waited (goal.at.overflow_sub-wait c).After-way_told-1).0)
+overflow_sub-wait c = omega (arith, (waited (goal.at.overflow_sub-wait c).In-loop-i).0)
 
 -- what the rest asks for
-extra : (c : After-in_rest-extra) → (c.in-default.result ≡ extra_demand c.before.before.before.before.before.before.before.before.before.args.a c.before.before.before.before.before.before.before.before.before.args.n (frame c.before.before.before.before)) × (c.in-default.result ≤ 400)
+extra : (c : After-in_rest-extra) → (c.in-default.result ≡ extra_demand c.args.a c.args.n (frame c.before.before.before.before.before.before)) × (c.in-default.result ≤ 400)
 extra c =
-    let is = rw ((notes c.before.before.before.before).length, (notes c.before.before.before.before).rest) at c.in-default.ensures ∙ wait-rest (fine c.before.before.before.before) c.before.before.before.before.before.before.before.before.before.args.a (waited c.before.before.before.before).1 c.before.before.before.before.before.before.before.before.before.args.n in
-    (is, omega (arith, is, extra-small (fine c.before.before.before.before) c.before.before.before.before.before.before.before.before.before.args.a c.before.before.before.before.before.before.before.before.before.args.n))
+    let is = rw ((notes c.before.before.before.before.before.before).length, (notes c.before.before.before.before.before.before).rest) at c.in-default.ensures ∙ wait-rest (fine c.before.before.before.before.before.before) c.args.a (waited c.before.before.before.before.before.before).1 c.args.n in
+    (is, omega (arith, is, extra-small (fine c.before.before.before.before.before.before) c.args.a c.args.n))
 
 pub overflow_add-extra : goal.overflow_add-extra
-overflow_add-extra c = omega (arith, extra c, c.before.before.before.before.before.loop.invariant.0.small, few (goal.at.overflow_add-extra c).After-wait-1)
+overflow_add-extra c = omega (arith, extra c, c.loop-i.invariant.0.small, few (goal.at.overflow_add-extra c).In-loop-i)
 
 pub loop-i-preserved : goal.loop-i-preserved
 loop-i-preserved c =
-    let l = c.before.before.before.before.before.before.before.before.loop in
-    let less = c.before.before.before.before.before.before.before.loop-test.true in
-    let a = c.before.before.before.before.before.before.before.before.before.before.before.before.args in
+    let l = c.loop-i in
+    let less = c.loop-i-test.true in
+    let a = c.args in
     let asked = extra (goal.at.loop-i-preserved c).After-in_rest-extra in
-    let later = rw (notes (goal.at.loop-i-preserved c).After-wait-1).period at c.wait_after-later.ensures ∙ wait-next (fine (goal.at.loop-i-preserved c).After-wait-1) a.a (waited (goal.at.loop-i-preserved c).After-wait-1).1 in (
+    let later = rw (notes (goal.at.loop-i-preserved c).In-loop-i).period at c.wait_after-later.ensures ∙ wait-next (fine (goal.at.loop-i-preserved c).In-loop-i) a.a (waited (goal.at.loop-i-preserved c).In-loop-i).1 in (
       sum-next l.invariant.0 less asked.0 asked.1,
-      first_next {x = a.a + c.wait_after-later.result} l.invariant.1 less (omega (arith, later, next-late (fine (goal.at.loop-i-preserved c).After-wait-1) (a.a + 1))) (omega (arith, c.lesser-least.ensures)),
+      first_next {x = a.a + c.wait_after-later.result} l.invariant.1 less (omega (arith, later, next-late (fine (goal.at.loop-i-preserved c).In-loop-i) (a.a + 1))) (omega (arith, c.lesser-least.ensures)),
       omega (arith, l.invariant.2, c.lesser-least.ensures),
-      note-more _ l.invariant.3 (omega (arith, few (goal.at.loop-i-preserved c).After-wait-1)) later,
+      note-more _ l.invariant.3 (omega (arith, few (goal.at.loop-i-preserved c).In-loop-i)) later,
       note-left _ l.invariant.4,
     )
 
@@ -71,4 +71,4 @@ returns c =
     let l = c.loop-i in
     let over = c.loop-i-test.false in
     let all = sum-all l.invariant.0 over c.requires.fine_part.few in
-    let answer = (all.0, (next-or-end c.requires.fine_part l.invariant.1 over (omega (arith, l.invariant.2, c.requires.gap_le_a.0)), ((all.1, l.invariant.2), note-all l.invariant.3 over))) in record { extra_value = answer.0; next = answer.1; small = answer.2; waits = answer.3 }
+    record { extra_value = all.0; next = next-or-end c.requires.fine_part l.invariant.1 over (omega (arith, l.invariant.2, c.requires.gap_le_a)); small = (all.1, l.invariant.2); waits = note-all l.invariant.3 over }

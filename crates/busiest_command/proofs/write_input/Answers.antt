@@ -10,4 +10,4 @@ returns-in_default c = rw (← c.read-read.ensures, c.in_default.is) (refl, refl
 pub returns : goal.returns
 returns c =
     let t = c.write_text.ensures in
-    rw (← c.read-read.ensures, c.in-Value.is) (ap Answered t.0, rw t.0 at t.1)
+    rw (← c.read-read.ensures, c.in-Value.is) (ap Answered t.value, rw t.value at t.out_after)

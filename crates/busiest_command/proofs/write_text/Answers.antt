@@ -7,9 +7,9 @@ pub returns-in-Refused : goal.returns-in-Refused
 returns-in-Refused c =
     let refused = c.in-Refused.is in
     let a = c.busiest_input-answer.ensures in
-    let line = text-refused _ _ _ _ _ _ a.0 a.1.1.1 _ refused in
-    let left = rw refused at a.1.0 in
-    rw (← line, ← left, ← c.number.ensures) c.write_refusal_line.ensures
+    let line = text-refused _ _ _ _ _ _ a.value a.in_numbers _ refused in
+    let left = rw refused at a.out_after in
+    rw (← line, ← left, ← c.number.ensures) (c.write_refusal_line.ensures.value, c.write_refusal_line.ensures.out_after)
 
 pub returns-in-Done : goal.returns-in-Done
-returns-in-Done c = let a = c.busiest_input-answer.ensures in let answer = text-done _ _ _ _ _ _ a.0 a.1.1.1 _ _ c.in-Done.is a.1.0 in record { value = answer.0; out_after = answer.1 }
+returns-in-Done c = let a = c.busiest_input-answer.ensures in let answer = text-done _ _ _ _ _ _ a.value a.in_numbers _ _ c.in-Done.is a.out_after in record { value = answer.0; out_after = answer.1 }

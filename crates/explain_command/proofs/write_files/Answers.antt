@@ -13,7 +13,7 @@ pub returns-in-Failed : goal.returns-in-Failed
 unfolding text_for explain_file explain_read
 returns-in-Failed c =
     let e = c.write_refusal.ensures in
-    rw (lengths-refused _ c.args.table.now c.read-loaded.ensures.value c.in-Failed.is, ← c.of_table.ensures, text-turned (field (fields_of c.args.table.now) c.args.row identifier_column) c.of_table.result) (e.0, e.1.0)
+    rw (lengths-refused _ c.args.table.now c.read-loaded.ensures.value c.in-Failed.is, ← c.of_table.ensures, text-turned (field (fields_of c.args.table.now) c.args.row identifier_column) c.of_table.result) (e.value, e.out_after)
 
 -- the lengths of the file
 loaded : (c : After-lengths_of) → ReadLengths c.args.lengths.now c.args.table.now c.lengths_of.result
@@ -23,4 +23,4 @@ pub returns-in-Passed : goal.returns-in-Passed
 unfolding text_for explain_file
 returns-in-Passed c =
     let l = loaded (goal.at.returns-in-Passed c).After-lengths_of in
-    rw (l.passed, ← l.is) c.write_table.ensures
+    rw (l.passed, ← l.is) (c.write_table.ensures.value, c.write_table.ensures.out_after)

@@ -11,7 +11,7 @@ use Rattle.explain_command.proofs.write_table.Goals.{In-Done}
 
 -- what was read is the table
 table : (c : In-Done) → ReadRows c.args.table.now c.read-answer.new.rows c.in-Done.n
-table c = read-rows _ _ _ refl c.read-answer.ensures.value _ _ c.read-answer.ensures.rows_after.0 c.in-Done.is
+table c = read-rows _ _ _ refl c.read-answer.ensures.value _ _ c.read-answer.ensures.rows_after c.in-Done.is
 
 pub slice_bounds-rows-end : goal.slice_bounds-rows-end
 slice_bounds-rows-end c = (table (c)).room
@@ -26,10 +26,10 @@ pub returns-in-Refused : goal.returns-in-Refused
 unfolding explain_read
 returns-in-Refused c =
     let e = c.write_refusal.ensures in
-    rw (read-refused c.args.table.now _ _ refl c.read-answer.ensures.value _ c.in-Refused.is, ← c.of_table.ensures, text-turned (field (fields_of c.args.table.now) c.args.row identifier_column) c.of_table.result) (e.0, e.1.0)
+    rw (read-refused c.args.table.now _ _ refl c.read-answer.ensures.value _ c.in-Refused.is, ← c.of_table.ensures, text-turned (field (fields_of c.args.table.now) c.args.row identifier_column) c.of_table.result) (e.value, e.out_after)
 
 pub returns-in-Done : goal.returns-in-Done
 unfolding explain_read
 returns-in-Done c =
     let t = table (goal.at.returns-in-Done c).In-Done in
-    rw (t.passed, ← t.rows) c.write_row.ensures
+    rw (t.passed, ← t.rows) (c.write_row.ensures.value, c.write_row.ensures.out_after)

@@ -9,4 +9,4 @@ returns-in-Written c = rw c.in-Written.is (refl, refl)
 pub returns-in-NotListed : goal.returns-in-NotListed
 returns-in-NotListed c =
     let e = c.write_refusal.ensures in
-    rw c.in-NotListed.is (e.0, rw e.0 at e.1.0)
+    rw c.in-NotListed.is (e.value, rw e.value at e.out_after)

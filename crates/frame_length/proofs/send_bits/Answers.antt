@@ -23,10 +23,10 @@ pub loop-j-preserved : goal.loop-j-preserved
 loop-j-preserved c =
     let l = c.loop-j in
     let sent = c.send_bit-s.ensures in (
-      turn l.s _ l.j _ c.loop-j-test.true (sent.0 ∙ ap (send_bit l.s) c.bit_of.ensures) ∙ l.invariant.0,
+      turn l.s _ l.j _ c.loop-j-test.true (sent.value ∙ ap (send_bit l.s) c.bit_of.ensures) ∙ l.invariant.0,
       omega arith,
-      sent.1.0,
-      omega (arith, sent.1),
+      sent.within.0,
+      omega (arith, sent.within),
     )
 
 pub returns : goal.returns

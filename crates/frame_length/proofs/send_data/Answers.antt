@@ -25,10 +25,10 @@ pub loop-i-preserved : goal.loop-i-preserved
 loop-i-preserved c =
     let l = c.loop-i in
     let sent = c.send_bits-s.ensures in (
-      turn _ l.i l.s _ c.loop-i-test.true (rw c.wide.ensures at sent.0) ∙ l.invariant.0,
+      turn _ l.i l.s _ c.loop-i-test.true (rw c.wide.ensures at sent.value) ∙ l.invariant.0,
       omega arith,
-      sent.1.0,
-      omega (arith, sent.1),
+      sent.within.0,
+      omega (arith, sent.within),
     )
 
 pub returns : goal.returns

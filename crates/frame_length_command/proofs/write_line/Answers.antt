@@ -20,7 +20,7 @@ measure_hex-requires c = payload-digits _ (sym c.is_payload.ensures ∙ c.if-is_
 pub returns-then-is_payload : goal.returns-then-is_payload
 unfolding reply_for is_asked line_for
 returns-then-is_payload c =
-    let both = rw c.measure_hex.ensures at c.write_measured.ensures in
+    let both = rw c.measure_hex.ensures at (c.write_measured.ensures.value, c.write_measured.ensures.out_after) in
     rw (
       ← c.read-first.ensures,
       c.in-Value.is,

@@ -16,7 +16,7 @@ unfolding read_check
 returns-in-Failed c =
     let file : List ℕ = c.args.file.now in
     let answer = answer-told (read_check file) (fields_of file) c.args.rows.now
-    (rw (← c.check_length-sized.ensures.value, c.in-Failed.is), refl) in record { value = answer.0; rows_after = answer.1; in_numbers = answer.2 }
+    (rw (← c.check_length-sized.ensures.value, c.in-Failed.is), refl) in record { value = answer.0; rows_after = answer.1.0; in_numbers = answer.1.1 }
 
 pub returns-in-Passed : goal.returns-in-Passed
 unfolding read_check
@@ -24,4 +24,4 @@ returns-in-Passed c =
     let file : List ℕ = c.args.file.now in
     let lines = c.read_lines.ensures in
     let answer = answer-told (read_check file) (fields_of file) c.args.rows.now
-    (rw (← c.check_length-sized.ensures.value, c.in-Passed.is) lines.0, lines.1) in record { value = answer.0; rows_after = answer.1; in_numbers = answer.2 }
+    (rw (← c.check_length-sized.ensures.value, c.in-Passed.is) lines.value, lines.rows_after) in record { value = answer.0; rows_after = answer.1.0; in_numbers = answer.1.1 }

@@ -57,4 +57,4 @@ pub returns : goal.returns
 unfolding fields_of
 returns c =
     let same = c.read_fields.ensures in
-    let answer = stored _ _ _ _ _ _ same (table-checked c.args.file.now _ c.requires same c.check_fields-checked.ensures.value) c.store.ensures in record { value = answer.0; rows_after = answer.1 }
+    let answer = stored _ _ _ _ _ _ same (table-checked c.args.file.now _ c.requires same c.check_fields-checked.ensures.value) (c.store.ensures.value, c.store.ensures.rows_after) in record { value = answer.0; rows_after = answer.1 }

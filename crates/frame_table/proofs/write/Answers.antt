@@ -16,13 +16,13 @@ passed c = sym c.check-checked.ensures.value ∙ c.in-Passed.is
 
 pub returns-then-file-lines : goal.returns-then-file-lines
 returns-then-file-lines c =
-    let answer = answer-told _ _ _ (area-short _ _ _ _ _ (length-text _) (passed (goal.at.returns-then-file-lines c).In-Passed) c.if-file-lines.true c.no_room.ensures) in record { value = answer.0; file_after = answer.1; in_numbers = answer.2 }
+    let answer = answer-told _ _ _ (area-short _ _ _ _ _ (length-text _) (passed (goal.at.returns-then-file-lines c).In-Passed) c.if-file-lines.true c.no_room.ensures) in record { value = answer.0; file_after = answer.1.0; in_numbers = answer.1.1 }
 
 pub returns-in-Failed : goal.returns-in-Failed
-returns-in-Failed c = let answer = answer-told _ _ _ (area-refused _ _ _ _ _ (sym c.check-checked.ensures.value ∙ c.in-Failed.is) refl) in record { value = answer.0; file_after = answer.1; in_numbers = answer.2 }
+returns-in-Failed c = let answer = answer-told _ _ _ (area-refused _ _ _ _ _ (sym c.check-checked.ensures.value ∙ c.in-Failed.is) refl) in record { value = answer.0; file_after = answer.1.0; in_numbers = answer.1.1 }
 
 pub returns-else-file-lines : goal.returns-else-file-lines
 unfolding text_of
 returns-else-file-lines c =
     let rows = c.args.rows.now in
-    let answer = answer-told _ _ _ (area-written _ _ _ _ _ (length-text rows) (passed (goal.at.returns-else-file-lines c).In-Passed) c.if-file-lines.false c.write_lines.ensures) in record { value = answer.0; file_after = answer.1; in_numbers = answer.2 }
+    let answer = answer-told _ _ _ (area-written _ _ _ _ _ (length-text rows) (passed (goal.at.returns-else-file-lines c).In-Passed) c.if-file-lines.false c.write_lines.ensures) in record { value = answer.0; file_after = answer.1.0; in_numbers = answer.1.1 }

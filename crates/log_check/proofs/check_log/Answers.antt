@@ -13,8 +13,8 @@ pub returns-in-Failed : goal.returns-in-Failed
 unfolding checked_answer
 returns-in-Failed c =
     let answer = told _ _ _ c.check_loaded-checked.ensures.value
-    (rw (c.in-Failed.is, ← c.of_table.ensures) c.refuse.ensures) in record { value = answer.0; says = answer.1; in_numbers = answer.2 }
+    (rw (c.in-Failed.is, ← c.of_table.ensures) c.refuse.ensures) in record { value = answer.0; says = answer.1.0; in_numbers = answer.1.1 }
 
 pub returns-in-Passed : goal.returns-in-Passed
 unfolding checked_answer
-returns-in-Passed c = let answer = told _ _ _ c.check_loaded-checked.ensures.value (rw c.in-Passed.is c.check_text.ensures) in record { value = answer.0; says = answer.1; in_numbers = answer.2 }
+returns-in-Passed c = let answer = told _ _ _ c.check_loaded-checked.ensures.value (rw c.in-Passed.is c.check_text.ensures) in record { value = answer.0; says = answer.1.0; in_numbers = answer.1.1 }

@@ -99,6 +99,7 @@ pub data Place (log : List Line) (w s : ℕ) : Type 0 where
 
 -- A busiest stretch begins at such a place.
 pub busiest-place : (log : List Line) (w s : ℕ) → 1 ≤ w → Busiest log w s → Place log w s
+busiest-place log zero (suc s) some b = elim some [ ]
 busiest-place log w zero some b = origin refl
 busiest-place log (suc w) (suc s) some b =
     by-test (is_busy log s) (λ t. absurd (not-busy t)) (λ f.

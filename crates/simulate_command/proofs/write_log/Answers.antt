@@ -24,4 +24,4 @@ unfolding reply_for text_for
 returns c =
     let both = c.write_simulated.ensures in
     rw (← c.read-first.ensures, c.in-Value.is, ← c.read-second.ensures, c.in-Value-second.is, le-leb _ _ c.if-s-gt-GREATEST_SEED.false)
-    (rw both.0, both.1)
+    (rw both.value, both.out_after)

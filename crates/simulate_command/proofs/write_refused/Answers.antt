@@ -16,4 +16,4 @@ pub returns-in-Refused : goal.returns-in-Refused
 unfolding simulated_returns answer_returns
 returns-in-Refused c =
     rw c.in-Refused.is
-    (line-printed _ _ (number-some _) (rw (← c.number.ensures) c.write_refusal_line.ensures))
+    (line-printed _ _ (number-some _) (rw (← c.number.ensures) (c.write_refusal_line.ensures.value, c.write_refusal_line.ensures.out_after)))

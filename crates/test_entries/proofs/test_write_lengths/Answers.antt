@@ -14,4 +14,4 @@ pub returns : goal.returns
 returns c =
     let both = c.write.ensures in
     rw (← c.array.ensures)
-    (named _ _ both.0 (kept _ c.encode_answer.type-inv ∙ c.encode_answer.ensures) both.1.0)
+    (named _ _ both.value (kept _ c.encode_answer.type-inv ∙ c.encode_answer.ensures) both.file_after)

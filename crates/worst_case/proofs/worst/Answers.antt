@@ -21,8 +21,8 @@ pub returns-in-Failed : goal.returns-in-Failed
 unfolding judge_row judge_checked worst_checked
 returns-in-Failed c =
     let failed = sym c.check_loaded-checked.ensures.value ∙ c.in-Failed.is in
-    let answer = worst-told c.args.lengths c.args.rows.now (worst-refused c.args.lengths c.args.rows.now (rw (failed, c.of_table.ensures)) (rw failed) c.turned_back.ensures) in record { value = answer.0; reached = answer.1; in_numbers = answer.2 }
+    let answer = worst-told c.args.lengths c.args.rows.now (worst-refused c.args.lengths c.args.rows.now (rw (failed, c.of_table.ensures)) (rw failed) c.turned_back.ensures) in record { value = answer.0; reached = answer.1.0; in_numbers = answer.1.1 }
 
 pub returns-in-Passed : goal.returns-in-Passed
 returns-in-Passed c =
-    let answer = worst-told c.args.lengths c.args.rows.now (c.worst_of_rows.ensures ∙ worst-accepted c.args.lengths c.args.rows.now (passed (goal.at.returns-in-Passed c).In-Passed)) in record { value = answer.0; reached = answer.1; in_numbers = answer.2 }
+    let answer = worst-told c.args.lengths c.args.rows.now (c.worst_of_rows.ensures ∙ worst-accepted c.args.lengths c.args.rows.now (passed (goal.at.returns-in-Passed c).In-Passed)) in record { value = answer.0; reached = answer.1.0; in_numbers = answer.1.1 }

@@ -5,7 +5,7 @@ use Rattle.worst_case.specs.Answer.{judged_last}
 use Rattle.worst_case.proofs.worst_of_rows.Goals as goal
 
 pub judge_row-requires : goal.judge_row-requires
-judge_row-requires c = let answer = (c.requires, (c.last_row-i.ensures.listed, fine-never)) in record { loadable = answer.0; i_in_bounds = answer.1; fine_faults = answer.2 }
+judge_row-requires c = record { loadable = c.requires; i_in_bounds = c.last_row-i.ensures.listed; fine_faults = fine-never }
 
 pub worst_row-requires : goal.worst_row-requires
 worst_row-requires c = record { loadable = c.requires; i_in_bounds = c.last_row-i.ensures.listed }

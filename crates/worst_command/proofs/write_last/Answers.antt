@@ -12,4 +12,4 @@ write_with-requires c = record { loadable = c.requires; i_in_bounds = rw (length
 
 pub returns : goal.returns
 unfolding text_of
-returns c = rw (← c.last_row-i.ensures.value, ← c.worst_row.ensures) c.write_with.ensures
+returns c = rw (← c.last_row-i.ensures.value, ← c.worst_row.ensures) (c.write_with.ensures.value, c.write_with.ensures.out_after)

@@ -8,7 +8,7 @@ use Rattle.worst_command.proofs.write_table.Goals.{In-Done}
 
 -- the table of the file
 read : (c : In-Done) → ReadRows c.args.table.now c.read-answer.new.rows c.in-Done.n
-read c = read-rows _ _ _ refl c.read-answer.ensures.value _ _ c.read-answer.ensures.rows_after.0 c.in-Done.is
+read c = read-rows _ _ _ refl c.read-answer.ensures.value _ _ c.read-answer.ensures.rows_after c.in-Done.is
 
 pub slice_bounds-rows-end : goal.slice_bounds-rows-end
 slice_bounds-rows-end c = (read (c)).room
@@ -25,4 +25,4 @@ returns-in-Refused c = let answer = area-refused _ _ _ _ _ (read-refused _ _ _ r
 pub returns-in-Done : goal.returns-in-Done
 returns-in-Done c =
     let table = read (goal.at.returns-in-Done c).In-Done in
-    rw (table.passed, ← table.rows) c.write_last.ensures
+    rw (table.passed, ← table.rows) (c.write_last.ensures.value, c.write_last.ensures.out_after)

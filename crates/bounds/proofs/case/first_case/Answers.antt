@@ -15,7 +15,7 @@ pub loop-i-init : goal.loop-i-init
 loop-i-init c = (leads-start _ _ _ _, shown-free, omega arith, c.requires.ready)
 
 pub first_exceeding-a-requires : goal.first_exceeding-a-requires
-first_exceeding-a-requires c = let answer = (c.loop-i.invariant.3, (c.loop-i.invariant.0, (omega arith, omega (arith, c.loop-i-test.true), c.requires.frame_value))) in record { ready_2 = answer.0; leads_to = answer.1; le_group = answer.2 }
+first_exceeding-a-requires c = record { ready_2 = c.loop-i.invariant.3; leads_to = c.loop-i.invariant.0; le_group = (omega arith, omega (arith, c.loop-i-test.true), c.requires.frame_value) }
 
 pub loop-i-preserved : goal.loop-i-preserved
 loop-i-preserved c =
@@ -34,7 +34,7 @@ pub exceeding_instance-instance-requires : goal.exceeding_instance-instance-requ
 exceeding_instance-instance-requires c =
     let l = leads (goal.at.exceeding_instance-instance-requires c).After-loop-i in
     let p = c.requires.ready in
-    let answer = (c.busy_window.ensures.ready, (leads-own p.prepared.filled.table p.listed l, leads-window p.prepared.filled.table p.listed l c.requires.frame_value c.busy_window.ensures.value c.or_zero-window.ensures)) in record { ready_2 = answer.0; own_fixed = answer.1; choices_value = answer.2 }
+    record { ready_2 = c.busy_window.ensures.ready; own_fixed = leads-own p.prepared.filled.table p.listed l; choices_value = leads-window p.prepared.filled.table p.listed l c.requires.frame_value c.busy_window.ensures.value c.or_zero-window.ensures }
 
 pub shape_of-memory : goal.shape_of-memory
 shape_of-memory c = c.exceeding_instance-instance.ensures.ready.remembered.size ∙ sym c.requires.ready.remembered.size

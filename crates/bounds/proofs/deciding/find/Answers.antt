@@ -28,7 +28,7 @@ pub refine_own-rough-requires : goal.refine_own-rough-requires
 refine_own-rough-requires c =
     let p = c.requires in
     let t = p.prepared.filled.table in
-    let answer = (c.lacks_window.ensures.ready, (free-start t p.listed, (found-limits _ _ _ _ _ c.busy_window-limit.ensures.value, (has (goal.at.refine_own-rough-requires c).Else-lacks_window, omega arith)))) in record { ready_2 = answer.0; own_open = answer.1; limits = answer.2; frame_value = answer.3 }
+    record { ready_2 = c.lacks_window.ensures.ready; own_open = free-start t p.listed; limits = found-limits _ _ _ _ _ c.busy_window-limit.ensures.value; frame_value = (has (goal.at.refine_own-rough-requires c).Else-lacks_window, omega arith) }
 
 -- what is found is the approximate bound
 rough : (c : After-refine_own-rough) → let a = c.args in c.refine_own-rough.result ≡ approximate_bound a.target.faults (table_of a.rows.now a.prepared.now) a.target.frame
@@ -47,7 +47,7 @@ deepest_level-level-requires c =
 pub by_level-requires : goal.by_level-requires
 by_level-requires c =
     let a = c.args in
-    let answer = (c.refine_own-rough.ensures.ready, (found-limits _ _ _ _ _ c.busy_window-limit.ensures.value, (has (goal.at.by_level-requires c).Else-lacks_window, omega (arith, c.deepest_level-level.ensures, deepest-le (table_of a.rows.now a.prepared.now) a.target.frame)))) in record { ready_2 = answer.0; limits = answer.1; frame_value = answer.2 }
+    record { ready_2 = c.refine_own-rough.ensures.ready; limits = found-limits _ _ _ _ _ c.busy_window-limit.ensures.value; frame_value = (has (goal.at.by_level-requires c).Else-lacks_window, omega (arith, c.deepest_level-level.ensures, deepest-le (table_of a.rows.now a.prepared.now) a.target.frame)) }
 
 pub returns : goal.returns
 unfolding bound_for

@@ -19,18 +19,18 @@ use Rattle.bounds.proofs.refine.is_exceeded.Goals as goal
 use Rattle.bounds.proofs.refine.is_exceeded.Goals.{In-Fixed-2, Start}
 
 pub own_choice-own-requires : goal.own_choice-own-requires
-own_choice-own-requires c = let p = c.before.before.before.requires.0 in in-table-fine _ p.prepared.filled.table p.listed
+own_choice-own-requires c = let p = c.requires.ready_2 in in-table-fine _ p.prepared.filled.table p.listed
 
 pub refine_own-requires : goal.refine_own-requires
 refine_own-requires c =
-    let p = c.before.before.before.before.before.before.before.requires in
-    let answer = (p.0, (record { refines = p.1.0; any = sym c.own_choice-own.ensures ∙ c.in_default.is }, (tt, (p.1.1, omega arith)))) in record { ready_2 = answer.0; own_open = answer.1; limits = answer.2; frame_value = answer.3 }
+    let p = (c.requires.ready_2, (c.requires.refined_by, c.requires.frame_value)) in
+    record { ready_2 = p.0; own_open = record { refines = p.1.0; any = sym c.own_choice-own.ensures ∙ c.in_default.is }; limits = tt; frame_value = (p.1.1, omega arith) }
 
 pub shape_of-memory-in_default : goal.shape_of-memory-in_default
-shape_of-memory-in_default c = c.refine_own.ensures.ready.remembered.size ∙ sym c.before.before.before.before.before.before.before.before.before.before.requires.0.remembered.size
+shape_of-memory-in_default c = c.refine_own.ensures.ready.remembered.size ∙ sym c.requires.ready_2.remembered.size
 
 pub returns-in_default : goal.returns-in_default
-returns-in_default c = record { value = settled-test c.before.before.before.before.before.before.before.before.before.before.args.claim _ _ c.refine_own.ensures.settles; ready = c.refine_own.ensures.ready }
+returns-in_default c = record { value = settled-test c.args.claim _ _ c.refine_own.ensures.settles; ready = c.refine_own.ensures.ready }
 
 -- the choices are as many as the groups
 long : (s : Start) → length s.args.choices ≡ 16
@@ -41,25 +41,25 @@ group : (s : Start) → (1 ≤ s.args.target.frame.group) × (s.args.target.fram
 group s = own-group s.requires.ready_2.prepared.filled.table s.requires.ready_2.listed
 
 -- the own group stands at an alignment
-fixed : (c : In-Fixed-2) → (a : ℕ) × (choice_of c.before.before.before.before.before.before.args.choices c.before.before.before.before.before.before.args.target.frame.group ≡ Fixed a)
+fixed : (c : In-Fixed-2) → (a : ℕ) × (choice_of c.args.choices c.args.target.frame.group ≡ Fixed a)
 fixed c = (c.in-Fixed.a, sym c.own_choice-own.ensures ∙ c.in-Fixed.is)
 
 -- which it takes once more
-again : (c : In-Fixed-2) → set c.before.before.before.before.before.before.args.choices (c.before.before.before.before.before.before.args.target.frame.group - 1) (Fixed c.in-Fixed.a) ≡ c.before.before.before.before.before.before.args.choices
-again c = own-again c.before.before.before.before.before.before.args.target.frame c.before.before.before.before.before.before.args.choices ((group c.before.before.before.before.before.before).0, omega (arith, (group c.before.before.before.before.before.before).1, long c.before.before.before.before.before.before)) (sym c.own_choice-own.ensures ∙ c.in-Fixed.is)
+again : (c : In-Fixed-2) → set c.args.choices (c.args.target.frame.group - 1) (Fixed c.in-Fixed.a) ≡ c.args.choices
+again c = own-again c.args.target.frame c.args.choices ((group c.before.before.before.before.before.before.before).0, omega (arith, (group c.before.before.before.before.before.before.before).1, long c.before.before.before.before.before.before.before)) (sym c.own_choice-own.ensures ∙ c.in-Fixed.is)
 
 pub reach_of-reach-requires : goal.reach_of-reach-requires
 reach_of-reach-requires c =
-    let p = c.before.before.before.before.before.before.before.before.requires in
-    let answer = (p.0, (tt, refined-window p.0.prepared.filled.table p.0.listed _ c.before.before.before.before.before.before.before.before.args.choices (long (goal.at.reach_of-reach-requires c).After-shared_slice_known-1) p.1.0 p.1.1 (fixed (goal.at.reach_of-reach-requires c).In-Fixed-2))) in record { ready_2 = answer.0; limits = answer.1; by_index = answer.2 }
+    let p = (c.requires.ready_2, (c.requires.refined_by, c.requires.frame_value)) in
+    record { ready_2 = p.0; limits = tt; by_index = refined-window p.0.prepared.filled.table p.0.listed _ c.args.choices (long (goal.at.reach_of-reach-requires c).Start) p.1.0 p.1.1 (fixed (goal.at.reach_of-reach-requires c).In-Fixed-2) }
 
 pub refine-requires : goal.refine-requires
 refine-requires c =
-    let answer = (c.reach_of-reach.ensures.ready, (group (goal.at.refine-requires c).After-shared_slice_known-1, (subst (OwnFixed c.before.before.before.before.before.before.before.before.before.before.before.before.before.before.args.target.frame) (sym (again (goal.at.refine-requires c).In-Fixed-2)) (fixed (goal.at.refine-requires c).In-Fixed-2), subst (λ (cs : List Choice). Reaches c.before.before.before.before.before.before.before.before.before.before.before.before.before.before.args.target.faults (table_of c.before.before.before.before.before.before.before.before.before.before.before.before.before.before.args.rows.now c.before.before.before.before.before.before.before.before.before.before.before.before.before.before.args.prepared.now) c.before.before.before.before.before.before.before.before.before.before.before.before.before.before.args.target.frame cs c.before.before.before.before.before.before.before.before.before.before.before.before.before.before.args.claim c.reach_of-reach.result) (sym (again (goal.at.refine-requires c).In-Fixed-2)) (c.reach_of-reach.ensures.by_index_2 c.before.before.before.before.before.before.before.before.before.before.before.before.before.before.args.claim)))) in record { ready_2 = answer.0; le_group = answer.1; own_fixed = answer.2; reaches = answer.3 }
+    record { ready_2 = c.reach_of-reach.ensures.ready; le_group = group (goal.at.refine-requires c).Start; own_fixed = subst (OwnFixed c.args.target.frame) (sym (again (goal.at.refine-requires c).In-Fixed-2)) (fixed (goal.at.refine-requires c).In-Fixed-2); reaches = subst (λ (cs : List Choice). Reaches c.args.target.faults (table_of c.args.rows.now c.args.prepared.now) c.args.target.frame cs c.args.claim c.reach_of-reach.result) (sym (again (goal.at.refine-requires c).In-Fixed-2)) (c.reach_of-reach.ensures.by_index_2 c.args.claim) }
 
 pub shape_of-memory : goal.shape_of-memory
-shape_of-memory c = c.refine.ensures.ready.remembered.size ∙ sym c.before.before.before.before.before.before.before.before.before.before.before.before.before.before.before.before.before.requires.0.remembered.size
+shape_of-memory c = c.refine.ensures.ready.remembered.size ∙ sym c.requires.ready_2.remembered.size
 
 pub returns : goal.returns
 returns c =
-    record { value = settled-test c.before.before.before.before.before.before.before.before.before.before.before.before.before.before.before.before.before.args.claim _ _ c.refine.ensures.settles ∙ ap (λ (cs : List Choice). ltb c.before.before.before.before.before.before.before.before.before.before.before.before.before.before.before.before.before.args.claim (fixing_more c.before.before.before.before.before.before.before.before.before.before.before.before.before.before.before.before.before.args.target.faults (table_of c.before.before.before.before.before.before.before.before.before.before.before.before.before.before.before.before.before.args.rows.now c.before.before.before.before.before.before.before.before.before.before.before.before.before.before.before.before.before.args.prepared.now) c.before.before.before.before.before.before.before.before.before.before.before.before.before.before.before.before.before.args.target.frame 16 cs)) (again (goal.at.returns c).In-Fixed-2); ready = c.refine.ensures.ready }
+    record { value = settled-test c.args.claim _ _ c.refine.ensures.settles ∙ ap (λ (cs : List Choice). ltb c.args.claim (fixing_more c.args.target.faults (table_of c.args.rows.now c.args.prepared.now) c.args.target.frame 16 cs)) (again (goal.at.returns c).In-Fixed-2); ready = c.refine.ensures.ready }

@@ -7,11 +7,11 @@ use Rattle.response_time.specs.Laws.Searches.{window-small}
 use Rattle.bounds.proofs.refine.reach_of.Goals as goal
 
 pub reach_before-requires : goal.reach_before-requires
-reach_before-requires c = record { ready = c.before.before.before.before.before.before.before.requires.0; window_within = rw c.before.before.limit.given.1 at c.before.before.before.before.before.before.before.requires.1.0 }
+reach_before-requires c = record { ready = c.requires.ready_2; window_within = rw c.in-At.is at c.requires.limits }
 
 pub reach_before-requires-2 : goal.reach_before-requires-2
 unfolding or_zero
 reach_before-requires-2 c =
-    let (l, is) = c.before.before.before.before.before.before.before.before.before.before.before.requires.1.1 in
-    let long : c.before.or-zero.result ≡ l = c.before.or-zero.ensures ∙ ap or_zero (c.before.before.before.before.busy-window.ensures.0 ∙ is) in
-    record { ready = c.before.before.before.before.busy-window.ensures.1; window_within = record { window = l; is = is; within = omega (arith, long); small = omega (arith, long, window-small _ _ _ _ is) } }
+    let (l, is) = c.requires.by_index in
+    let long : c.or_zero-window.result ≡ l = c.or_zero-window.ensures ∙ ap or_zero (c.busy_window.ensures.value ∙ is) in
+    record { ready = c.busy_window.ensures.ready; window_within = record { window = l; is = is; within = omega (arith, long); small = omega (arith, long, window-small _ _ _ _ is) } }

@@ -5,9 +5,9 @@ use Rattle.arith.specs.Laws.Signed.{kept}
 use Rattle.certifier.proofs.busiest_entry.certifier_busiest.Goals as goal
 
 pub encode_sheet-requires : goal.encode_sheet-requires
-encode_sheet-requires c = λ n d. (c.busiest_file.ensures.out_after.1.0 n d).most
+encode_sheet-requires c = λ n d. (c.busiest_file.ensures.says n d).most
 
 pub returns : goal.returns
 returns c =
     let e = c.busiest_file.ensures in
-    rw (← e.1.1.1, ← e.0) (kept _ c.encode_sheet.type-inv ∙ c.encode_sheet.ensures, e.1.0)
+    rw (← e.in_numbers, ← e.value) (kept _ c.encode_sheet.type-inv ∙ c.encode_sheet.ensures, e.out_after)

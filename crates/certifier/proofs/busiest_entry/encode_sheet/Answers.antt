@@ -25,5 +25,4 @@ returns-in-Done c = rw c.in-Done.is (to_z_pos _ (omega (arith, small c)))
 pub returns-in-Refused : goal.returns-in-Refused
 unfolding encode_answered answer_returns
 returns-in-Refused c =
-    let a = c.answer-in-Refused-1.given in
-    rw (a.1, ne_eqb _ 0 (cause-some a.0.0.cause), ← c.number.ensures) (kept _ c.encode_turned.type-inv ∙ c.encode_turned.ensures)
+    rw (c.in-Refused.is, ne_eqb _ 0 (cause-some c.in-Refused.refusal.cause), ← c.number.ensures) (kept _ c.encode_turned.type-inv ∙ c.encode_turned.ensures)

@@ -15,7 +15,7 @@ use Rattle.certifier.proofs.explain_entry.explain_table.Goals.{In-Done}
 
 -- what was read is the table
 table : (c : In-Done) → ReadRows c.args.table.now c.read-answer.new.rows c.in-Done.n
-table c = read-rows _ _ _ refl c.read-answer.ensures.value _ _ c.read-answer.ensures.rows_after.0 c.in-Done.is
+table c = read-rows _ _ _ refl c.read-answer.ensures.value _ _ c.read-answer.ensures.rows_after c.in-Done.is
 
 pub slice_bounds-rows-end : goal.slice_bounds-rows-end
 slice_bounds-rows-end c = (table (c)).room
@@ -39,4 +39,4 @@ unfolding explain_read
 returns-in-Done c =
     let t = table (goal.at.returns-in-Done c).In-Done in
     let e = c.show.ensures in
-    rw (t.passed, ← t.rows, ← c.explain.ensures.value) (kept _ c.show.type-inv ∙ e.0, e.1)
+    rw (t.passed, ← t.rows, ← c.explain.ensures.value) (kept _ c.show.type-inv ∙ e.value, e.shown_after)

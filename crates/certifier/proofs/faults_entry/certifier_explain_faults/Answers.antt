@@ -24,4 +24,4 @@ unfolding explain_faults_file
 returns-in-Passed c =
     let l = loaded (goal.at.returns-in-Passed c).After-lengths_of in
     let e = c.explain_faults_table.ensures in
-    rw (l.passed, ← l.is) (kept _ c.explain_faults_table.type-inv ∙ e.0, e.1)
+    rw (l.passed, ← l.is) (kept _ c.explain_faults_table.type-inv ∙ e.value, e.shown_after)

@@ -19,9 +19,9 @@ pub returns-in-Failed : goal.returns-in-Failed
 unfolding list_faults_read listed_read
 returns-in-Failed c =
     let answer = listed-told _ _ _ _ (
-    rw (lengths-refused _ c.args.table.now c.read-loaded.ensures.value c.in-Failed.is) (ap NotListed c.of_table.ensures, refl)) in record { value = answer.0; out_after = answer.1; in_numbers = answer.2 }
+    rw (lengths-refused _ c.args.table.now c.read-loaded.ensures.value c.in-Failed.is) (ap NotListed c.of_table.ensures, refl)) in record { value = answer.0; out_after = answer.1.0; in_numbers = answer.1.1 }
 
 pub returns-in-Passed : goal.returns-in-Passed
 returns-in-Passed c =
     let l = loaded (goal.at.returns-in-Passed c).After-lengths_of in
-    let answer = listed-told _ _ _ _ (rw (l.passed, ← l.is) c.list_faults_table.ensures) in record { value = answer.0; out_after = answer.1; in_numbers = answer.2 }
+    let answer = listed-told _ _ _ _ (rw (l.passed, ← l.is) (c.list_faults_table.ensures.value, c.list_faults_table.ensures.out_after)) in record { value = answer.0; out_after = answer.1.0; in_numbers = answer.1.1 }

@@ -28,7 +28,7 @@ unfolding list_faults_rows listed_rows
 returns-then-is_gap c =
     let listing = listing_of (Apart c.args.gap) c.args.lengths c.args.rows.now in
     let e = c.list_rows-answer.ensures in
-    rw (gap (goal.at.returns-then-is_gap c).Then-is_gap) (c.listed_by.ensures ∙ ap listed_by e.0, e.1 ∙ ap (λ (a : Answer). area_after a listing c.args.out.now) e.0)
+    rw (gap (goal.at.returns-then-is_gap c).Then-is_gap) (c.listed_by.ensures ∙ ap listed_by e.value, e.out_after ∙ ap (λ (a : Answer). area_after a listing c.args.out.now) e.value)
 
 pub returns : goal.returns
 unfolding list_faults_rows listed_rows

@@ -9,7 +9,7 @@ use Rattle.certifier.proofs.faults_listing.list_faults_table.Goals.{In-Done}
 
 -- what was read is the table
 table : (c : In-Done) → ReadRows c.args.table.now c.read-answer.new.rows c.in-Done.n
-table c = read-rows _ _ _ refl c.read-answer.ensures.value _ _ c.read-answer.ensures.rows_after.0 c.in-Done.is
+table c = read-rows _ _ _ refl c.read-answer.ensures.value _ _ c.read-answer.ensures.rows_after c.in-Done.is
 
 pub slice_bounds-rows-end : goal.slice_bounds-rows-end
 slice_bounds-rows-end c = (table c).room
@@ -29,4 +29,4 @@ pub returns-in-Done : goal.returns-in-Done
 unfolding list_faults_read listed_read
 returns-in-Done c =
     let t = table (goal.at.returns-in-Done c).In-Done in
-    rw (t.passed, ← t.rows) c.list_faults_rows.ensures
+    rw (t.passed, ← t.rows) (c.list_faults_rows.ensures.value, c.list_faults_rows.ensures.out_after)

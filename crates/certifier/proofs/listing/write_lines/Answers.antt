@@ -14,7 +14,7 @@ loop-i-init c = (refl, search rules, refl)
 
 pub write_row-requires : goal.write_row-requires
 write_row-requires c =
-    let answer = (c.requires.loadable, (c.requires.fine_faults.0, (search rules, simp (length-take, length-drop) (omega (arith, c.loop-i.invariant, c.loop-i-test.true, c.requires.fine_faults.1))))) in record { loadable = answer.0; fine_faults = answer.1; i_in_bounds = answer.2 }
+    record { loadable = c.requires.loadable; fine_faults = c.requires.fine_faults; i_in_bounds = (search rules, simp (length-take, length-drop) (omega (arith, c.loop-i.invariant, c.loop-i-test.true, c.requires.lines_value))) }
 
 pub loop-i-preserved : goal.loop-i-preserved
 loop-i-preserved c =

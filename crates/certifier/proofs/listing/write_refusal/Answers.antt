@@ -8,4 +8,4 @@ use Rattle.certifier.proofs.listing.write_refusal.Goals as goal
 pub returns : goal.returns
 unfolding check_returns
 returns c =
-    let answer = answer-told Passed _ _ (rw (← c.number.ensures) c.write_refusal_line.ensures) in record { value = answer.0; out_after = answer.1; in_numbers = answer.2 }
+    let answer = answer-told Passed _ _ (rw (← c.number.ensures) (c.write_refusal_line.ensures.value, c.write_refusal_line.ensures.out_after)) in record { value = answer.0; out_after = answer.1.0; in_numbers = answer.1.1 }

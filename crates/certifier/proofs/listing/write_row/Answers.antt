@@ -8,7 +8,7 @@ use Rattle.certifier.proofs.listing.write_row.Goals as goal
 
 pub judge_row-judgement-requires : goal.judge_row-judgement-requires
 judge_row-judgement-requires c =
-    let answer = (c.requires.loadable, (omega (arith, length-frames c.args.lengths c.args.rows.now, c.requires.fine_faults.1.0), c.requires.fine_faults.0)) in record { loadable = answer.0; i_in_bounds = answer.1; fine_faults = answer.2 }
+    record { loadable = c.requires.loadable; i_in_bounds = omega (arith, length-frames c.args.lengths c.args.rows.now, c.requires.i_in_bounds.0); fine_faults = c.requires.fine_faults }
 
 pub returns : goal.returns
 unfolding line_of

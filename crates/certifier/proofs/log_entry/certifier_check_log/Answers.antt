@@ -7,5 +7,5 @@ use Rattle.certifier.proofs.log_entry.certifier_check_log.Goals as goal
 pub returns : goal.returns
 returns c =
     let e = c.store.ensures in
-    let n = c.check_files.ensures.says.1 in
-    rw (← n) (kept _ c.store.type-inv ∙ e.0, e.1)
+    let n = c.check_files.ensures.in_numbers in
+    rw (← n) (kept _ c.store.type-inv ∙ e.value, e.area_after)

@@ -14,4 +14,4 @@ pub returns-in-Accepted : goal.returns-in-Accepted
 returns-in-Accepted c =
     let e = c.store_starts.ensures in
     let answer = stored-shown c.args.checked c.args.area.now c.in-Accepted.is
-    (kept _ c.store_starts.type-inv ∙ e.0, e.1) in record { value = answer.0; area_after = answer.1 }
+    (kept _ c.store_starts.type-inv ∙ e.value, e.area_after) in record { value = answer.0; area_after = answer.1 }

@@ -24,4 +24,4 @@ unfolding worst_file
 returns-in-Passed c =
     let l = loaded (goal.at.returns-in-Passed c).After-lengths_of in
     let e = c.worst_table.ensures in
-    rw (l.passed, ← l.is) (kept _ c.worst_table.type-inv ∙ e.0, e.1)
+    rw (l.passed, ← l.is) (kept _ c.worst_table.type-inv ∙ e.value, e.shown_after)

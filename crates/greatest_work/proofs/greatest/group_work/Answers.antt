@@ -19,4 +19,4 @@ returns-in-Fixed c =
     rw c.in-Fixed.is (is, (c.work_in.ensures.small, c.requires.ready_2))
 
 pub returns-in-Any : goal.returns-in-Any
-returns-in-Any c = rw c.in-Any.is c.open_work.ensures
+returns-in-Any c = rw c.in-Any.is (c.open_work.ensures.value, (c.open_work.ensures.small, c.open_work.ensures.ready))

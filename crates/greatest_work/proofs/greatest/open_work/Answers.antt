@@ -18,25 +18,22 @@ pub nonzero_rem-rest : goal.nonzero_rem-rest
 nonzero_rem-rest c = omega (arith, c.cycle_of-cycle.ensures, cycle-pos c.requires.ready_2.prepared c.args.j c.requires.j_bound.0)
 
 pub cycles_work-whole-requires : goal.cycles_work-whole-requires
-cycles_work-whole-requires c = let s = c.before.before.before.before.before in record { ready = s.requires.0; j_bound = (s.requires.1.0, omega (arith, div-le_self s.args.n c.before.cycle-of.result, s.requires.1.1)) }
+cycles_work-whole-requires c = record { ready = c.requires.ready_2; j_bound = (c.requires.j_bound.0, omega (arith, div-le_self c.args.n c.cycle_of-cycle.result, c.requires.j_bound.1)) }
 
 pub returns-then-rest-eq0 : goal.returns-then-rest-eq0
 returns-then-rest-eq0 c =
-    let s = c.before.before.before.before.before.before.before in
-    let r = most-rest s.requires.0.prepared s.args.j s.requires.1.0 s.args.n s.requires.1.1 {b = 0} (rw c.before.before.before.cycle-of.ensures at c.cycles_work-whole.ensures) (rw (← c.before.before.before.cycle-of.ensures, c.if-rest-eq0.true) (sym (most-none s.requires.0.prepared.filled.table s.args.target.frame (s.args.j + 1)))) in
-    let answer = (sym (add-zero _) ∙ r.0, (omega (arith, r.1), s.requires.0)) in record { value = answer.0; small = answer.1; ready = answer.2 }
+    let r = most-rest c.requires.ready_2.prepared c.args.j c.requires.j_bound.0 c.args.n c.requires.j_bound.1 {b = 0} (rw c.cycle_of-cycle.ensures at c.cycles_work-whole.ensures) (rw (← c.cycle_of-cycle.ensures, c.if-rest-eq0.true) (sym (most-none c.requires.ready_2.prepared.filled.table c.args.target.frame (c.args.j + 1)))) in
+    record { value = sym (add-zero _) ∙ r.0; small = omega (arith, r.1); ready = c.requires.ready_2 }
 
 pub stair_work-requires : goal.stair_work-requires
-stair_work-requires c = let s = c.before.before.before.before.before.before.before.before in record { ready_2 = s.requires.0; j_bound = (s.requires.1.0, omega (arith, mod-le s.args.n c.before.before.before.before.cycle-of.result, s.requires.1.1)) }
+stair_work-requires c = record { ready_2 = c.requires.ready_2; j_bound = (c.requires.j_bound.0, omega (arith, mod-le c.args.n c.cycle_of-cycle.result, c.requires.j_bound.1)) }
 
 pub overflow_add-result : goal.overflow_add-result
 overflow_add-result c =
-    let s = c.before.before.before.before.before.before.before.before.before.before.before in
-    let r = most-rest s.requires.0.prepared s.args.j s.requires.1.0 s.args.n s.requires.1.1 (rw c.before.before.before.before.before.before.before.cycle-of.ensures at c.cycles_work-whole.ensures) (rw c.before.before.before.before.before.before.before.cycle-of.ensures at c.stair_work.ensures.value) in
+    let r = most-rest c.requires.ready_2.prepared c.args.j c.requires.j_bound.0 c.args.n c.requires.j_bound.1 (rw c.cycle_of-cycle.ensures at c.cycles_work-whole.ensures) (rw c.cycle_of-cycle.ensures at c.stair_work.ensures.value) in
     omega (arith, r.1)
 
 pub returns : goal.returns
 returns c =
-    let s = c.before.before.before.before.before.before.before.before.before.before.before in
-    let r = most-rest s.requires.0.prepared s.args.j s.requires.1.0 s.args.n s.requires.1.1 (rw c.before.before.before.before.before.before.before.cycle-of.ensures at c.cycles_work-whole.ensures) (rw c.before.before.before.before.before.before.before.cycle-of.ensures at c.stair_work.ensures.value) in
-    let answer = (r.0, (r.1, c.stair_work.ensures.ready)) in record { value = answer.0; small = answer.1; ready = answer.2 }
+    let r = most-rest c.requires.ready_2.prepared c.args.j c.requires.j_bound.0 c.args.n c.requires.j_bound.1 (rw c.cycle_of-cycle.ensures at c.cycles_work-whole.ensures) (rw c.cycle_of-cycle.ensures at c.stair_work.ensures.value) in
+    record { value = r.0; small = r.1; ready = c.stair_work.ensures.ready }

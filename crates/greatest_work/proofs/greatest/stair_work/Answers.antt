@@ -25,38 +25,36 @@ set_of-set-requires c =
     (omega (arith, few, c.first_of.ensures), omega (arith, few, c.count_of.ensures), c.requires.j_bound.1, omega (arith, c.cycle_of-cycle.ensures, cycle-pos c.requires.ready_2.prepared c.args.j c.requires.j_bound.0))
 
 pub lookup-found-requires : goal.lookup-found-requires
-lookup-found-requires c = let s = c.before.before.before.before.before.before.before.before in (s.requires.0.remembered.size, c.before.set-of.ensures)
+lookup-found-requires c = (c.requires.ready_2.remembered.size, c.set_of-set.ensures)
 
 pub returns-in-At : goal.returns-in-At
-returns-in-At c = let s = c.before.before.before.before.before.before.before.before.before.before.before.before in record { value = told_is s.requires.0.remembered (c.lookup-found.ensures _ c.in-At.is); ready = s.requires.0 }
+returns-in-At c = record { value = told_is c.requires.ready_2.remembered (c.lookup-found.ensures _ c.in-At.is); ready = c.requires.ready_2 }
 
 pub part_of-part-requires : goal.part_of-part-requires
-part_of-part-requires c = let s = c.before.before.before.before.before.before.before.before.before.before.before in (s.requires.0.prepared.filled.size, s.requires.1.0, s.requires.0.prepared.by-group.inside s.args.j s.requires.1.0)
+part_of-part-requires c = (c.requires.ready_2.prepared.filled.size, c.requires.j_bound.0, c.requires.ready_2.prepared.by-group.inside c.args.j c.requires.j_bound.0)
 
 pub best_alignment-best-requires : goal.best_alignment-best-requires
 best_alignment-best-requires c =
-    let s = c.before.before.before.before.before.before.before.before.before.before.before.before in
-    record { fine_part = rw c.part_of-part.ensures (group-fine s.requires.0.prepared s.args.j s.requires.1.0); end_bound = (omega (arith, c.before.before.before.before.before.before.before.before.cycle-of.ensures, cycle-small s.requires.0.prepared s.args.j s.requires.1.0), s.requires.1.1) }
+    record { fine_part = rw c.part_of-part.ensures (group-fine c.requires.ready_2.prepared c.args.j c.requires.j_bound.0); end_bound = (omega (arith, c.cycle_of-cycle.ensures, cycle-small c.requires.ready_2.prepared c.args.j c.requires.j_bound.0), c.requires.j_bound.1) }
 
 pub insert-requires : goal.insert-requires
-insert-requires c = let s = c.before.before.before.before.before.before.before.before.before.before.before.before.before.before in (s.requires.0.remembered.size, c.before.before.before.before.before.before.before.set-of.ensures, s.requires.1.0, omega (arith, s.requires.1.1))
+insert-requires c = (c.requires.ready_2.remembered.size, c.set_of-set.ensures, c.requires.j_bound.0, omega (arith, c.requires.j_bound.1))
 
 pub overflow_add-memory-2 : goal.overflow_add-memory-2
-overflow_add-memory-2 c = omega (arith, c.before.before.before.before.before.before.before.before.before.before.before.before.before.before.before.before.before.before.requires.1.0)
+overflow_add-memory-2 c = omega (arith, c.requires.j_bound.0)
 
 pub offset_bounds-memory-j : goal.offset_bounds-memory-j
-offset_bounds-memory-j c = omega (arith, c.before.before.before.before.before.before.before.before.before.before.before.before.before.before.before.before.before.before.requires.1.0)
+offset_bounds-memory-j c = omega (arith, c.requires.j_bound.0)
 
 pub bounds-memory-j : goal.bounds-memory-j
-bounds-memory-j c = omega (arith, c.before.before.before.before.before.before.before.before.before.before.before.before.before.before.before.before.before.before.requires.1.0, c.insert.auto.0, c.before.before.before.before.before.before.before.before.before.before.before.before.before.before.before.before.before.before.requires.0.remembered.size)
+bounds-memory-j c = omega (arith, c.requires.j_bound.0, c.insert.auto.memory, c.requires.ready_2.remembered.size)
 
 pub returns : goal.returns
 unfolding group_work
 returns c =
-    let s = c.before.before.before.before.before.before.before.before.before.before.before.before.before.before.before.before.before.before in
-    let p = s.requires.0.prepared in
-    let g = rw (c.part_of-part.ensures, c.before.before.before.before.before.before.before.before.before.before.before.before.before.before.cycle-of.ensures) at c.best_alignment-best.ensures in
-    let is = read-group p s.args.j s.requires.1.0 Any s.args.n g.1.0 in
-    let listed = first-aligned p.filled.table.valid _ _ (rw (read-alignments p s.args.j s.requires.1.0) at g.0) in
-    let kept = c.insert.ensures _ _ p.filled.table.valid (sym is) s.requires.0.remembered in
-    record { value = is; ready = record { prepared = p; listed = s.requires.0.listed; blocked = s.requires.0.blocked; target = s.requires.0.target; cost = s.requires.0.cost; remembered = put-guess kept s.args.j _ s.requires.1.0 (search rules) listed } }
+    let p = c.requires.ready_2.prepared in
+    let g = rw (c.part_of-part.ensures, c.cycle_of-cycle.ensures) at (c.best_alignment-best.ensures.among, (c.best_alignment-best.ensures.work_value, (c.best_alignment-best.ensures.count, c.best_alignment-best.ensures.small))) in
+    let is = read-group p c.args.j c.requires.j_bound.0 Any c.args.n g.1.0 in
+    let listed = first-aligned p.filled.table.valid _ _ (rw (read-alignments p c.args.j c.requires.j_bound.0) at g.0) in
+    let kept = c.insert.ensures _ _ p.filled.table.valid (sym is) c.requires.ready_2.remembered in
+    record { value = is; ready = record { prepared = p; listed = c.requires.ready_2.listed; blocked = c.requires.ready_2.blocked; target = c.requires.ready_2.target; cost = c.requires.ready_2.cost; remembered = put-guess kept c.args.j _ c.requires.j_bound.0 (search rules) listed } }

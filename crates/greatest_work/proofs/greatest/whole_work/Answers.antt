@@ -24,13 +24,13 @@ loop-j-preserved c =
     let l = c.loop-j in
     let r = c.group_work-sum.ensures in
     let less = c.loop-j-test.true in
-    let is = rw (read-choice l.j c.args.choices) at r.0 in
+    let is = rw (read-choice l.j c.args.choices) at r.value in
     let fs = table_of c.args.rows.now c.args.prepared.now in
     let k = c.args.target.frame in
     let term : ℕ = group_work (of_group (ahead fs k) (l.j + 1)) (alignments fs k (l.j + 1)) (choice_of c.args.choices (l.j + 1)) c.args.n in (
       count-more _ _ _ _ l.invariant.0 (omega (arith, less)) (sum_more _ l.sum (l.j + 1) (ap (λ (w : ℕ). l.sum + w) {y = term} is)),
-      omega (arith, l.invariant.1, r.1.0),
-      r.1.1,
+      omega (arith, l.invariant.1, r.small),
+      r.ready,
     )
 
 pub shape_of-memory : goal.shape_of-memory
@@ -40,4 +40,4 @@ pub returns : goal.returns
 unfolding sum
 returns c =
     let l = c.loop-j in
-    let answer = (sym (add-zero _) ∙ count-end _ _ _ _ l.invariant.0 (omega (arith, c.loop-j-test.false)), (omega (arith, l.invariant.1, l.invariant.0.inside), l.invariant.2)) in record { value = answer.0; small = answer.1; ready = answer.2 }
+    record { value = sym (add-zero _) ∙ count-end _ _ _ _ l.invariant.0 (omega (arith, c.loop-j-test.false)); small = omega (arith, l.invariant.1, l.invariant.0.inside); ready = l.invariant.2 }

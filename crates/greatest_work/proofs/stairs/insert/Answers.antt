@@ -12,17 +12,15 @@ returns-then-work-ge-UNIT c = λ fs k valid is kept. kept
 
 pub returns-then-is_of : goal.returns-then-is_of
 returns-then-is_of c =
-    let s = c.before.before.before.before.before.before.before.before in
     let p = c.place_for-p.result in
     let inside = c.place_for-p.ensures in
     λ fs k valid is kept.
     put-stair kept p _ inside
-    (rw c.widen.ensures (holds-widened valid (get_or s.args.memory.now p 0) s.args.j s.args.n s.args.work (kept.stairs p inside) (sym c.is_of.ensures ∙ c.if-is_of.true) s.requires.3 is))
+    (rw c.widen.ensures (holds-widened valid (get_or c.args.memory.now p 0) c.args.j c.args.n c.args.work (kept.stairs p inside) (sym c.is_of.ensures ∙ c.if-is_of.true) c.requires.3 is))
 
 pub returns-else-is_of : goal.returns-else-is_of
 returns-else-is_of c =
-    let s = c.before.before.before.before.before.before.before.before in
     λ fs k valid is kept.
     put-stair kept _ _ c.place_for-p.ensures
     (rw c.pack.ensures
-    (holds-packed s.args.j s.requires.3 s.requires.3 c.before.before.before.before.before.before.if1.false (le_refl s.args.n) (λ m low high. let same : m ≡ s.args.n = omega arith in rw same is)))
+    (holds-packed c.args.j c.requires.3 c.requires.3 c.if-work-ge-UNIT.false (le_refl c.args.n) (λ m low high. let same : m ≡ c.args.n = omega arith in rw same is)))

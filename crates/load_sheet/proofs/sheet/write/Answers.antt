@@ -18,9 +18,9 @@ write_table-requires c = (loaded (goal.at.write_table-requires c).After-lengths_
 
 pub returns-in-Failed : goal.returns-in-Failed
 returns-in-Failed c =
-    let answer = input-told _ _ _ _ (area-refused _ _ _ _ _ (lengths-refused _ _ c.read-loaded.ensures.value c.in-Failed.is) refl) in record { value = answer.0; out_after = answer.1; in_numbers = answer.2 }
+    let answer = input-told _ _ _ _ (area-refused _ _ _ _ _ (lengths-refused _ _ c.read-loaded.ensures.value c.in-Failed.is) refl) in record { value = answer.0; out_after = answer.1.0; in_numbers = answer.1.1 }
 
 pub returns-in-Passed : goal.returns-in-Passed
 returns-in-Passed c =
     let l = loaded (goal.at.returns-in-Passed c).After-lengths_of in
-    let answer = input-told _ _ _ _ (rw (l.passed, ← l.is) c.write_table.ensures) in record { value = answer.0; out_after = answer.1; in_numbers = answer.2 }
+    let answer = input-told _ _ _ _ (rw (l.passed, ← l.is) (c.write_table.ensures.value, c.write_table.ensures.out_after)) in record { value = answer.0; out_after = answer.1.0; in_numbers = answer.1.1 }

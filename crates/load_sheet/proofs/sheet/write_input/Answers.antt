@@ -8,4 +8,4 @@ use Rattle.load_sheet.proofs.sheet.write_input.Goals as goal
 pub returns : goal.returns
 returns c =
     let xs : List ℕ = c.args.input.now in
-    rw (← first_part xs _ c.lengths_end-end.ensures, ← second-part xs _ c.lengths_end-end.ensures) c.write.ensures
+    rw (← first_part xs _ c.lengths_end-end.ensures, ← second-part xs _ c.lengths_end-end.ensures) (c.write.ensures.value, (c.write.ensures.out_after, c.write.ensures.in_numbers))

@@ -12,12 +12,12 @@ loop-i-init c = (written_none _ _ _, refl)
 
 pub node_load-load-requires : goal.node_load-load-requires
 node_load-load-requires c =
-    let limits = c.requires.nodes.0.each c.loop-i.i c.loop-i-test.true in
+    let limits = c.requires.nodes.each c.loop-i.i c.loop-i-test.true in
     record { loadable = c.requires.loadable; node_value = limits }
 
 pub write_line-requires : goal.write_line-requires
 write_line-requires c =
-    simp (length-take, length-drop) (omega (arith, c.loop-i.invariant.1, c.loop-i-test.true, c.requires.nodes.1))
+    simp (length-take, length-drop) (omega (arith, c.loop-i.invariant.1, c.loop-i-test.true, c.requires.nodes_in_bounds))
 
 pub loop-i-preserved : goal.loop-i-preserved
 loop-i-preserved c =

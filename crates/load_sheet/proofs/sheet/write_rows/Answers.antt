@@ -17,18 +17,18 @@ returns-then-out-end c =
 pub slice_bounds-write_lines-end : goal.slice_bounds-write_lines-end
 slice_bounds-write_lines-end c =
     let found = c.find_nodes-count.ensures in
-    found.1.0 ∙ ap length (sym found.0)
+    found.counted.0 ∙ ap length (sym found.nodes_after)
 
 pub write_lines-most-requires : goal.write_lines-most-requires
 write_lines-most-requires c =
     let found = c.find_nodes-count.ensures in
-    let size = ap length found.0 in
-    let answer = (c.requires, (nodes-of _ _ found.0 (omega (arith, size, found.1)), omega (arith, size, found.1, c.if-out-end.false))) in record { loadable = answer.0; nodes = answer.1; nodes_in_bounds = answer.2 }
+    let size = ap length found.nodes_after in
+    record { loadable = c.requires; nodes = nodes-of _ _ found.nodes_after (omega (arith, size, found.counted)); nodes_in_bounds = omega (arith, size, found.counted, c.if-out-end.false) }
 
 pub returns : goal.returns
 returns c =
     let found = c.find_nodes-count.ensures in
     let lines = c.write_lines-most.ensures in
     let answer = area-written Passed (sheet_of c.args.lengths c.args.rows.now) c.args.out.now _ _
-    (length-sheet c.args.lengths c.args.rows.now _ found.1.0) refl c.if-out-end.false
-    (sheet-written c.args.lengths c.args.rows.now _ _ _ _ _ _ found.0 found.1.0 lines.0 lines.1 c.write_last.ensures) in record { value = answer.0; out_after = answer.1 }
+    (length-sheet c.args.lengths c.args.rows.now _ found.counted.0) refl c.if-out-end.false
+    (sheet-written c.args.lengths c.args.rows.now _ _ _ _ _ _ found.nodes_after found.counted.0 lines.value lines.out_after c.write_last.ensures) in record { value = answer.0; out_after = answer.1 }

@@ -10,7 +10,7 @@ use Rattle.load_sheet.proofs.sheet.write_table.Goals.{In-Done}
 read : (c : In-Done) → ReadRows c.args.file.now c.read-answer.new.rows c.in-Done.n
 read c =
     let both = c.read-answer.ensures in
-    read-rows _ _ _ refl both.0 _ _ both.1.0 c.in-Done.is
+    read-rows _ _ _ refl both.value _ _ both.rows_after c.in-Done.is
 
 pub slice_bounds-rows-end : goal.slice_bounds-rows-end
 slice_bounds-rows-end c = (read c).room
@@ -30,4 +30,4 @@ returns-in-Refused c =
 pub returns-in-Done : goal.returns-in-Done
 returns-in-Done c =
     let table = read (goal.at.returns-in-Done c).In-Done in
-    rw (table.passed, ← table.rows) c.write_rows.ensures
+    rw (table.passed, ← table.rows) (c.write_rows.ensures.value, c.write_rows.ensures.out_after)

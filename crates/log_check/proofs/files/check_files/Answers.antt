@@ -21,11 +21,11 @@ unfolding files_answer checked_answer
 returns-in-Failed c =
     let s = start (goal.at.returns-in-Failed c).After-read-loaded in
     let answer = files-told s.args.lengths.now s.args.table.now s.args.text.now
-    (rw (lengths-refused _ _ c.read-loaded.ensures.value c.in-Failed.is, ← c.of_table.ensures) c.refuse.ensures) in record { value = answer.0; says = answer.1; in_numbers = answer.2 }
+    (rw (lengths-refused _ _ c.read-loaded.ensures.value c.in-Failed.is, ← c.of_table.ensures) c.refuse.ensures) in record { value = answer.0; says = answer.1.0; in_numbers = answer.1.1 }
 
 pub returns-in-Passed : goal.returns-in-Passed
 unfolding files_answer
 returns-in-Passed c =
     let l = loaded (goal.at.returns-in-Passed c).After-lengths_of in
     let s = start (goal.at.returns-in-Passed c).After-read-loaded in
-    let answer = files-told s.args.lengths.now s.args.table.now s.args.text.now (rw (l.passed, ← l.is) c.check_table.ensures) in record { value = answer.0; says = answer.1; in_numbers = answer.2 }
+    let answer = files-told s.args.lengths.now s.args.table.now s.args.text.now (rw (l.passed, ← l.is) c.check_table.ensures) in record { value = answer.0; says = answer.1.0; in_numbers = answer.1.1 }

@@ -11,7 +11,7 @@ start c = c.before.before.before.before
 
 -- what was read is the table
 table : (c : In-Done) → ReadRows (start c.before.before.before.before).args.table.now c.read-answer.new.rows c.in-Done.n
-table c = let r = c.read-answer in read-rows _ _ _ refl r.ensures.value _ _ r.ensures.rows_after.0 c.in-Done.is
+table c = let r = c.read-answer in read-rows _ _ _ refl r.ensures.value _ _ r.ensures.rows_after c.in-Done.is
 
 pub slice_bounds-rows-end : goal.slice_bounds-rows-end
 slice_bounds-rows-end c = (table c).room

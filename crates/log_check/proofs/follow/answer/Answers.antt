@@ -16,9 +16,9 @@ overflow_cast-followed c =
 pub returns-then-followed-eq0 : goal.returns-then-followed-eq0
 unfolding followed_answer
 returns-then-followed-eq0 c =
-    let e = c.before.before.before.follow-log.ensures in
-    let z = eq-eqb _ 0 c.before.if1.true in
-    rw (← e, z) (rw c.shown_starts.ensures (starts-known _ _ _ c.before.before.before.before.before.before.requires.0.0 c.before.before.before.before.before.before.requires.0.1 _ e c.before.if1.true))
+    let e = c.follow_log-followed.ensures in
+    let z = eq-eqb _ 0 c.if-followed-eq0.true in
+    rw (← e, z) (rw c.shown_starts.ensures (starts-known _ _ _ c.requires.loadable.0 c.requires.loadable.1 _ e c.if-followed-eq0.true))
 
 pub returns-else-followed-eq0 : goal.returns-else-followed-eq0
 unfolding followed_answer

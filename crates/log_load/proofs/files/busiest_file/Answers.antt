@@ -8,7 +8,7 @@ use Rattle.log_load.proofs.files.busiest_file.Goals as goal
 
 pub write_table-requires : goal.write_table-requires
 write_table-requires c =
-    let says = c.check_files-checked.ensures.says.0 in
+    let says = c.check_files-checked.ensures.says in
     let accepted = c.in-Accepted.is in
     let a = ready _ _ _ _ _ _ says accepted (λ h. (table-read _ _ h).1) in
     record { table_value = (table-read _ _ (check-passed _ _ _ _ _ _ says accepted)).0; readable = (a.holds, a.ordered) }
@@ -16,10 +16,10 @@ write_table-requires c =
 pub returns-in-Refused : goal.returns-in-Refused
 returns-in-Refused c =
     let a = c.check_files-checked.ensures in
-    let answer = told-refused _ _ _ _ _ _ _ _ a.0 a.1.1 _ c.in-Refused.is (ap Refused c.of_log.ensures) in record { value = answer.0; out_after = answer.1; says = answer.2; in_numbers = answer.3 }
+    let answer = told-refused _ _ _ _ _ _ _ _ a.value a.in_numbers _ c.in-Refused.is (ap Refused c.of_log.ensures) in record { value = answer.0; out_after = answer.1.0; says = answer.1.1.0; in_numbers = answer.1.1.1 }
 
 pub returns-in-Accepted : goal.returns-in-Accepted
 returns-in-Accepted c =
     let a = c.check_files-checked.ensures in
     let accepted = c.in-Accepted.is in
-    let answer = told-accepted _ _ _ _ _ _ _ _ a.0 a.1.1 _ _ accepted (ready _ _ _ _ _ _ a.1.0 accepted (λ h. (table-read _ _ h).1)) c.write_table.ensures in record { value = answer.0; out_after = answer.1; says = answer.2; in_numbers = answer.3 }
+    let answer = told-accepted _ _ _ _ _ _ _ _ a.value a.in_numbers _ _ accepted (ready _ _ _ _ _ _ a.says accepted (λ h. (table-read _ _ h).1)) (c.write_table.ensures.value, c.write_table.ensures.out_after) in record { value = answer.0; out_after = answer.1.0; says = answer.1.1.0; in_numbers = answer.1.1.1 }

@@ -9,7 +9,7 @@ use Rattle.log_load.proofs.files.write_table.Goals.{In-Done}
 
 -- the table of the file
 table : (c : In-Done) → ReadRows c.args.table.now c.read-read.new.rows c.in-Done.n
-table c = let both = c.read-read.ensures in read-rows _ _ _ refl both.0 _ _ both.1.0 c.in-Done.is
+table c = let both = c.read-read.ensures in read-rows _ _ _ refl both.value _ _ both.rows_after c.in-Done.is
 
 pub slice_bounds-rows-end : goal.slice_bounds-rows-end
 slice_bounds-rows-end c = (table c).room
@@ -27,4 +27,4 @@ returns-in-Refused c =
     absurd (omega arith)
 
 pub returns-in-Done : goal.returns-in-Done
-returns-in-Done c = rw (← (table (goal.at.returns-in-Done c).In-Done).rows) c.write_accepted.ensures
+returns-in-Done c = rw (← (table (goal.at.returns-in-Done c).In-Done).rows) (c.write_accepted.ensures.value, c.write_accepted.ensures.out_after)

@@ -9,7 +9,7 @@ unfolding with_line
 returns-then-is_named c =
     let named = c.is_named.ensures in
     let r = c.response-r.ensures in
-    record { value = rw (← named, c.if-is_named.true, ← r.0) (rw c.greater_wide.ensures); small = (omega arith, omega (arith, r.1)) }
+    record { value = rw (← named, c.if-is_named.true, ← r.value) (rw c.greater_wide.ensures); small = (omega arith, omega (arith, r.small)) }
 
 pub returns : goal.returns
 unfolding with_line

@@ -14,22 +14,22 @@ loop-i-init c = let f = c.first_window-starts.ensures in (f _, f _, search rules
 
 pub move_to-starts-requires : goal.move_to-starts-requires
 move_to-starts-requires c =
-    let p = c.requires in
+    let p = (c.requires.readable, c.requires.le_w) in
     let l = c.loop-i in
     let e = c.last_end-last.ensures in
     let k = c.Line-of.ensures in
     let less : l.i < length (lines_of c.args.text.now) = omega (arith, c.loop-i-test.true, c.count-n.ensures.value) in
-    let answer = (p.readable, ((e.0, omega (arith, p.le_w.1, e.0), e.1, omega (arith, k.1.start)), rw k.0 (l.invariant.0.before l.i (omega arith) less))) in record { readable = answer.0; last_value = answer.1; before = answer.2 }
+    record { readable = p.0; last_value = (e.value, omega (arith, p.1.1, e.value), e.small, omega (arith, k.1.start)); before = rw k.0 (l.invariant.0.before l.i (omega arith) less) }
 
 pub move_to-ends-requires : goal.move_to-ends-requires
 move_to-ends-requires c =
-    let p = c.requires in
+    let p = (c.requires.readable, c.requires.le_w) in
     let l = c.loop-i in
     let e = c.last_end-last.ensures in
     let k = c.before.before.before.Line-of.ensures in
     let less : l.i < length (lines_of c.args.text.now) = omega (arith, c.loop-i-test.true, c.count-n.ensures.value) in
     let place = c.less.ensures ∙ ap (λ (m : Line). m.start + m.length - c.args.w) k.0 in
-    let answer = (p.readable, ((e.0, omega (arith, p.le_w.1, e.0), e.1, omega (arith, c.less.ensures, k.1.start, k.1.length)), rw place (l.invariant.1.before l.i (omega arith) less))) in record { readable = answer.0; last_value = answer.1; before = answer.2 }
+    record { readable = p.0; last_value = (e.value, omega (arith, p.1.1, e.value), e.small, omega (arith, c.less.ensures, k.1.start, k.1.length)); before = rw place (l.invariant.1.before l.i (omega arith) less) }
 
 pub overflow_add-i : goal.overflow_add-i
 overflow_add-i c = omega (arith, c.loop-i-test.true, c.count-n.ensures.few)
@@ -45,6 +45,6 @@ loop-i-preserved c =
 
 pub returns : goal.returns
 returns c =
-    let l = c.before.before.loop in
-    let all : l.i ≡ length (lines_of c.before.before.before.before.before.before.before.args.text.now) = omega (arith, l.invariant.2, c.before.loop-test.false, c.before.before.before.before.before.count.ensures.0) in
-    best-is _ _ c.before.before.before.before.before.before.before.requires.0.1 c.before.before.before.before.before.before.before.requires.1.0 c.before.before.before.before.before.before.before.requires.1.1 _ _ (rw all at l.invariant.0) (rw all at l.invariant.1) _ c.better.ensures
+    let l = c.loop-i in
+    let all : l.i ≡ length (lines_of c.args.text.now) = omega (arith, l.invariant.2, c.loop-i-test.false, c.count-n.ensures.value) in
+    best-is _ _ c.requires.readable.1 c.requires.le_w.0 c.requires.le_w.1 _ _ (rw all at l.invariant.0) (rw all at l.invariant.1) _ c.better.ensures

@@ -7,10 +7,10 @@ use Rattle.log_load.specs.Theory.Best.{tried-start}
 use Rattle.log_load.proofs.stretch.first_window.Goals as goal
 
 pub walk_to-to-requires : goal.walk_to-to-requires
-walk_to-to-requires c = let p = c.requires in let answer = (p.readable, (omega (arith, p.w_bound.1), walk_start _ p.readable.1 _)) in record { readable = answer.0; t_bound = answer.1; walked = answer.2 }
+walk_to-to-requires c = let p = (c.requires.readable, c.requires.w_bound) in record { readable = p.0; t_bound = omega (arith, p.1.1); walked = walk_start _ p.0.1 _ }
 
 pub returns : goal.returns
 returns c =
-    let p = c.requires in
+    let p = (c.requires.readable, c.requires.w_bound) in
     let t = c.walk_to-to.ensures in
-    λ place. tried-start _ _ p.readable.1 place _ _ p.w_bound.0 refl refl t.0 t.1
+    λ place. tried-start _ _ p.0.1 place _ _ p.1.0 refl refl t.walked_2 t.busy_value

@@ -12,7 +12,7 @@ use Rattle.log_load.proofs.stretch.walk_to.Goals as goal
 pub overflow_add-busy : goal.overflow_add-busy
 overflow_add-busy c =
     let done = walk-done _ c.requires.readable.1 c.loop-line.invariant in
-    omega (arith, done, c.requires.t_bound.0, c.less.ensures)
+    omega (arith, done, c.requires.t_bound, c.less.ensures)
 
 pub returns-then-t-l : goal.returns-then-t-l
 returns-then-t-l c =
@@ -25,7 +25,7 @@ returns-then-t-l c =
 pub overflow_add-done : goal.overflow_add-done
 overflow_add-done c =
     let done = walk-done _ c.requires.readable.1 c.loop-line.invariant in
-    omega (arith, done, c.requires.t_bound.0, c.before.before.before.Line-of.ensures.1.length)
+    omega (arith, done, c.requires.t_bound, c.before.before.before.Line-of.ensures.1.length)
 
 pub loop-line-preserved : goal.loop-line-preserved
 loop-line-preserved c =

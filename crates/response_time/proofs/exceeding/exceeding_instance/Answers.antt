@@ -18,12 +18,12 @@ own_distance-d-requires c = in-table-fine _ c.requires.ready_2.prepared.filled.t
 
 pub releases_before-instances-requires : goal.releases_before-instances-requires
 releases_before-instances-requires c =
-    let p = c.requires in
-    let f = in-table-fine _ p.ready_2.prepared.filled.table p.ready_2.listed in
-    (f.period-low, f.period-high, omega (arith, window-small _ _ _ _ p.own_fixed.1))
+    let p = (c.requires.ready_2, (c.requires.own_fixed, c.requires.choices_value)) in
+    let f = in-table-fine _ p.0.prepared.filled.table p.0.listed in
+    (f.period-low, f.period-high, omega (arith, window-small _ _ _ _ p.1.1))
 
 pub place-to-requires : goal.place-to-requires
-place-to-requires c = let p = c.requires.ready_2 in let answer = (p.prepared.filled, (p.target, search rules)) in record { filled = answer.0; fine_target = answer.1; area_len = answer.2 }
+place-to-requires c = let p = c.requires.ready_2 in record { filled = p.prepared.filled; fine_target = p.target; area_len = search rules }
 
 -- what the calls before the loop tell of the window
 windowed : (c : After-releases_before-instances) →
@@ -32,8 +32,8 @@ windowed c =
     record {
       accepted = c.requires.ready_2.prepared.filled.table;
       listed = c.requires.ready_2.listed;
-      fixed = c.requires.own_fixed.0;
-      window = c.requires.own_fixed.1;
+      fixed = c.requires.own_fixed;
+      window = c.requires.choices_value;
       number = c.releases_before-instances.ensures.value ∙ ap (λ d. releases_before d c.args.target.frame.period c.args.window) c.own_distance-d.ensures;
     }
 
@@ -46,64 +46,64 @@ fits c =
 
 pub shown_within-passed-requires : goal.shown_within-passed-requires
 shown_within-passed-requires c =
-    let f = fits (goal.at.shown_within-passed-requires c).At-loop-q in
-    let answer = (c.before.before.before.before.loop.invariant.0, ((c.before.before.before.before.before.before.before.before.before.before.before.before.before.before.requires.1.0, omega (arith, f.1)), (f.0, rw sub-zero c.before.before.before.before.before.before.place.ensures.0 ∙ placed-any _ c.before.before.before.before.before.before.before.before.before.before.before.before.before.before.args.target _ c.before.before.before.before.loop.q))) in record { ready_2 = answer.0; asked = answer.1; period_bound = answer.2; placed_value = answer.3 }
+    let f = fits (goal.at.shown_within-passed-requires c).In-loop-q in
+    record { ready_2 = c.loop-q.invariant.0; asked = (c.requires.own_fixed, omega (arith, f.1)); period_bound = f.0; placed_value = rw sub-zero c.place-to.ensures.area_after ∙ placed-any _ c.args.target _ c.loop-q.q }
 
 pub overflow_add-q : goal.overflow_add-q
-overflow_add-q c = record { fits = omega (arith, (fits (goal.at.overflow_add-q c).At-loop-q).1, c.shown_within-passed.ensures.small.0) }
+overflow_add-q c = record { fits = omega (arith, (fits (goal.at.overflow_add-q c).In-loop-q).1, c.shown_within-passed.ensures.small) }
 
 pub loop-q-smaller-then-passed-gt0 : goal.loop-q-smaller-then-passed-gt0
-loop-q-smaller-then-passed-gt0 c = omega (arith, c.before.before.before.before.before.before.before.before.before.before.loop-test.true, c.if-passed-gt0.true, c.lesser-q.ensures)
+loop-q-smaller-then-passed-gt0 c = omega (arith, c.loop-q-test.true, c.if-passed-gt0.true, c.lesser-q.ensures)
 
 pub fixed_point-found-requires : goal.fixed_point-found-requires
-fixed_point-found-requires c = let answer = (c.shown_within-passed.ensures.small.1, ((c.before.before.before.before.before.before.before.before.before.before.before.before.before.before.before.before.before.before.before.before.requires.1.0, omega (arith, (fits (goal.at.fixed_point-found-requires c).At-loop-q).1)), omega arith)) in record { ready_2 = answer.0; asked = answer.1; end_bound = answer.2 }
+fixed_point-found-requires c = record { ready_2 = c.shown_within-passed.ensures.ready; asked = (c.requires.own_fixed, omega (arith, (fits (goal.at.fixed_point-found-requires c).In-loop-q).1)); end_bound = omega arith }
 
 -- so is its end
-ends : (c : After-or_zero-delay) → c.or_zero-delay.result + c.before.before.before.before.before.before.before.before.before.before.before.before.before.before.before.before.before.before.before.before.before.before.before.before.args.target.frame.length ≤ 1000000
-ends c = loop-ends (windowed c.before.before.before.before.before.before.before.before.before.before.before.before.before.before.before.before.before.before) c.before.before.before.before.before.before.before.before.before.before.before.before.before.before.loop.invariant.1.turn c.before.before.before.before.before.before.before.before.before.before.before.before.before.loop-test.true c.fixed_point-found.ensures.value c.or_zero-delay.ensures
+ends : (c : After-or_zero-delay) → c.or_zero-delay.result + c.args.target.frame.length ≤ 1000000
+ends c = loop-ends (windowed c.before.before.before.before.before.before.before.before.before.before.before.before.before.before.before.before.before) c.loop-q.invariant.1.turn c.loop-q-test.true c.fixed_point-found.ensures.value c.or_zero-delay.ensures
 
 pub overflow_mul-q : goal.overflow_mul-q
-overflow_mul-q c = omega (arith, (fits (goal.at.overflow_mul-q c).At-loop-q).0)
+overflow_mul-q c = omega (arith, (fits (goal.at.overflow_mul-q c).In-loop-q).0)
 
 pub overflow_add-d : goal.overflow_add-d
-overflow_add-d c = omega (arith, (fits (goal.at.overflow_add-d c).At-loop-q).0, c.before.before.before.before.before.before.before.before.before.before.before.before.before.before.before.before.before.before.before.before.own-distance.ensures)
+overflow_add-d c = omega (arith, (fits (goal.at.overflow_add-d c).In-loop-q).0, c.own_distance-d.ensures)
 
 pub response-requires : goal.response-requires
-response-requires c = (omega (arith, ends (goal.at.response-requires c).After-or_zero-delay), (in-table-fine _ c.before.before.before.before.before.before.before.before.before.before.before.before.before.before.before.before.before.before.before.before.before.before.before.before.before.requires.0.prepared.filled.table c.before.before.before.before.before.before.before.before.before.before.before.before.before.before.before.before.before.before.before.before.before.before.before.before.before.requires.0.listed).length_high)
+response-requires c = (omega (arith, ends (goal.at.response-requires c).After-or_zero-delay), (in-table-fine _ c.requires.ready_2.prepared.filled.table c.requires.ready_2.listed).length_high)
 
 pub overflow_add-from : goal.overflow_add-from
 overflow_add-from c = omega (arith, ends (goal.at.overflow_add-from c).After-or_zero-delay)
 
 pub overflow_add-q-in-loop-q : goal.overflow_add-q-in-loop-q
-overflow_add-q-in-loop-q c = record { fits = omega (arith, (fits (goal.at.overflow_add-q-in-loop-q c).At-loop-q).1) }
+overflow_add-q-in-loop-q c = record { fits = omega (arith, (fits (goal.at.overflow_add-q-in-loop-q c).In-loop-q).1) }
 
 pub loop-q-smaller : goal.loop-q-smaller
-loop-q-smaller c = omega (arith, c.before.before.before.before.before.before.before.before.before.before.before.before.before.before.before.before.before.loop-test.true)
+loop-q-smaller c = omega (arith, c.loop-q-test.true)
 
 pub loop-q-init : goal.loop-q-init
 loop-q-init c = (c.requires.ready_2, claim-start (windowed (goal.at.loop-q-init c).After-releases_before-instances))
 
 pub loop-q-preserved-then-passed-gt0 : goal.loop-q-preserved-then-passed-gt0
 loop-q-preserved-then-passed-gt0 c =
-    let l = c.before.before.before.before.before.before.before.before.before.before.before.loop in
+    let l = c.loop-q in
     let r = c.shown_within-passed.ensures in
-    (r.1.1, rw c.lesser-q.ensures (claim-skip (windowed (goal.at.loop-q-preserved-then-passed-gt0 c).After-own_distance-d) l.invariant.1 c.shown_within-passed.result.count (λ i less. shown-response _ _ _ _ (l.q + i) c.before.before.before.before.before.before.before.before.before.before.before.before.before.before.before.before.before.before.before.before.before.args.claim (r.0 i less))))
+    (r.ready, rw c.lesser-q.ensures (claim-skip (windowed (goal.at.loop-q-preserved-then-passed-gt0 c).After-releases_before-instances) l.invariant.1 c.shown_within-passed.result.count (λ i less. shown-response _ _ _ _ (l.q + i) c.args.claim (r.by_index i less))))
 
 -- its response, by the release that is defined
-is : (c : After-response) → c.response.result ≡ c.or_zero-delay.result + c.before.before.before.before.before.before.before.before.before.before.before.before.before.before.before.before.before.before.before.before.before.before.before.before.before.before.args.target.frame.length - (own_distance c.before.before.before.before.before.before.before.before.before.before.before.before.before.before.before.before.before.before.before.before.before.before.before.before.before.before.args.target.frame c.before.before.before.before.before.before.before.before.before.before.before.before.before.before.before.before.before.before.before.before.before.before.before.before.before.before.args.choices + c.before.before.before.before.before.before.before.before.before.before.before.before.before.before.before.before.loop.q * c.before.before.before.before.before.before.before.before.before.before.before.before.before.before.before.before.before.before.before.before.before.before.before.before.before.before.args.target.frame.period)
-is c = c.response.ensures ∙ ap (λ d. c.or_zero-delay.result + c.before.before.before.before.before.before.before.before.before.before.before.before.before.before.before.before.before.before.before.before.before.before.before.before.before.before.args.target.frame.length - (d + c.before.before.before.before.before.before.before.before.before.before.before.before.before.before.before.before.loop.q * c.before.before.before.before.before.before.before.before.before.before.before.before.before.before.before.before.before.before.before.before.before.before.before.before.before.before.args.target.frame.period)) c.before.before.before.before.before.before.before.before.before.before.before.before.before.before.before.before.before.before.before.before.before.own-distance.ensures
+is : (c : After-response) → c.response.result ≡ c.or_zero-delay.result + c.args.target.frame.length - (own_distance c.args.target.frame c.args.choices + c.loop-q.q * c.args.target.frame.period)
+is c = c.response.ensures ∙ ap (λ d. c.or_zero-delay.result + c.args.target.frame.length - (d + c.loop-q.q * c.args.target.frame.period)) c.own_distance-d.ensures
 
 pub overflow_add-result : goal.overflow_add-result
-overflow_add-result c = record { fits = omega (arith, (fits (goal.at.overflow_add-result c).At-loop-q).1) }
+overflow_add-result c = record { fits = omega (arith, (fits (goal.at.overflow_add-result c).In-loop-q).1) }
 
 pub shape_of-memory-then-claim-response : goal.shape_of-memory-then-claim-response
-shape_of-memory-then-claim-response c = c.fixed_point-found.ensures.ready.remembered.size ∙ sym c.before.before.before.before.before.before.before.before.before.before.before.before.before.before.before.before.before.before.before.before.before.before.before.before.before.before.before.requires.0.remembered.size
+shape_of-memory-then-claim-response c = c.fixed_point-found.ensures.ready.remembered.size ∙ sym c.requires.ready_2.remembered.size
 
 pub returns-then-claim-response : goal.returns-then-claim-response
-returns-then-claim-response c = record { value = claim-here (windowed (goal.at.returns-then-claim-response c).After-own_distance-d) c.before.before.before.before.before.before.before.before.before.before.before.before.before.before.before.before.before.loop.invariant.1 c.before.before.before.before.before.before.before.before.before.before.before.before.before.before.before.before.loop-test.true c.fixed_point-found.ensures.value c.or_zero-delay.ensures (is (goal.at.returns-then-claim-response c).After-response) c.if-claim-response.true; ready = c.fixed_point-found.ensures.ready }
+returns-then-claim-response c = record { value = claim-here (windowed (goal.at.returns-then-claim-response c).After-releases_before-instances) c.loop-q.invariant.1 c.loop-q-test.true c.fixed_point-found.ensures.value c.or_zero-delay.ensures (is (goal.at.returns-then-claim-response c).After-response) c.if-claim-response.true; ready = c.fixed_point-found.ensures.ready }
 
 pub loop-q-preserved : goal.loop-q-preserved
-loop-q-preserved c = (c.fixed_point-found.ensures.ready, claim-more (windowed (goal.at.loop-q-preserved c).After-own_distance-d) c.before.before.before.before.before.before.before.before.before.before.before.before.before.before.before.before.before.before.loop.invariant.1 c.before.before.before.before.before.before.before.before.before.before.before.before.before.before.before.before.before.loop-test.true c.fixed_point-found.ensures.value c.or_zero-delay.ensures (is (goal.at.loop-q-preserved c).After-response) c.if-claim-response.false)
+loop-q-preserved c = (c.fixed_point-found.ensures.ready, claim-more (windowed (goal.at.loop-q-preserved c).After-releases_before-instances) c.loop-q.invariant.1 c.loop-q-test.true c.fixed_point-found.ensures.value c.or_zero-delay.ensures (is (goal.at.loop-q-preserved c).After-response) c.if-claim-response.false)
 
 pub shape_of-memory : goal.shape_of-memory
 shape_of-memory c = c.loop-q.invariant.0.remembered.size ∙ sym c.requires.ready_2.remembered.size

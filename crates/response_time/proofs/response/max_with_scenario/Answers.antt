@@ -8,7 +8,7 @@ use Rattle.response_time.specs.Laws.Within.{reach-none}
 use Rattle.response_time.proofs.response.max_with_scenario.Goals as goal
 
 pub returns-then-reach-eq0 : goal.returns-then-reach-eq0
-returns-then-reach-eq0 c = record { value = omega (arith, reach-none _ _ _ _ (rw c.if-reach-eq0.true at c.requires.own_fixed.1)); ready = c.requires.ready_2 }
+returns-then-reach-eq0 c = record { value = omega (arith, reach-none _ _ _ _ (rw c.if-reach-eq0.true at c.requires.reaches)); ready = c.requires.ready_2 }
 
 pub shape_of-memory-then-sweep-eq0 : goal.shape_of-memory-then-sweep-eq0
 shape_of-memory-then-sweep-eq0 c = c.sweep.ensures.ready.remembered.size ∙ sym c.requires.ready_2.remembered.size
@@ -28,7 +28,7 @@ returns-in_default c =
     record { value = omega (arith, none); ready = c.busy_window-found.ensures.ready }
 
 pub max_with_window-requires : goal.max_with_window-requires
-max_with_window-requires c = let answer = (c.busy_window-found.ensures.ready, (c.requires.own_fixed.0, sym c.busy_window-found.ensures.value ∙ c.in-At.is)) in record { ready_2 = answer.0; own_fixed = answer.1; choices_value = answer.2 }
+max_with_window-requires c = record { ready_2 = c.busy_window-found.ensures.ready; own_fixed = c.requires.own_fixed; choices_value = sym c.busy_window-found.ensures.value ∙ c.in-At.is }
 
 pub shape_of-memory : goal.shape_of-memory
 shape_of-memory c = c.max_with_window.ensures.ready.remembered.size ∙ sym c.requires.ready_2.remembered.size

@@ -14,22 +14,20 @@ use Rattle.response_time.proofs.search.climb_guessed.Goals as goal
 use Rattle.response_time.proofs.search.climb_guessed.Goals.{After-place-to}
 
 pub place-to-requires : goal.place-to-requires
-place-to-requires c = let p = c.requires.ready in let answer = (p.prepared.filled, (p.target, search rules)) in record { filled = answer.0; fine_target = answer.1; area_len = answer.2 }
+place-to-requires c = let p = c.requires.ready in record { filled = p.prepared.filled; fine_target = p.target; area_len = search rules }
 
 pub waits_of-requires : goal.waits_of-requires
-waits_of-requires c = let s = c.before.before.before.before.before.before.before.before.before.before in record { fine_target = s.requires.0.target; search_bound = base-small s.requires.0.prepared.filled.table s.requires.0.listed s.args.choices s.args.search s.requires.1.0 s.requires.0.blocked }
+waits_of-requires c = record { fine_target = c.requires.ready.target; search_bound = base-small c.requires.ready.prepared.filled.table c.requires.ready.listed c.args.choices c.args.search c.requires.asked c.requires.ready.blocked }
 
 -- the frames are those of the scenario with guesses
-placed : (c : After-place-to) → placed_in (take (4 * c.place-to.result - 0) c.place-to.new.prepared.1.1.1.1.0) ≡ placed_out (table_of c.args.rows.now c.args.prepared.now) c.args.target c.args.search c.guessed-finer.result
+placed : (c : After-place-to) → placed_in (take (4 * c.place-to.result - 0) c.place-to.new.area) ≡ placed_out (table_of c.args.rows.now c.args.prepared.now) c.args.target c.args.search c.guessed-finer.result
 placed c = rw sub-zero c.place-to.ensures.area_after
 
 pub climb-requires : goal.climb-requires
 climb-requires c =
-    let s = c.before.before.before.before.before.before.before.before.before.before.before in
-    record { fine_placed = rw (placed (goal.at.climb-requires c).After-area-1) (placed-fine s.requires.0.prepared.filled.table s.requires.0.target s.args.search c.before.before.before.before.before.before.before.guessed.result); shift_bound = (c.before.Shift-of.ensures.1, c.waits_of.ensures.small, s.requires.1.1) }
+    record { fine_placed = rw (placed (goal.at.climb-requires c).After-place-to) (placed-fine c.requires.ready.prepared.filled.table c.requires.ready.target c.args.search c.guessed-finer.result); shift_bound = (c.before.Shift-of.ensures.1, c.waits_of.ensures.small, c.requires.end_bound) }
 
 pub returns : goal.returns
 returns c =
-    let s = c.before.before.before.before.before.before.before.before.before.before.before.before in
-    let same = placed-search s.requires.0.prepared.filled.table s.requires.0.target s.requires.0.blocked s.requires.0.cost c.before.before.before.before.before.before.before.before.guessed.result c.before.before.before.before.before.before.before.before.guessed.ensures.1 s.args.search (placed (goal.at.returns c).After-area-1) c.before.before.Shift-of.ensures.0 c.waits_of.ensures.value in
-    (c.before.before.before.before.before.before.before.before.guessed.result, c.before.before.before.before.before.before.before.before.guessed.ensures.0, c.climb.ensures ∙ ap (λ (p : ℕ → Bool). least p (s.args.end - s.args.from) s.args.from) same)
+    let same = placed-search c.requires.ready.prepared.filled.table c.requires.ready.target c.requires.ready.blocked c.requires.ready.cost c.guessed-finer.result c.guessed-finer.ensures.fixed c.args.search (placed (goal.at.returns c).After-place-to) c.before.before.Shift-of.ensures.0 c.waits_of.ensures.value in
+    (c.guessed-finer.result, c.guessed-finer.ensures.refined_by, c.climb.ensures ∙ ap (λ (p : ℕ → Bool). least p (c.args.end - c.args.from) c.args.from) same)

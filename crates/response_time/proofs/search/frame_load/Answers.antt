@@ -13,55 +13,55 @@ use Rattle.response_time.proofs.search.frame_load.Goals as goal
 use Rattle.response_time.proofs.search.frame_load.Goals.{After-base_of-base, After-own_demand}
 
 pub whole_work-requires : goal.whole_work-requires
-whole_work-requires c = record { ready_2 = c.requires.ready_2; n_bound = omega (arith, c.requires.asked.1) }
+whole_work-requires c = record { ready_2 = c.requires.ready_2; n_bound = omega (arith, c.requires.x_bound) }
 
 -- what is waited for besides is small,
 small : (c : After-base_of-base) → c.base_of-base.result ≤ 1000000000
-small c = omega (arith, c.base_of-base.ensures, base-small c.requires.ready_2.prepared.filled.table c.requires.ready_2.listed c.args.choices c.args.search c.requires.asked.0 c.requires.ready_2.blocked)
+small c = omega (arith, c.base_of-base.ensures, base-small c.requires.ready_2.prepared.filled.table c.requires.ready_2.listed c.args.choices c.args.search c.requires.asked c.requires.ready_2.blocked)
 
 -- and it is told by the blocking
 based : (c : After-base_of-base) → let a = c.args in c.base_of-base.result ≡ base_of (blocking (table_of a.rows.now a.prepared.now) a.target.frame) a.target.frame a.search
 based c = c.base_of-base.ensures ∙ ap (λ (b : ℕ). base_of b c.args.target.frame c.args.search) c.requires.ready_2.blocked
 
 pub overflow_add-result : goal.overflow_add-result
-overflow_add-result c = omega (arith, small (goal.at.overflow_add-result c).After-base_of-base, c.whole_work.ensures.small.0)
+overflow_add-result c = omega (arith, small (goal.at.overflow_add-result c).After-base_of-base, c.whole_work.ensures.small)
 
 pub overflow_add-x : goal.overflow_add-x
-overflow_add-x c = omega (arith, c.requires.asked.1)
+overflow_add-x c = omega (arith, c.requires.x_bound)
 
 pub whole_work-all-requires : goal.whole_work-all-requires
-whole_work-all-requires c = record { ready_2 = c.requires.ready_2; n_bound = omega (arith, c.requires.asked.1) }
+whole_work-all-requires c = record { ready_2 = c.requires.ready_2; n_bound = omega (arith, c.requires.x_bound) }
 
 pub overflow_add-x-in-Instance : goal.overflow_add-x-in-Instance
-overflow_add-x-in-Instance c = omega (arith, c.before.before.before.before.before.before.before.before.before.before.requires.1.1)
+overflow_add-x-in-Instance c = omega (arith, c.requires.x_bound)
 
 pub own_demand-requires : goal.own_demand-requires
-own_demand-requires c = record { fine = in-table-fine _ c.before.before.before.before.before.before.before.before.before.before.requires.0.prepared.filled.table c.before.before.before.before.before.before.before.before.before.before.requires.0.listed; n_bound = omega (arith, c.before.before.before.before.before.before.before.before.before.before.requires.1.1) }
+own_demand-requires c = record { fine = in-table-fine _ c.requires.ready_2.prepared.filled.table c.requires.ready_2.listed; n_bound = omega (arith, c.requires.x_bound) }
 
 -- k's demand is a part of the work, and what is left gives the load
 loads : (c : After-own_demand) →
-    let a = c.before.before.before.before.before.before.before.before.before.before.before.args in
+    let a = c.args in
     let fs = table_of a.rows.now a.prepared.now in
-    (c.own_demand.result ≤ c.before.before.before.whole-work2.result)
-    × (blocking fs a.target.frame + c.before.before.before.before.before.enum-told2.given.0.0 * a.target.frame.length + (c.before.before.before.whole-work2.result - c.own_demand.result) ≡ frame_load fs a.target.frame a.choices (Instance c.before.before.before.before.before.enum-told2.given.0.0) a.x)
+    (c.own_demand.result ≤ c.whole_work-all.result)
+    × (blocking fs a.target.frame + c.in-Instance.field-0 * a.target.frame.length + (c.whole_work-all.result - c.own_demand.result) ≡ frame_load fs a.target.frame a.choices (Instance c.in-Instance.field-0) a.x)
 loads c =
-    let (own, few) = subst (Asked c.before.before.before.before.before.before.before.before.before.before.before.args.target.frame c.before.before.before.before.before.before.before.before.before.before.before.args.choices) c.before.before.before.before.before.enum-told2.given.1 c.before.before.before.before.before.before.before.before.before.before.before.requires.1.0 in
-    start-load c.before.before.before.before.before.before.before.before.before.before.before.requires.0.prepared.filled.table.valid c.before.before.before.before.before.before.before.before.before.before.before.requires.0.listed c.before.before.before.before.before.before.before.before.before.before.before.args.choices own.1 c.before.before.before.before.before.enum-told2.given.0.0 c.before.before.before.before.before.before.before.before.before.before.before.args.x c.before.before.before.whole-work2.ensures.0 (c.own_demand.ensures own.0 own.1)
+    let (own, few) = subst (Asked c.args.target.frame c.args.choices) c.in-Instance.is c.requires.asked in
+    start-load c.requires.ready_2.prepared.filled.table.valid c.requires.ready_2.listed c.args.choices own.1 c.in-Instance.field-0 c.args.x c.whole_work-all.ensures.value (c.own_demand.ensures own.0 own.1)
 
 pub overflow_sub-result : goal.overflow_sub-result
 overflow_sub-result c = (loads (c)).0
 
 pub overflow_add-result-in-Instance : goal.overflow_add-result-in-Instance
-overflow_add-result-in-Instance c = omega (arith, small (goal.at.overflow_add-result-in-Instance c).In-Instance-1, c.before.before.before.whole-work2.ensures.1.0)
+overflow_add-result-in-Instance c = omega (arith, small (goal.at.overflow_add-result-in-Instance c).After-base_of-base, c.whole_work-all.ensures.small)
 
 pub returns-in-Window : goal.returns-in-Window
 unfolding base_of
 returns-in-Window c =
     let is = c.in-Window.is in
-    let answer = (rw is (ap₂ ◌+◌ (rw is at (based (goal.at.returns-in-Window c).After-base_of-base)) c.whole_work.ensures.value), (omega (arith, small (goal.at.returns-in-Window c).After-base_of-base, c.whole_work.ensures.small.0), c.whole_work.ensures.small.1)) in record { value = answer.0; small = answer.1; ready = answer.2 }
+    record { value = rw is (ap₂ ◌+◌ (rw is at (based (goal.at.returns-in-Window c).After-base_of-base)) c.whole_work.ensures.value); small = omega (arith, small (goal.at.returns-in-Window c).After-base_of-base, c.whole_work.ensures.small); ready = c.whole_work.ensures.ready }
 
 pub returns-in-Instance : goal.returns-in-Instance
 unfolding base_of
 returns-in-Instance c =
-    let is = c.before.before.before.before.before.enum-told2.given.1 in
-    let answer = (rw is (ap (λ (b : ℕ). b + (c.before.before.before.whole-work2.result - c.own_demand.result)) (rw is at (based (goal.at.returns-in-Instance c).In-Instance-1)) ∙ (loads (c)).1), (omega (arith, small (goal.at.returns-in-Instance c).In-Instance-1, c.before.before.before.whole-work2.ensures.1.0), c.before.before.before.whole-work2.ensures.1.1)) in record { value = answer.0; small = answer.1; ready = answer.2 }
+    let is = c.in-Instance.is in
+    record { value = rw is (ap (λ (b : ℕ). b + (c.whole_work-all.result - c.own_demand.result)) (rw is at (based (goal.at.returns-in-Instance c).After-base_of-base)) ∙ (loads (c)).1); small = omega (arith, small (goal.at.returns-in-Instance c).After-base_of-base, c.whole_work-all.ensures.small); ready = c.whole_work-all.ensures.ready }

@@ -10,6 +10,6 @@ use Rattle.response_time.proofs.search.waits_of.Goals as goal
 pub returns : goal.returns
 unfolding waits_of
 returns c =
-    let base = c.before.before.base-of.ensures in
+    let base = c.base_of.ensures in
     let cost = c.fault_cost.ensures in
-    record { value = ap₂ ◌+◌ base (cost.0 ∙ ap (λ (n : ℕ). faults_in c.before.before.before.args.target.faults n * c.before.before.before.args.target.cost) c.lead_of.ensures.value); small = omega (arith, base, c.before.before.before.requires.1, cost.1) }
+    record { value = ap₂ ◌+◌ base (cost.value ∙ ap (λ (n : ℕ). faults_in c.args.target.faults n * c.args.target.cost) c.lead_of.ensures.value); small = omega (arith, base, c.requires.search_bound, cost.small) }

@@ -24,7 +24,7 @@ count_shown-requires c = (c.requires.in_bounds.0, omega (arith, c.requires.in_bo
 pub returns-then-needed-x : goal.returns-then-needed-x
 returns-then-needed-x c =
     let shown = c.count_shown.ensures in
-    record { shows_placed = λ i less. (c.if-latest-x.false, omega (arith, shown.0 i less, c.placed_work.ensures.value)); small = shown.1 }
+    record { shows_placed = λ i less. (c.if-latest-x.false, omega (arith, shown.by_index i less, c.placed_work.ensures.value)); small = shown.small }
 
 pub returns-then-latest-needed : goal.returns-then-latest-needed
 returns-then-latest-needed c = record { shows_placed = λ i less. absurd (omega arith); small = omega arith }

@@ -15,7 +15,7 @@ unfolding bound_row bound_checked
 returns-then-rows-row c = rw (both-loaded c.args.lengths c.args.rows.now c.requires, le-leb _ _ c.if-rows-row.true)
 
 pub decide-bound-requires : goal.decide-bound-requires
-decide-bound-requires c = let answer = (c.requires, (row_inside c.args.lengths c.args.rows.now c.if-rows-row.false, fine-never)) in record { loadable = answer.0; i_in_bounds = answer.1; fine_faults = answer.2 }
+decide-bound-requires c = record { loadable = c.requires; i_in_bounds = row_inside c.args.lengths c.args.rows.now c.if-rows-row.false; fine_faults = fine-never }
 
 pub overflow_cast-row : goal.overflow_cast-row
 overflow_cast-row c = omega (arith, c.if-rows-row.false, (accepted-size _ c.requires.1).most)

@@ -4,12 +4,12 @@ use borrow.Author.Rules.{rules}
 use Rattle.row_judgement.proofs.decide.prepare_row.Goals as goal
 
 pub frame_blocking-blocked-requires : goal.frame_blocking-blocked-requires
-frame_blocking-blocked-requires c = c.before.before.before.prepare.ensures.1.filled
+frame_blocking-blocked-requires c = c.prepare.ensures.prepared.filled
 
 pub fault_time-cost-requires : goal.fault_time-cost-requires
-fault_time-cost-requires c = c.before.before.before.before.before.prepare.ensures.1.filled
+fault_time-cost-requires c = c.prepare.ensures.prepared.filled
 
 pub returns : goal.returns
 returns c =
-    let prepare = c.before.before.before.before.before.before.prepare.ensures in
-    let answer = (prepare.0, ((c.before.before.before.before.before.before.before.before.frame.ensures, refl), (prepare.1, c.before.before.frame-blocking.ensures, c.fault_time-cost.ensures))) in record { prepared_after = answer.0; target = answer.1; prepared = answer.2 }
+    let prepare = c.prepare.ensures in
+    record { prepared_after = prepare.area_after; target = (c.frame-k.ensures, refl); prepared = (prepare.prepared, c.frame_blocking-blocked.ensures, c.fault_time-cost.ensures) }

@@ -20,18 +20,18 @@ passed c = sym c.check_loaded-checked.ensures.value ∙ c.in-Passed.is
 pub returns-then-rows-row : goal.returns-then-rows-row
 unfolding judge_row judge_checked
 returns-then-rows-row c =
-    let answer = explained-told c.args.lengths c.args.rows.now c.args.row (c.turned_back-then-rows-row.ensures ∙ refused-beside Never c.args.lengths c.args.rows.now c.args.row _ (rw (passed (goal.at.returns-then-rows-row c).In-Passed, le-leb _ _ c.if-rows-row.true))) in record { value = answer.0; never_late = answer.1; in_numbers = answer.2 }
+    let answer = explained-told c.args.lengths c.args.rows.now c.args.row (c.turned_back-then-rows-row.ensures ∙ refused-beside Never c.args.lengths c.args.rows.now c.args.row _ (rw (passed (goal.at.returns-then-rows-row c).In-Passed, le-leb _ _ c.if-rows-row.true))) in record { value = answer.0; never_late = answer.1.0; in_numbers = answer.1.1 }
 
 pub explain_row-requires : goal.explain_row-requires
 explain_row-requires c =
-    let answer = (loaded-both c.args.lengths c.args.rows.now (passed (goal.at.explain_row-requires c).In-Passed), (row_inside c.args.lengths c.args.rows.now c.if-rows-row.false, fine-never)) in record { loadable = answer.0; i_in_bounds = answer.1; fine_faults = answer.2 }
+    record { loadable = loaded-both c.args.lengths c.args.rows.now (passed (goal.at.explain_row-requires c).In-Passed); i_in_bounds = row_inside c.args.lengths c.args.rows.now c.if-rows-row.false; fine_faults = fine-never }
 
 pub returns-in-Failed : goal.returns-in-Failed
 unfolding judge_row judge_checked
 returns-in-Failed c =
-    let answer = explained-told c.args.lengths c.args.rows.now c.args.row (c.turned_back.ensures ∙ refused-beside Never c.args.lengths c.args.rows.now c.args.row _ (rw (sym c.check_loaded-checked.ensures.value ∙ c.in-Failed.is, c.of_table.ensures))) in record { value = answer.0; never_late = answer.1; in_numbers = answer.2 }
+    let answer = explained-told c.args.lengths c.args.rows.now c.args.row (c.turned_back.ensures ∙ refused-beside Never c.args.lengths c.args.rows.now c.args.row _ (rw (sym c.check_loaded-checked.ensures.value ∙ c.in-Failed.is, c.of_table.ensures))) in record { value = answer.0; never_late = answer.1.0; in_numbers = answer.1.1 }
 
 pub returns-else-rows-row : goal.returns-else-rows-row
 unfolding judge_row judge_checked
 returns-else-rows-row c =
-    let answer = explained-told c.args.lengths c.args.rows.now c.args.row (c.explain_row.ensures ∙ judged-beside Never c.args.lengths c.args.rows.now c.args.row _ (rw (passed (goal.at.returns-else-rows-row c).In-Passed, lt-leb _ _ c.if-rows-row.false))) in record { value = answer.0; never_late = answer.1; in_numbers = answer.2 }
+    let answer = explained-told c.args.lengths c.args.rows.now c.args.row (c.explain_row.ensures ∙ judged-beside Never c.args.lengths c.args.rows.now c.args.row _ (rw (passed (goal.at.returns-else-rows-row c).In-Passed, lt-leb _ _ c.if-rows-row.false))) in record { value = answer.0; never_late = answer.1.0; in_numbers = answer.1.1 }

@@ -16,9 +16,9 @@ pub returns-in-Failed : goal.returns-in-Failed
 unfolding judge_row judge_checked
 returns-in-Failed c =
     let a = c.args in
-    let answer = judged-told a.lengths a.rows.now a.row (rw (sym c.check_loaded-checked.ensures.value ∙ c.in-Failed.is, c.of_table.ensures)) in record { value = answer.0; never_late = answer.1; margin_sign = answer.2; in_numbers = answer.3 }
+    let answer = judged-told a.lengths a.rows.now a.row (rw (sym c.check_loaded-checked.ensures.value ∙ c.in-Failed.is, c.of_table.ensures)) in record { value = answer.0; never_late = answer.1.0; margin_sign = answer.1.1.0; in_numbers = answer.1.1.1 }
 
 pub returns-in-Passed : goal.returns-in-Passed
 returns-in-Passed c =
     let a = c.args in
-    let answer = judged-told a.lengths a.rows.now a.row c.judge_accepted.ensures in record { value = answer.0; never_late = answer.1; margin_sign = answer.2; in_numbers = answer.3 }
+    let answer = judged-told a.lengths a.rows.now a.row c.judge_accepted.ensures in record { value = answer.0; never_late = answer.1.0; margin_sign = answer.1.1.0; in_numbers = answer.1.1.1 }

@@ -12,7 +12,7 @@ unfolding judge_row judge_checked
 returns-then-rows-row c = rw (both-loaded c.args.lengths c.args.rows.now c.requires, le-leb _ _ c.if-rows-row.true)
 
 pub judge_row-requires : goal.judge_row-requires
-judge_row-requires c = let answer = (c.requires, (row_inside c.args.lengths c.args.rows.now c.if-rows-row.false, fine-never)) in record { loadable = answer.0; i_in_bounds = answer.1; fine_faults = answer.2 }
+judge_row-requires c = record { loadable = c.requires; i_in_bounds = row_inside c.args.lengths c.args.rows.now c.if-rows-row.false; fine_faults = fine-never }
 
 pub returns : goal.returns
 unfolding judge_row judge_checked

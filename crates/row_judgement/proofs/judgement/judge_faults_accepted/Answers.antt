@@ -23,7 +23,7 @@ overflow_cast-ticks c = omega (arith, gap_within c.args.gap (gap c))
 
 pub judge_row-requires : goal.judge_row-requires
 judge_row-requires c =
-    let answer = (c.requires, (row_inside c.args.lengths c.args.rows.now c.if-rows-row.false, gap-fine c.args.gap (gap c))) in record { loadable = answer.0; i_in_bounds = answer.1; fine_faults = answer.2 }
+    record { loadable = c.requires; i_in_bounds = row_inside c.args.lengths c.args.rows.now c.if-rows-row.false; fine_faults = gap-fine c.args.gap (gap c) }
 
 pub returns-then-is_gap : goal.returns-then-is_gap
 unfolding judge_faults judge_faults_checked

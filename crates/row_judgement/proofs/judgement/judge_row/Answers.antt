@@ -12,7 +12,7 @@ use Rattle.row_judgement.proofs.judgement.judge_row.Goals as goal
 use Rattle.row_judgement.proofs.judgement.judge_row.Goals.{Start}
 
 place : (c : Start) → (columns * c.args.i + claim_column < length c.args.rows.now) × (length c.args.rows.now ≤ most_numbers)
-place c = claim-inside c.args.lengths c.args.rows.now c.requires.loadable.1 c.requires.i_in_bounds.0
+place c = claim-inside c.args.lengths c.args.rows.now c.requires.loadable.1 c.requires.i_in_bounds
 
 pub overflow_mul-claim : goal.overflow_mul-claim
 overflow_mul-claim c = record { fits = omega (arith, place (goal.at.overflow_mul-claim c).Start) }

@@ -11,8 +11,8 @@ simulate_accepted-requires c =
 
 pub returns-in-Failed : goal.returns-in-Failed
 returns-in-Failed c =
-    let answer = rows_told _ _ _ _ _ (left-refused _ _ _ _ _ _ (sym c.check_loaded-checked.ensures.value ∙ c.in-Failed.is)) in record { value = answer.0; out_after = answer.1; in_numbers = answer.2; accepted = answer.3 }
+    let answer = rows_told _ _ _ _ _ (left-refused _ _ _ _ _ _ (sym c.check_loaded-checked.ensures.value ∙ c.in-Failed.is)) in record { value = answer.0; out_after = answer.1.0; in_numbers = answer.1.1.0; accepted = answer.1.1.1 }
 
 pub returns-in-Passed : goal.returns-in-Passed
 returns-in-Passed c =
-    let answer = rows_told _ _ _ _ _ (left_passed _ _ _ _ _ (sym c.check_loaded-checked.ensures.value ∙ c.in-Passed.is) c.simulate_accepted.ensures) in record { value = answer.0; out_after = answer.1; in_numbers = answer.2; accepted = answer.3 }
+    let answer = rows_told _ _ _ _ _ (left_passed _ _ _ _ _ (sym c.check_loaded-checked.ensures.value ∙ c.in-Passed.is) (c.simulate_accepted.ensures.value, c.simulate_accepted.ensures.out_after)) in record { value = answer.0; out_after = answer.1.0; in_numbers = answer.1.1.0; accepted = answer.1.1.1 }

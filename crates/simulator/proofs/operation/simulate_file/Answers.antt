@@ -10,7 +10,7 @@ use Rattle.simulator.proofs.operation.simulate_file.Goals.{In-Done}
 read : (c : In-Done) → ReadRows c.args.file.now c.read-answer.new.rows c.in-Done.n
 read c =
     let both = c.read-answer.ensures in
-    read-rows _ _ _ refl both.0 _ _ both.1.0 c.in-Done.is
+    read-rows _ _ _ refl both.value _ _ both.rows_after c.in-Done.is
 
 pub slice_bounds-rows-end : goal.slice_bounds-rows-end
 slice_bounds-rows-end c = (read c).room
@@ -30,4 +30,4 @@ returns-in-Refused c =
 pub returns-in-Done : goal.returns-in-Done
 returns-in-Done c =
     let table = read (goal.at.returns-in-Done c).In-Done in
-    let answer = left_passed _ _ _ _ _ table.passed (rw (← table.rows) c.simulate_accepted.ensures) in record { value = answer.0; out_after = answer.1 }
+    let answer = left_passed _ _ _ _ _ table.passed (rw (← table.rows) (c.simulate_accepted.ensures.value, c.simulate_accepted.ensures.out_after)) in record { value = answer.0; out_after = answer.1 }

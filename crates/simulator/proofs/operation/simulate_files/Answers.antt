@@ -17,9 +17,9 @@ simulate_file-requires c = (loaded (goal.at.simulate_file-requires c).After-leng
 
 pub returns-in-Failed : goal.returns-in-Failed
 returns-in-Failed c =
-    let answer = files-told _ _ _ _ _ _ (left-refused _ _ _ _ _ _ (lengths-refused _ _ c.read-loaded.ensures.value c.in-Failed.is)) in record { value = answer.0; out_after = answer.1; in_numbers = answer.2 }
+    let answer = files-told _ _ _ _ _ _ (left-refused _ _ _ _ _ _ (lengths-refused _ _ c.read-loaded.ensures.value c.in-Failed.is)) in record { value = answer.0; out_after = answer.1.0; in_numbers = answer.1.1 }
 
 pub returns-in-Passed : goal.returns-in-Passed
 returns-in-Passed c =
     let l = loaded (goal.at.returns-in-Passed c).After-lengths_of in
-    let answer = files-told _ _ _ _ _ _ (rw (l.passed, ← l.is) c.simulate_file.ensures) in record { value = answer.0; out_after = answer.1; in_numbers = answer.2 }
+    let answer = files-told _ _ _ _ _ _ (rw (l.passed, ← l.is) (c.simulate_file.ensures.value, c.simulate_file.ensures.out_after)) in record { value = answer.0; out_after = answer.1.0; in_numbers = answer.1.1 }

@@ -8,4 +8,4 @@ use Rattle.simulator.proofs.operation.simulate_input.Goals as goal
 pub returns : goal.returns
 returns c =
     let xs : List ℕ = c.args.input.now in
-    rw (← first_part xs _ c.lengths_end-end.ensures, ← second-part xs _ c.lengths_end-end.ensures) c.simulate_files.ensures
+    rw (← first_part xs _ c.lengths_end-end.ensures, ← second-part xs _ c.lengths_end-end.ensures) (c.simulate_files.ensures.value, (c.simulate_files.ensures.out_after, c.simulate_files.ensures.in_numbers))

@@ -37,16 +37,16 @@ gather-count-requires c =
     record { rows_len_bound = c.requires.fine_table.few; group_in_bounds = omega (arith, r, mid_len n 128 c.loop-j.lists (omega (arith, c.loop-j.invariant.size, r))) }
 
 -- the area stays as long as it is
-size : (c : After-gather-count) → let n : ℕ = 64 + c.loop-j.listed in length (put_mid n (128 - n) c.loop-j.lists c.gather-count.new.rows.1.1.1.0) ≡ 128
-size c = let n : ℕ = 64 + c.loop-j.listed in same_len_mid n (128 - n) c.loop-j.lists c.gather-count.new.rows.1.1.1.0 c.gather-count.auto.1.1.1.1.0 ∙ c.loop-j.invariant.size
+size : (c : After-gather-count) → let n : ℕ = 64 + c.loop-j.listed in length (put_mid n (128 - n) c.loop-j.lists c.gather-count.new.area) ≡ 128
+size c = let n : ℕ = 64 + c.loop-j.listed in same_len_mid n (128 - n) c.loop-j.lists c.gather-count.new.area c.gather-count.auto.area ∙ c.loop-j.invariant.size
 
 -- what is read has the group's frames
-read : (c : After-gather-count) → let n : ℕ = 64 + c.loop-j.listed in frames_in (frames_of c.args.lengths c.args.rows.now) (mid_of n (n + c.gather-count.result - n) (put_mid n (128 - n) c.loop-j.lists c.gather-count.new.rows.1.1.1.0)) ≡ of_group (ahead (frames_of c.args.lengths c.args.rows.now) c.args.k) (c.loop-j.j + 1)
+read : (c : After-gather-count) → let n : ℕ = 64 + c.loop-j.listed in frames_in (frames_of c.args.lengths c.args.rows.now) (mid_of n (n + c.gather-count.result - n) (put_mid n (128 - n) c.loop-j.lists c.gather-count.new.area)) ≡ of_group (ahead (frames_of c.args.lengths c.args.rows.now) c.args.k) (c.loop-j.j + 1)
 read c =
     let n : ℕ = 64 + c.loop-j.listed in
     let r = room c.before.before in
-    part-read (frames_of c.args.lengths c.args.rows.now) c.gather-count.result n c.loop-j.lists c.gather-count.new.rows.1.1.1.0 (omega (arith, r, c.loop-j.invariant.size))
-    (omega (arith, r, c.gather-count.ensures.count, c.gather-count.auto.1.1.1.1.0, mid_len n 128 c.loop-j.lists (omega (arith, c.loop-j.invariant.size, r))))
+    part-read (frames_of c.args.lengths c.args.rows.now) c.gather-count.result n c.loop-j.lists c.gather-count.new.area (omega (arith, r, c.loop-j.invariant.size))
+    (omega (arith, r, c.gather-count.ensures.count, c.gather-count.auto.area, mid_len n 128 c.loop-j.lists (omega (arith, c.loop-j.invariant.size, r))))
     ∙ c.gather-count.ensures.area_after
 
 pub overflow_add-to : goal.overflow_add-to
@@ -56,38 +56,37 @@ pub offset_bounds-lists-from-in-loop-j : goal.offset_bounds-lists-from-in-loop-j
 offset_bounds-lists-from-in-loop-j c = omega (arith, room (goal.at.offset_bounds-lists-from-in-loop-j c).In-loop-j, c.gather-count.ensures.count)
 
 pub slice_bounds-part_hyperperiod-end : goal.slice_bounds-part_hyperperiod-end
-slice_bounds-part_hyperperiod-end c = omega (arith, room (goal.at.slice_bounds-part_hyperperiod-end c).At-loop-j, c.before.before.before.gather.ensures.1, size (goal.at.slice_bounds-part_hyperperiod-end c).After-gather-arg-1)
+slice_bounds-part_hyperperiod-end c = omega (arith, room (goal.at.slice_bounds-part_hyperperiod-end c).In-loop-j, c.gather-count.ensures.count, size (goal.at.slice_bounds-part_hyperperiod-end c).After-gather-count)
 
 pub part_hyperperiod-cycle-requires : goal.part_hyperperiod-cycle-requires
-part_hyperperiod-cycle-requires c = let answer = part-within _ c.before.before.before.before.before.before.before.before.before.before.args.k _ (read (goal.at.part_hyperperiod-cycle-requires c).After-gather-arg-1) c.before.before.before.before.before.before.before.before.before.before.requires.0 (omega arith) (omega (arith, c.before.before.before.before.before.before.loop-test.true)) in record { fine = answer.0; part_bound = answer.1 }
+part_hyperperiod-cycle-requires c = let answer = part-within _ c.args.k _ (read (goal.at.part_hyperperiod-cycle-requires c).After-gather-count) c.requires.fine_table (omega arith) (omega (arith, c.loop-j-test.true)) in record { fine = answer.0; part_bound = answer.1 }
 
 pub overflow_cast-lists : goal.overflow_cast-lists
-overflow_cast-lists c = omega (arith, room (goal.at.overflow_cast-lists c).At-loop-j)
+overflow_cast-lists c = omega (arith, room (goal.at.overflow_cast-lists c).In-loop-j)
 
 pub bounds-lists-at : goal.bounds-lists-at
-bounds-lists-at c = omega (arith, size (goal.at.bounds-lists-at c).After-gather-arg-1, c.before.before.before.before.before.before.before.before.loop-test.true)
+bounds-lists-at c = omega (arith, size (goal.at.bounds-lists-at c).After-gather-count, c.loop-j-test.true)
 
 pub overflow_cast-lists-in-loop-j : goal.overflow_cast-lists-in-loop-j
-overflow_cast-lists-in-loop-j c = omega (arith, room (goal.at.overflow_cast-lists-in-loop-j c).At-loop-j, c.before.before.before.before.before.before.gather.ensures.1)
+overflow_cast-lists-in-loop-j c = omega (arith, room (goal.at.overflow_cast-lists-in-loop-j c).In-loop-j, c.gather-count.ensures.count)
 
 pub bounds-lists-at-in-loop-j : goal.bounds-lists-at-in-loop-j
-bounds-lists-at-in-loop-j c = simp length-set (omega (arith, size (goal.at.bounds-lists-at-in-loop-j c).After-gather-arg-1, c.before.before.before.before.before.before.before.before.loop-test.true))
+bounds-lists-at-in-loop-j c = simp length-set (omega (arith, size (goal.at.bounds-lists-at-in-loop-j c).After-gather-count, c.loop-j-test.true))
 
 pub bounds-lists-at-in-loop-j-2 : goal.bounds-lists-at-in-loop-j-2
-bounds-lists-at-in-loop-j-2 c = simp length-set (omega (arith, size (goal.at.bounds-lists-at-in-loop-j-2 c).After-gather-arg-1, c.before.before.before.before.before.before.before.before.loop-test.true))
+bounds-lists-at-in-loop-j-2 c = simp length-set (omega (arith, size (goal.at.bounds-lists-at-in-loop-j-2 c).After-gather-count, c.loop-j-test.true))
 
 pub bounds-lists-at-in-loop-j-3 : goal.bounds-lists-at-in-loop-j-3
-bounds-lists-at-in-loop-j-3 c = simp length-set (omega (arith, size (goal.at.bounds-lists-at-in-loop-j-3 c).After-gather-arg-1, c.before.before.before.before.before.before.before.before.loop-test.true))
+bounds-lists-at-in-loop-j-3 c = simp length-set (omega (arith, size (goal.at.bounds-lists-at-in-loop-j-3 c).After-gather-count, c.loop-j-test.true))
 
 pub overflow_add-listed : goal.overflow_add-listed
-overflow_add-listed c = omega (arith, room (goal.at.overflow_add-listed c).At-loop-j, c.before.before.before.before.before.before.gather.ensures.1)
+overflow_add-listed c = omega (arith, room (goal.at.overflow_add-listed c).In-loop-j, c.gather-count.ensures.count)
 
 pub loop-j-preserved : goal.loop-j-preserved
 loop-j-preserved c =
-    let s = c.before.before.before.before.before.before.before.before.before.before.before.before in
-    let g = c.before.before.before.before.before.before.gather in
-    listed_more s.requires.0 _ g.result c.part_hyperperiod-cycle.result c.group_hyperperiod-hyperperiod.result _ g.new.1.1.1.1.0 c.before.before.before.before.before.before.before.before.before.loop.invariant c.before.before.before.before.before.before.before.before.loop-test.true refl
-    g.auto.1.1.1.1.0 g.ensures.0 g.ensures.1 (c.part_hyperperiod-cycle.ensures ∙ part-turn _ s.args.k _ (read (goal.at.loop-j-preserved c).After-gather-arg-1)) c.group_hyperperiod-hyperperiod.ensures
+    let g = c.gather-count in
+    listed_more c.requires.fine_table _ g.result c.part_hyperperiod-cycle.result c.group_hyperperiod-hyperperiod.result _ g.new.1.1.1.1.0 c.loop-j.invariant c.loop-j-test.true refl
+    g.auto.1.1.1.1.0 g.ensures.0 g.ensures.1 (c.part_hyperperiod-cycle.ensures ∙ part-turn _ c.args.k _ (read (goal.at.loop-j-preserved c).After-gather-count)) c.group_hyperperiod-hyperperiod.ensures
 
 pub returns : goal.returns
 returns c = listed-all c.requires.fine_table _ c.loop-j.invariant c.loop-j-test.false

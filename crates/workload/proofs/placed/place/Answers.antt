@@ -7,4 +7,4 @@ pub returns : goal.returns
 returns c =
     let frames = c.place_frames-found.ensures in
     let faults = c.place_faults.ensures in
-    record { area_after = faults.0 ∙ ap (λ (xs : List Placed). xs ++ placed_faults c.before.before.before.before.before.before.before.before.before.before.before.args.target c.before.before.before.before.before.before.before.before.before.before.before.args.search) frames.0; few = faults.1 }
+    record { area_after = faults.area_after ∙ ap (λ (xs : List Placed). xs ++ placed_faults c.args.target c.args.search) frames.area_after; few = faults.few }

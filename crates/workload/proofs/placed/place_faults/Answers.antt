@@ -17,15 +17,14 @@ unfolding FineFaults
 premise c = rw c.in-Apart.is at c.requires.fine_target.premise
 
 pub first_fault-first-requires : goal.first_fault-first-requires
-first_fault-first-requires c = let p = premise (goal.at.first_fault-first-requires c).After-lead_of-arg-1 in (p.0, p.1, c.lead_of-lead.ensures.small)
+first_fault-first-requires c = let p = premise (goal.at.first_fault-first-requires c).In-Apart in (p.0, p.1, c.lead_of-lead.ensures.small)
 
 pub returns : goal.returns
 unfolding fault_frames
 returns c =
-    let told = c.before.before.before.before.before.before.before.faults.given in
     let first = c.first_fault-first in
     let lead = c.lead_of-lead in
-    let x : Placed = record { length = c.before.before.before.before.before.before.before.before.before.before.args.target.cost; period = told.0.0; first = first.result } in
-    let is : x ≡ fault_frame c.before.before.before.before.before.before.before.before.before.before.args.target.cost told.0.0 (lead_of c.before.before.before.before.before.before.before.before.before.before.args.search c.before.before.before.before.before.before.before.before.before.before.args.target.frame)
-    = ap {B = Placed} (λ (n : ℕ). record { length = c.before.before.before.before.before.before.before.before.before.before.args.target.cost; period = told.0.0; first = n }) (first.ensures ∙ ap (λ (n : ℕ). releases_before 0 told.0.0 n * told.0.0 - n) lead.ensures.value) in
-    record { area_after = rw told.1 (ap (λ (xs : List ℕ). placed_in (take (4 * (c.before.before.before.before.before.before.before.before.before.before.args.found + 1)) xs)) c.put.ensures ∙ placed-more c.before.before.before.before.before.before.before.before.before.before.args.area.now c.before.before.before.before.before.before.before.before.before.before.args.found c.before.before.before.before.before.before.before.before.before.before.requires.1.1 c.before.before.before.before.before.before.before.before.before.before.requires.1.0 x 0 ∙ ap {B = List Placed} (λ (y : Placed). placed_in (take (4 * c.before.before.before.before.before.before.before.before.before.before.args.found) c.before.before.before.before.before.before.before.before.before.before.args.area.now) ++ (y ∷ [])) is); few = omega (arith, c.before.before.before.before.before.before.before.before.before.before.requires.1.0) }
+    let x : Placed = record { length = c.args.target.cost; period = c.in-Apart.gap; first = first.result } in
+    let is : x ≡ fault_frame c.args.target.cost c.in-Apart.gap (lead_of c.args.search c.args.target.frame)
+    = ap {B = Placed} (λ (n : ℕ). record { length = c.args.target.cost; period = c.in-Apart.gap; first = n }) (first.ensures ∙ ap (λ (n : ℕ). releases_before 0 c.in-Apart.gap n * c.in-Apart.gap - n) lead.ensures.value) in
+    record { area_after = rw c.in-Apart.is (ap (λ (xs : List ℕ). placed_in (take (4 * (c.args.found + 1)) xs)) c.put.ensures ∙ placed-more c.args.area.now c.args.found c.requires.found_bound.1 c.requires.found_bound.0 x 0 ∙ ap {B = List Placed} (λ (y : Placed). placed_in (take (4 * c.args.found) c.args.area.now) ++ (y ∷ [])) is); few = omega (arith, c.requires.found_bound.0) }

@@ -11,8 +11,8 @@ by_group-requires c = record { fine_table = accepted-fine _ c.requires.0 _ c.req
 pub returns : goal.returns
 returns c =
     let xs = c.args.area.now in
-    let lists = c.by_group.new.rows.1.1.0 in
-    let first : length lists ≡ 128 = c.by_group.auto.1.1.1.0 ∙ mid_len 0 128 xs (omega (arith, c.requires.2)) in
-    let long : length (put_mid 0 (128 - 0) xs lists) ≡ 320 = same_len_mid 0 (128 - 0) xs lists c.by_group.auto.1.1.1.0 ∙ c.requires.2 in
-    let answer = prepared-all c.args.lengths xs lists c.fill.new.rows.1.0 c.requires.2 first (c.fill.auto.1.1.0 ∙ mid_len 128 320 (put_mid 0 (128 - 0) xs lists) (omega (arith, long)))
+    let lists = c.by_group.new.lists in
+    let first : length lists ≡ 128 = c.by_group.auto.lists ∙ mid_len 0 128 xs (omega (arith, c.requires.2)) in
+    let long : length (put_mid 0 (128 - 0) xs lists) ≡ 320 = same_len_mid 0 (128 - 0) xs lists c.by_group.auto.lists ∙ c.requires.2 in
+    let answer = prepared-all c.args.lengths xs lists c.fill.new.area c.requires.2 first (c.fill.auto.area ∙ mid_len 128 320 (put_mid 0 (128 - 0) xs lists) (omega (arith, long)))
     (accepted-fine _ c.requires.0 _ c.requires.1) c.by_group.ensures c.fill.ensures in record { area_after = answer.0; prepared = answer.1 }

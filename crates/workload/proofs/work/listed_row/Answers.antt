@@ -11,4 +11,4 @@ returns c =
     let fs = table_of c.args.rows.now c.args.prepared.now in
     let is = c.row_at.ensures ∙ ap (row fs) c.index.ensures in
     let listed : Mem c.row_at.result.frame (frames_in fs c.args.part.now) = rw is (part-listed fs c.args.part.now c.requires.i_in_bounds) in
-    let answer = (is, (listed, c.requires.fine_part.fine _ listed)) in record { frame_value = answer.0; listed = answer.1; fine = answer.2 }
+    record { frame_value = is; listed = listed; fine = c.requires.fine_part.fine _ listed }

@@ -5,4 +5,4 @@ use Rattle.workload.proofs.work.phase_of.Goals as goal
 
 pub returns : goal.returns
 unfolding phase
-returns c = let answer = c.remainder.ensures in record { value = answer.0; small = answer.1 }
+returns c = record { value = c.remainder.ensures.value; small = c.remainder.ensures.small }

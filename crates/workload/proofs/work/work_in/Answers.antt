@@ -10,9 +10,9 @@ loop-i-init c = sum-none
 
 pub loop-i-preserved : goal.loop-i-preserved
 loop-i-preserved c =
-    let a = c.before.before.before.before.before.before.before.args in
+    let a = c.args in
     let f : Frame → ℕ = λ g. demand g a.a a.n in
-    sum-next c.before.before.before.loop.invariant c.before.before.loop-test.true (c.frame_demand-sum.ensures.value ∙ ap f c.before.listed-row.ensures.0) c.frame_demand-sum.ensures.small
+    sum-next c.loop-i.invariant c.loop-i-test.true (c.frame_demand-sum.ensures.value ∙ ap f c.listed_row-r.ensures.frame_value) c.frame_demand-sum.ensures.small
 
 pub returns : goal.returns
 unfolding work_at
