@@ -242,7 +242,8 @@ class Function:
                 w, n, f = steps[v]
                 root, more = alias.get(w, (w, 0))
                 w, n = root, more + n
-                q = self.up(env[w], n)
+                far = [(abs(k - n), x) for k, x in enumerate(self.chain(env[w])) if norm(self.places[x][2][0]) == norm(f)]
+                q = min(far)[1] if far else self.up(env[w], n)
                 if fields == ["ensures"] and self.clauses(q):
                     out += tupled(v + ".ensures", self.clauses(q))
                 elif fields[0] == "ensures":
@@ -339,6 +340,20 @@ def tail_record(body, fields):
     if re.match(r"(omega|search|grind|rw|simp|cc|elim|let|λ|absurd)\b", t):
         return None
     return lead + "let answer = " + t + " in record { " + "; ".join(f"{f} = answer{'.1' * k}{'' if k == len(fields) - 1 else '.0'}" for k, f in enumerate(fields)) + " }" + pad
+
+
+def joins(fn, text, places):
+    """The cases of a join as an elim, where one branch's steps can be named."""
+    m = re.search(r"⊎_elim\s+\(λ (%s)\. (.*?)\)\s+\(λ (%s)\. (.*?)\)\s+(c\.(if-\S+)\.branch)" % (IDENT, IDENT), text, re.S)
+    if not m:
+        return text
+    word = m.group(6)[3:]
+    sides = []
+    for var, body, side, test in ((m.group(1), m.group(2), "then", "true"), (m.group(3), m.group(4), "else", "false")):
+        body = re.sub(r"(?<![\w.])%s\.0\.(?:taken|left)\b" % re.escape(var), f"{var}.{m.group(6)}.{test}", body)
+        sides.append(f"{side}-{word} {var} ↦ {body}")
+        places.add(f"{side}-{word}")
+    return text[: m.start()] + f"elim {m.group(5)} [ {sides[0]} | {sides[1]} ]" + text[m.end():]
 
 
 def turn(folder, path, data):
@@ -474,6 +489,10 @@ def turn(folder, path, data):
                     benv[g] = env[p]
         body = fn.convert(body, benv)
         out.append("\n".join(d.comment + [f"{d.head[0]}{name} : {typ}"] + d.unfolding + [body]))
+    # a pair that was taken apart
+    pair = r"let \(([^\s(),]+), ([^\s(),]+)\) = \(([^(),]*), ([^(),]*)\) in"
+    three = r"let \(([^\s(),]+), ([^\s(),]+), ([^\s(),]+)\) = \(([^(),]*), \(([^(),]*), ([^(),]*)\)\) in"
+    out[:] = [re.sub(three, r"let \1 = \4 in let \2 = \5 in let \3 = \6 in", re.sub(pair, r"let \1 = \3 in let \2 = \4 in", o)) for o in out]
     for k, a in enumerate(answers):
         if a in done or a in by_name:
             continue
@@ -485,6 +504,8 @@ def turn(folder, path, data):
         if re.match(r"search rules$", body):
             continue
         answer(k, None, [], [], f"x {m.group(1)} = {body}")
+    for k, o in enumerate(out):
+        out[k] = joins(fn, o, places)
     base = [u for u in uses if not re.search(r"\.(Statement\.\{statement\}|Tie as tie)$", u)]
     if inv:
         with open(folder + "/Invariants.antt", "w") as f:

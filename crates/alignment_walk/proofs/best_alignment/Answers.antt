@@ -20,7 +20,7 @@ use Rattle.alignment_walk.specs.Laws.Parts.{ended_at, ended-none}
 use Rattle.alignment_walk.specs.Laws.Steps.{noted-next, phase-late, work-split}
 use Rattle.alignment_walk.specs.Laws.Walk.{visits-are}
 use Rattle.alignment_walk.proofs.best_alignment.Goals as goal
-use Rattle.alignment_walk.proofs.best_alignment.Goals.{After-visit-v, Else-end-a, Joined-work-visited}
+use Rattle.alignment_walk.proofs.best_alignment.Goals.{After-visit-v, Else-end-a, Joined-work-visited, else-work-visited, then-work-visited}
 
 pub returns-in_default : goal.returns-in_default
 unfolding greatest or_empty
@@ -67,7 +67,7 @@ visits c =
 
 -- the greater work is kept
 greater : (c : Joined-work-visited) → c.if-work-visited.work ≡ max c.loop-work.work (c.begin-whole.result + c.visit-v.result.extra)
-greater c = ⊎_elim (λ w. omega (arith, w.0.taken, w.2)) (λ w. omega (arith, w.0.left, w.2)) c.if-work-visited.branch
+greater c = elim c.if-work-visited.branch [ then-work-visited w ↦ omega (arith, w.if-work-visited.true, w.2) | else-work-visited w ↦ omega (arith, w.if-work-visited.false, w.2) ]
 
 -- so the walk may leave the alignment
 step : (c : Joined-work-visited)
@@ -81,7 +81,7 @@ among : (c : Joined-work-visited)
     → Mem c.if-work-visited.alignment (instants_in (frames_in (table_of c.args.rows.now c.args.prepared.now) c.args.part.now) c.args.end)
 among c =
     let l = c.loop-work in
-    ⊎_elim (λ t. rw t.1 l.invariant.1) (λ t. rw t.1 l.invariant.3) c.if-work-visited.branch
+    elim c.if-work-visited.branch [ then-work-visited t ↦ rw t.1 l.invariant.1 | else-work-visited t ↦ rw t.1 l.invariant.3 ]
 
 pub overflow_add-visited : goal.overflow_add-visited
 overflow_add-visited c = omega (arith, c.begin-whole.ensures.small, c.visit-v.ensures.small.0)

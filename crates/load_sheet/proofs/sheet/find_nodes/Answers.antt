@@ -6,6 +6,7 @@ use borrow.Author.Rules.{rules}
 use Rattle.arith.specs.Laws.Gathering.{Gathered, range-room, gathered_none, gathered-room, gathered-put, gathered-skip, gathered-all}
 use Rattle.load_sheet.specs.Sheet.{has_frames, nodes_of}
 use Rattle.load_sheet.proofs.sheet.find_nodes.Goals as goal
+use Rattle.load_sheet.proofs.sheet.find_nodes.Goals.{else-has_frames, then-has_frames}
 
 pub loop-node-init : goal.loop-node-init
 loop-node-init c = gathered_none c.requires (omega arith) (range-room (has_frames c.args.rows.now) 1 17 (omega arith))
@@ -16,10 +17,7 @@ bounds-nodes-found c = let g = c.loop-node.invariant in omega (arith, g.whole, g
 pub loop-node-preserved : goal.loop-node-preserved
 loop-node-preserved c =
     let g = c.loop-node.invariant in
-    ⊎_elim
-    (λ w. gathered-put g (omega (arith, c.loop-node-test.true)) _ c.has_frames.ensures w.0.taken w.1 w.2)
-    (λ w. gathered-skip g (omega (arith, c.loop-node-test.true)) _ c.has_frames.ensures w.0.left w.1 w.2)
-    c.if-has_frames.branch
+    elim c.if-has_frames.branch [ then-has_frames w ↦ gathered-put g (omega (arith, c.loop-node-test.true)) _ c.has_frames.ensures w.if-has_frames.true w.1 w.2 | else-has_frames w ↦ gathered-skip g (omega (arith, c.loop-node-test.true)) _ c.has_frames.ensures w.if-has_frames.false w.1 w.2 ]
 
 pub returns : goal.returns
 unfolding nodes_of

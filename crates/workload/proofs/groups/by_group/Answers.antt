@@ -44,7 +44,7 @@ size c = let n : ℕ = 64 + c.loop-j.listed in same_len_mid n (128 - n) c.loop-j
 read : (c : After-gather-count) → let n : ℕ = 64 + c.loop-j.listed in frames_in (frames_of c.args.lengths c.args.rows.now) (mid_of n (n + c.gather-count.result - n) (put_mid n (128 - n) c.loop-j.lists c.gather-count.new.area)) ≡ of_group (ahead (frames_of c.args.lengths c.args.rows.now) c.args.k) (c.loop-j.j + 1)
 read c =
     let n : ℕ = 64 + c.loop-j.listed in
-    let r = room c.before.before in
+    let r = listed-room c.requires.fine_table _ c.loop-j.invariant in
     part-read (frames_of c.args.lengths c.args.rows.now) c.gather-count.result n c.loop-j.lists c.gather-count.new.area (omega (arith, r, c.loop-j.invariant.size))
     (omega (arith, r, c.gather-count.ensures.count, c.gather-count.auto.area, mid_len n 128 c.loop-j.lists (omega (arith, c.loop-j.invariant.size, r))))
     ∙ c.gather-count.ensures.area_after
@@ -85,8 +85,8 @@ overflow_add-listed c = omega (arith, room (goal.at.overflow_add-listed c).In-lo
 pub loop-j-preserved : goal.loop-j-preserved
 loop-j-preserved c =
     let g = c.gather-count in
-    listed_more c.requires.fine_table _ g.result c.part_hyperperiod-cycle.result c.group_hyperperiod-hyperperiod.result _ g.new.1.1.1.1.0 c.loop-j.invariant c.loop-j-test.true refl
-    g.auto.1.1.1.1.0 g.ensures.0 g.ensures.1 (c.part_hyperperiod-cycle.ensures ∙ part-turn _ c.args.k _ (read (goal.at.loop-j-preserved c).After-gather-count)) c.group_hyperperiod-hyperperiod.ensures
+    listed_more c.requires.fine_table _ g.result c.part_hyperperiod-cycle.result c.group_hyperperiod-hyperperiod.result _ g.new.area c.loop-j.invariant c.loop-j-test.true refl
+    g.auto.area g.ensures.area_after g.ensures.count (c.part_hyperperiod-cycle.ensures ∙ part-turn _ c.args.k _ (read (goal.at.loop-j-preserved c).After-gather-count)) c.group_hyperperiod-hyperperiod.ensures
 
 pub returns : goal.returns
 returns c = listed-all c.requires.fine_table _ c.loop-j.invariant c.loop-j-test.false

@@ -4,6 +4,7 @@ use Rattle.table_checks.specs.Frames.{frames_of}
 use Rattle.table_checks.specs.Laws.Accepted.{length-frames}
 use Rattle.workload.specs.Laws.Groups.{is_member, rows_few, RowsGathered, rows-gathered}
 use Rattle.workload.proofs.groups.gather.Goals as goal
+use Rattle.workload.proofs.groups.gather.Goals.{then-belongs, else-belongs}
 
 pub loop-i-init : goal.loop-i-init
 loop-i-init c = (gathered_none refl (omega arith) (rows_few _ _ _ _ c.requires.group_in_bounds), sym (length-frames _ _))
@@ -30,10 +31,10 @@ loop-i-preserved c =
     let (g, all) = c.loop-i.invariant in
     let a = c.args in
     let test = c.belongs.ensures ∙ ap (is_member a.k a.group) c.frame.ensures in (
-      ⊎_elim
-          (λ w. gathered-put g (omega (arith, all, c.loop-i-test.true)) _ test w.0.taken w.1 w.2)
-          (λ w. gathered-skip g (omega (arith, all, c.loop-i-test.true)) _ test w.0.left w.1 w.2)
-          c.if-belongs.branch,
+      elim c.if-belongs.branch [
+        | then-belongs w ↦ gathered-put g (omega (arith, all, c.loop-i-test.true)) _ test w.if-belongs.true w.area-is w.found-is
+        | else-belongs w ↦ gathered-skip g (omega (arith, all, c.loop-i-test.true)) _ test w.if-belongs.false w.area-is w.found-is
+      ],
       all,
     )
 

@@ -19,7 +19,7 @@ periods table i l = (table.fine i l).period-low
 pub joined-h-requires : goal.joined-h-requires
 joined-h-requires c =
     let l = c.loop-i in
-    let (table, within) = (c.requires.fine_table, c.requires.le_group) in
+    let table = c.requires.fine_table in let within = c.requires.le_group in
     let inside : l.i - 1 < length (frames_of c.args.lengths c.args.rows.now) = omega (arith, l.invariant.0.inside, c.loop-i-test.true) in
     let m = hyper-more _ c.args.group (periods table) l.invariant.0 c.loop-i-test.true c.frame-g.ensures refl in
     (l.invariant.1, rw c.frame-g.ensures (table.fine (l.i - 1) inside).period-high, omega (arith, hyper-le _ c.args.group (periods table) _ _ m.0, table.hyper c.args.group within.0 within.1))

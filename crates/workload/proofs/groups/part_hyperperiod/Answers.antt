@@ -30,7 +30,7 @@ read c =
 pub joined-h-requires : goal.joined-h-requires
 joined-h-requires c =
     let l = c.loop-i in
-    let (fine, small) = (c.requires.fine, c.requires.part_bound) in
+    let fine = c.requires.fine in let small = c.requires.part_bound in
     let m = part-more _ fine l.invariant.0 c.loop-i-test.true (read c) refl in
     (l.invariant.1, rw (read c) (fine _ (mem-get_d _ (l.i - 1) no_frame (omega (arith, l.invariant.0.inside, c.loop-i-test.true)))).period-high, omega (arith, part-le _ fine _ _ m.0, small))
 

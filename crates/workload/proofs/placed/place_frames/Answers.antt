@@ -4,7 +4,7 @@ use Rattle.workload.specs.Placed.{Placed, placed_frame}
 use Rattle.workload.specs.Laws.Prepared.{length-table}
 use Rattle.workload.specs.Laws.Placed.{PlacedTo, place_none, place-put, place-skip, place-all}
 use Rattle.workload.proofs.placed.place_frames.Goals as goal
-use Rattle.workload.proofs.placed.place_frames.Goals.{After-row_at-r}
+use Rattle.workload.proofs.placed.place_frames.Goals.{After-row_at-r, then-is_load, else-is_load}
 
 pub loop-i-init : goal.loop-i-init
 loop-i-init c = (place_none c.requires.area_len, sym (length-table _ _))
@@ -38,10 +38,10 @@ unfolding placed_frame
 loop-i-preserved c =
     let l = c.loop-i in
     let g = c.row_at-r.result.frame in (
-      ⊎_elim
-          (λ w. place-put l.invariant.0 (inside (goal.at.loop-i-preserved c).After-row_at-r) c.row_at-r.ensures c.is_load.ensures (room (goal.at.loop-i-preserved c).After-row_at-r) w.0.taken {x = record { length = g.length; period = g.period; first = w.4.result }} (ap {B = Placed} (λ x. record { length = g.length; period = g.period; first = x }) w.4.ensures) _ (w.8 ∙ w.5.ensures) w.9)
-          (λ w. place-skip l.invariant.0 (inside (goal.at.loop-i-preserved c).After-row_at-r) c.row_at-r.ensures c.is_load.ensures w.0.left w.1 w.2)
-          c.if-is_load.branch,
+      elim c.if-is_load.branch [
+        | then-is_load w ↦ place-put l.invariant.0 (inside (goal.at.loop-i-preserved c).After-row_at-r) c.row_at-r.ensures c.is_load.ensures (room (goal.at.loop-i-preserved c).After-row_at-r) w.if-is_load.true {x = record { length = g.length; period = g.period; first = w.first_release.result }} (ap {B = Placed} (λ x. record { length = g.length; period = g.period; first = x }) w.first_release.ensures) _ (w.area-is ∙ w.put.ensures) w.found-is
+        | else-is_load w ↦ place-skip l.invariant.0 (inside (goal.at.loop-i-preserved c).After-row_at-r) c.row_at-r.ensures c.is_load.ensures w.if-is_load.false w.area-is w.found-is
+      ],
       l.invariant.1,
     )
 

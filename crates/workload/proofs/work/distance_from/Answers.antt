@@ -20,4 +20,6 @@ returns-then-later-g c = record { value = sym (rw (← c.phase_of.ensures.value,
 
 pub returns-else-later-g : goal.returns-else-later-g
 unfolding distance
-returns-else-later-g c = rw (← c.phase_of.ensures.value, ← c.remainder-rest.ensures.value) (once _ _ c.if-later-g.false (omega (arith, c.phase_of.ensures.small)))
+returns-else-later-g c =
+    let less = once _ _ c.if-later-g.false (omega (arith, c.phase_of.ensures.small)) in
+    record { value = rw (← c.phase_of.ensures.value, ← c.remainder-rest.ensures.value) less.0; small = less.1 }

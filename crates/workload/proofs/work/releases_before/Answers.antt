@@ -1,5 +1,5 @@
 -- Up to d nothing is counted, and one release in the period after it; elsewhere the code computes the count as it is defined.
-use Rattle.std.proofs.Common.{◌≡◌, leb, arith, rules, leb-false, leb-true}
+use Rattle.std.proofs.Common.{◌≤◌, ◌≡◌, leb, arith, rules, leb-false, leb-true}
 use Rattle.arith.specs.Releases.{releases_before}
 use Rattle.arith.specs.Laws.Releases.{count-le, count_small, counted}
 use Rattle.arith.specs.Laws.Tests.{by-test}
@@ -11,10 +11,11 @@ returns-then-n-d c =
     let d = c.args.d in
     let n = c.args.n in
     let most = count-le d c.requires.0 n 1 (omega (arith, c.if-n-d.true)) in
-    let answer = by-test
+    let both : (c.counts_below.result ≡ releases_before d c.args.p n) × (c.counts_below.result ≤ n) =
+    by-test
     (leb n d)
     (λ h. let le = leb-true n d h in let none = count-le d c.requires.0 n 0 (omega arith) in (omega arith, omega arith))
-    (λ h. let gt = leb-false n d h in let some = (counted d c.requires.0 n 0).1 (omega arith) in (omega arith, omega arith)) in record { value = answer.0; small = answer.1 }
+    (λ h. let gt = leb-false n d h in let some = (counted d c.requires.0 n 0).1 (omega arith) in (omega arith, omega arith)) in record { value = both.0; small = both.1 }
 
 pub returns : goal.returns
 unfolding releases_before
