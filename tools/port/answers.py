@@ -337,6 +337,16 @@ def tail_record(body, fields):
             items[-1:] = [x.strip() for x in split_top(items[-1][1:-1], ",") if x.strip()]
         if closes[:1] == [len(t) - 1] and len(items) == len(fields):
             return lead + "record { " + "; ".join(f"{f} = {x}" for f, x in zip(fields, items)) + " }" + pad
+    if re.match(r"rw\s", t):
+        words = arguments(t)
+        if len(words) >= 3:
+            # each clause by itself; where the rewriting finds nothing in a clause the check says so
+            by = " ".join(words[:2])
+            term = " ".join(words[2:])
+            if len(words) > 3:
+                term = f"({term})"
+            at = lambda k: "".join([".1"] * k) + ("" if k == len(fields) - 1 else ".0")
+            return lead + "record {\n" + "".join(f"      {f} = {by} {term}{at(k)};\n" for k, f in enumerate(fields)) + "    }" + pad
     if re.match(r"(omega|search|grind|rw|simp|cc|elim|let|λ|absurd)\b", t):
         return None
     return lead + "let answer = " + t + " in record { " + "; ".join(f"{f} = answer{'.1' * k}{'' if k == len(fields) - 1 else '.0'}" for k, f in enumerate(fields)) + " }" + pad
@@ -416,7 +426,7 @@ def turn(folder, path, data):
         if fields and len(fields) > 1:
             r = tail_record(rest, fields)
             if r is None:
-                notes.append(f"{new}: {len(fields)} clauses, by a tactic")
+                notes.append(f"{new}: {len(fields)} clauses, by a tactic: {rest.strip()[-60:]}")
             else:
                 rest = r
         nl = "\n    " if m.group(0).endswith("\n    ") or "\n" in m.group(0) else " "

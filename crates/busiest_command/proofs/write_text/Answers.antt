@@ -9,7 +9,10 @@ returns-in-Refused c =
     let a = c.busiest_input-answer.ensures in
     let line = text-refused _ _ _ _ _ _ a.value a.in_numbers _ refused in
     let left = rw refused at a.out_after in
-    rw (← line, ← left, ← c.number.ensures) (c.write_refusal_line.ensures.value, c.write_refusal_line.ensures.out_after)
+    record {
+      value = rw (← line, ← left, ← c.number.ensures) (c.write_refusal_line.ensures.value, c.write_refusal_line.ensures.out_after).0;
+      out_after = rw (← line, ← left, ← c.number.ensures) (c.write_refusal_line.ensures.value, c.write_refusal_line.ensures.out_after).1;
+    }
 
 pub returns-in-Done : goal.returns-in-Done
 returns-in-Done c = let a = c.busiest_input-answer.ensures in let answer = text-done _ _ _ _ _ _ a.value a.in_numbers _ _ c.in-Done.is a.out_after in record { value = answer.0; out_after = answer.1 }

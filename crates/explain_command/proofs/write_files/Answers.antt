@@ -13,7 +13,10 @@ pub returns-in-Failed : goal.returns-in-Failed
 unfolding text_for explain_file explain_read
 returns-in-Failed c =
     let e = c.write_refusal.ensures in
-    rw (lengths-refused _ c.args.table.now c.read-loaded.ensures.value c.in-Failed.is, ← c.of_table.ensures, text-turned (field (fields_of c.args.table.now) c.args.row identifier_column) c.of_table.result) (e.value, e.out_after)
+    record {
+      value = rw (lengths-refused _ c.args.table.now c.read-loaded.ensures.value c.in-Failed.is, ← c.of_table.ensures, text-turned (field (fields_of c.args.table.now) c.args.row identifier_column) c.of_table.result) (e.value, e.out_after).0;
+      out_after = rw (lengths-refused _ c.args.table.now c.read-loaded.ensures.value c.in-Failed.is, ← c.of_table.ensures, text-turned (field (fields_of c.args.table.now) c.args.row identifier_column) c.of_table.result) (e.value, e.out_after).1;
+    }
 
 -- the lengths of the file
 loaded : (c : After-lengths_of) → ReadLengths c.args.lengths.now c.args.table.now c.lengths_of.result
@@ -23,4 +26,7 @@ pub returns-in-Passed : goal.returns-in-Passed
 unfolding text_for explain_file
 returns-in-Passed c =
     let l = loaded (goal.at.returns-in-Passed c).After-lengths_of in
-    rw (l.passed, ← l.is) (c.write_table.ensures.value, c.write_table.ensures.out_after)
+    record {
+      value = rw (l.passed, ← l.is) (c.write_table.ensures.value, c.write_table.ensures.out_after).0;
+      out_after = rw (l.passed, ← l.is) (c.write_table.ensures.value, c.write_table.ensures.out_after).1;
+    }

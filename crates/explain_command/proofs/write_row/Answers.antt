@@ -32,7 +32,13 @@ bounds-rows-row c = omega (arith, place (goal.at.bounds-rows-row c).In-Verdict)
 pub returns-in-NotJudged : goal.returns-in-NotJudged
 returns-in-NotJudged c =
     let e = c.write_refusal.ensures in
-    rw (← c.explain-explained.ensures.value, text-refused _ c.explain-explained.result _ c.in-NotJudged.is) (e.value, e.out_after)
+    record {
+      value = rw (← c.explain-explained.ensures.value, text-refused _ c.explain-explained.result _ c.in-NotJudged.is) (e.value, e.out_after).0;
+      out_after = rw (← c.explain-explained.ensures.value, text-refused _ c.explain-explained.result _ c.in-NotJudged.is) (e.value, e.out_after).1;
+    }
 
 pub returns-in-Verdict : goal.returns-in-Verdict
-returns-in-Verdict c = rw (← c.explain-explained.ensures.value, text-judged _ c.explain-explained.result _ c.in-Verdict.is) (c.write_judged.ensures.value, c.write_judged.ensures.out_after)
+returns-in-Verdict c = record {
+  value = rw (← c.explain-explained.ensures.value, text-judged _ c.explain-explained.result _ c.in-Verdict.is) (c.write_judged.ensures.value, c.write_judged.ensures.out_after).0;
+  out_after = rw (← c.explain-explained.ensures.value, text-judged _ c.explain-explained.result _ c.in-Verdict.is) (c.write_judged.ensures.value, c.write_judged.ensures.out_after).1;
+}

@@ -26,10 +26,16 @@ pub returns-in-Refused : goal.returns-in-Refused
 unfolding explain_read
 returns-in-Refused c =
     let e = c.write_refusal.ensures in
-    rw (read-refused c.args.table.now _ _ refl c.read-answer.ensures.value _ c.in-Refused.is, ← c.of_table.ensures, text-turned (field (fields_of c.args.table.now) c.args.row identifier_column) c.of_table.result) (e.value, e.out_after)
+    record {
+      value = rw (read-refused c.args.table.now _ _ refl c.read-answer.ensures.value _ c.in-Refused.is, ← c.of_table.ensures, text-turned (field (fields_of c.args.table.now) c.args.row identifier_column) c.of_table.result) (e.value, e.out_after).0;
+      out_after = rw (read-refused c.args.table.now _ _ refl c.read-answer.ensures.value _ c.in-Refused.is, ← c.of_table.ensures, text-turned (field (fields_of c.args.table.now) c.args.row identifier_column) c.of_table.result) (e.value, e.out_after).1;
+    }
 
 pub returns-in-Done : goal.returns-in-Done
 unfolding explain_read
 returns-in-Done c =
     let t = table (goal.at.returns-in-Done c).In-Done in
-    rw (t.passed, ← t.rows) (c.write_row.ensures.value, c.write_row.ensures.out_after)
+    record {
+      value = rw (t.passed, ← t.rows) (c.write_row.ensures.value, c.write_row.ensures.out_after).0;
+      out_after = rw (t.passed, ← t.rows) (c.write_row.ensures.value, c.write_row.ensures.out_after).1;
+    }

@@ -5,9 +5,15 @@ use Rattle.certifier.specs.declared.Reply.TheVariants.{Answered}
 use Rattle.faults_command.proofs.write_input.Goals as goal
 
 pub returns-in_default : goal.returns-in_default
-returns-in_default c = rw (← c.read-read.ensures, c.in_default.is) (refl, refl)
+returns-in_default c = record {
+  value = rw (← c.read-read.ensures, c.in_default.is) (refl, refl).0;
+  out_after = rw (← c.read-read.ensures, c.in_default.is) (refl, refl).1;
+}
 
 pub returns : goal.returns
 returns c =
     let t = c.write_parts.ensures in
-    rw (← c.read-read.ensures, c.in-Value.is) (ap Answered t.value, t.out_after)
+    record {
+      value = rw (← c.read-read.ensures, c.in-Value.is) (ap Answered t.value, t.out_after).0;
+      out_after = rw (← c.read-read.ensures, c.in-Value.is) (ap Answered t.value, t.out_after).1;
+    }

@@ -16,13 +16,24 @@ passed c = sym c.check_lengths-checked.ensures.value ∙ c.in-Passed.is
 
 pub returns-then-file-lt-FILE : goal.returns-then-file-lt-FILE
 returns-then-file-lt-FILE c =
-    rw (← lengths-returned _) (answer-told _ _ _ (area-short _ _ _ _ _ (length-text _) (passed (goal.at.returns-then-file-lt-FILE c).In-Passed) c.if-file-lt-FILE.true c.no_room.ensures))
+    record {
+      value = (answer-told _ _ _ (area-short _ _ _ _ _ (length-text _) (passed (goal.at.returns-then-file-lt-FILE c).In-Passed) c.if-file-lt-FILE.true c.no_room.ensures)).0;
+      file_after = (answer-told _ _ _ (area-short _ _ _ _ _ (length-text _) (passed (goal.at.returns-then-file-lt-FILE c).In-Passed) c.if-file-lt-FILE.true c.no_room.ensures)).1.0;
+      in_numbers = rw (← lengths-returned _) (answer-told _ _ _ (area-short _ _ _ _ _ (length-text _) (passed (goal.at.returns-then-file-lt-FILE c).In-Passed) c.if-file-lt-FILE.true c.no_room.ensures)).1.1;
+    }
 
 pub returns-in-Failed : goal.returns-in-Failed
 returns-in-Failed c =
-    rw (← lengths-returned _) (answer-told _ _ _ (area-refused _ _ _ _ _ (sym c.check_lengths-checked.ensures.value ∙ c.in-Failed.is) refl))
+    record {
+      value = (answer-told _ _ _ (area-refused _ _ _ _ _ (sym c.check_lengths-checked.ensures.value ∙ c.in-Failed.is) refl)).0;
+      file_after = (answer-told _ _ _ (area-refused _ _ _ _ _ (sym c.check_lengths-checked.ensures.value ∙ c.in-Failed.is) refl)).1.0;
+      in_numbers = rw (← lengths-returned _) (answer-told _ _ _ (area-refused _ _ _ _ _ (sym c.check_lengths-checked.ensures.value ∙ c.in-Failed.is) refl)).1.1;
+    }
 
 pub returns-else-file-lt-FILE : goal.returns-else-file-lt-FILE
 returns-else-file-lt-FILE c =
-    rw (← lengths-returned _)
-    (answer-told _ _ _ (area-written _ _ _ _ _ (length-text _) (passed (goal.at.returns-else-file-lt-FILE c).In-Passed) c.if-file-lt-FILE.false c.write_lines.ensures))
+    record {
+      value = (answer-told _ _ _ (area-written _ _ _ _ _ (length-text _) (passed (goal.at.returns-else-file-lt-FILE c).In-Passed) c.if-file-lt-FILE.false c.write_lines.ensures)).0;
+      file_after = (answer-told _ _ _ (area-written _ _ _ _ _ (length-text _) (passed (goal.at.returns-else-file-lt-FILE c).In-Passed) c.if-file-lt-FILE.false c.write_lines.ensures)).1.0;
+      in_numbers = rw (← lengths-returned _) (answer-told _ _ _ (area-written _ _ _ _ _ (length-text _) (passed (goal.at.returns-else-file-lt-FILE c).In-Passed) c.if-file-lt-FILE.false c.write_lines.ensures)).1.1;
+    }

@@ -3,4 +3,7 @@ use borrow.Author.Rules.{rules}
 use Rattle.log_command.proofs.write_files.Goals as goal
 
 pub returns : goal.returns
-returns c = rw (← c.check_files.ensures.in_numbers) (c.write_checked.ensures.value, c.write_checked.ensures.out_after)
+returns c = record {
+  value = rw (← c.check_files.ensures.in_numbers) (c.write_checked.ensures.value, c.write_checked.ensures.out_after).0;
+  out_after = rw (← c.check_files.ensures.in_numbers) (c.write_checked.ensures.value, c.write_checked.ensures.out_after).1;
+}

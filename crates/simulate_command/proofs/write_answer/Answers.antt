@@ -7,14 +7,23 @@ use Rattle.simulate_command.proofs.write_answer.Goals as goal
 
 pub returns-in-Answered : goal.returns-in-Answered
 returns-in-Answered c =
-    rw c.in-Answered.is (c.write_refused.ensures.value, c.write_refused.ensures.out_after)
+    record {
+      value = rw c.in-Answered.is (c.write_refused.ensures.value, c.write_refused.ensures.out_after).0;
+      out_after = rw c.in-Answered.is (c.write_refused.ensures.value, c.write_refused.ensures.out_after).1;
+    }
 
 pub returns-in-ZeroSeed : goal.returns-in-ZeroSeed
 unfolding simulated_returns
 returns-in-ZeroSeed c =
-    rw c.in-ZeroSeed.is (line-printed _ _ (λ e. omega arith) (c.write_refusal_line.ensures.value, c.write_refusal_line.ensures.out_after))
+    record {
+      value = rw c.in-ZeroSeed.is (line-printed _ _ (λ e. omega arith) (c.write_refusal_line.ensures.value, c.write_refusal_line.ensures.out_after)).0;
+      out_after = rw c.in-ZeroSeed.is (line-printed _ _ (λ e. omega arith) (c.write_refusal_line.ensures.value, c.write_refusal_line.ensures.out_after)).1;
+    }
 
 pub returns-in-LineCount : goal.returns-in-LineCount
 unfolding simulated_returns
 returns-in-LineCount c =
-    rw c.in-LineCount.is (line-printed _ _ (λ e. omega arith) (c.write_refusal_line-in-LineCount.ensures.value, c.write_refusal_line-in-LineCount.ensures.out_after))
+    record {
+      value = rw c.in-LineCount.is (line-printed _ _ (λ e. omega arith) (c.write_refusal_line-in-LineCount.ensures.value, c.write_refusal_line-in-LineCount.ensures.out_after)).0;
+      out_after = rw c.in-LineCount.is (line-printed _ _ (λ e. omega arith) (c.write_refusal_line-in-LineCount.ensures.value, c.write_refusal_line-in-LineCount.ensures.out_after)).1;
+    }

@@ -10,10 +10,15 @@ use Rattle.simulate_command.proofs.write_refused.Goals as goal
 
 pub returns-in-Done : goal.returns-in-Done
 unfolding simulated_returns answer_returns answer_after area_printed
-returns-in-Done c = rw c.in-Done.is (refl, refl)
+returns-in-Done c = record {
+  value = rw c.in-Done.is (refl, refl).0;
+  out_after = rw c.in-Done.is (refl, refl).1;
+}
 
 pub returns-in-Refused : goal.returns-in-Refused
 unfolding simulated_returns answer_returns
 returns-in-Refused c =
-    rw c.in-Refused.is
-    (line-printed _ _ (number-some _) (rw (← c.number.ensures) (c.write_refusal_line.ensures.value, c.write_refusal_line.ensures.out_after)))
+    record {
+      value = rw c.in-Refused.is (line-printed _ _ (number-some _) (rw (← c.number.ensures) (c.write_refusal_line.ensures.value, c.write_refusal_line.ensures.out_after))).0;
+      out_after = rw c.in-Refused.is (line-printed _ _ (number-some _) (rw (← c.number.ensures) (c.write_refusal_line.ensures.value, c.write_refusal_line.ensures.out_after))).1;
+    }

@@ -19,4 +19,7 @@ returns-in-Failed c = let answer = area-refused _ _ _ _ _ (lengths-refused _ _ c
 pub returns-in-Passed : goal.returns-in-Passed
 returns-in-Passed c =
     let l = loaded (goal.at.returns-in-Passed c).After-lengths_of in
-    rw (l.passed, ← l.is) (c.write_table.ensures.value, c.write_table.ensures.out_after)
+    record {
+      value = rw (l.passed, ← l.is) (c.write_table.ensures.value, c.write_table.ensures.out_after).0;
+      out_after = rw (l.passed, ← l.is) (c.write_table.ensures.value, c.write_table.ensures.out_after).1;
+    }

@@ -8,4 +8,7 @@ use Rattle.worst_command.proofs.write_input.Goals as goal
 pub returns : goal.returns
 returns c =
     let xs : List ℕ = c.args.input.now in
-    rw (← first_part xs _ c.lengths_end-end.ensures, ← second-part xs _ c.lengths_end-end.ensures) (c.write_files.ensures.value, c.write_files.ensures.out_after)
+    record {
+      value = rw (← first_part xs _ c.lengths_end-end.ensures, ← second-part xs _ c.lengths_end-end.ensures) (c.write_files.ensures.value, c.write_files.ensures.out_after).0;
+      out_after = rw (← first_part xs _ c.lengths_end-end.ensures, ← second-part xs _ c.lengths_end-end.ensures) (c.write_files.ensures.value, c.write_files.ensures.out_after).1;
+    }

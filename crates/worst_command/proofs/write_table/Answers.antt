@@ -25,4 +25,7 @@ returns-in-Refused c = let answer = area-refused _ _ _ _ _ (read-refused _ _ _ r
 pub returns-in-Done : goal.returns-in-Done
 returns-in-Done c =
     let table = read (goal.at.returns-in-Done c).In-Done in
-    rw (table.passed, ← table.rows) (c.write_last.ensures.value, c.write_last.ensures.out_after)
+    record {
+      value = rw (table.passed, ← table.rows) (c.write_last.ensures.value, c.write_last.ensures.out_after).0;
+      out_after = rw (table.passed, ← table.rows) (c.write_last.ensures.value, c.write_last.ensures.out_after).1;
+    }

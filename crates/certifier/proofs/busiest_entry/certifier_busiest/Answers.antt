@@ -10,4 +10,7 @@ encode_sheet-requires c = λ n d. (c.busiest_file.ensures.says n d).most
 pub returns : goal.returns
 returns c =
     let e = c.busiest_file.ensures in
-    rw (← e.in_numbers, ← e.value) (kept _ c.encode_sheet.type-inv ∙ c.encode_sheet.ensures, e.out_after)
+    record {
+      value = rw (← e.in_numbers, ← e.value) (kept _ c.encode_sheet.type-inv ∙ c.encode_sheet.ensures, e.out_after).0;
+      out_after = rw (← e.in_numbers, ← e.value) (kept _ c.encode_sheet.type-inv ∙ c.encode_sheet.ensures, e.out_after).1;
+    }

@@ -39,4 +39,7 @@ unfolding explain_read
 returns-in-Done c =
     let t = table (goal.at.returns-in-Done c).In-Done in
     let e = c.show.ensures in
-    rw (t.passed, ← t.rows, ← c.explain.ensures.value) (kept _ c.show.type-inv ∙ e.value, e.shown_after)
+    record {
+      value = rw (t.passed, ← t.rows, ← c.explain.ensures.value) (kept _ c.show.type-inv ∙ e.value, e.shown_after).0;
+      shown_after = rw (t.passed, ← t.rows, ← c.explain.ensures.value) (kept _ c.show.type-inv ∙ e.value, e.shown_after).1;
+    }

@@ -24,4 +24,7 @@ unfolding explain_faults_file
 returns-in-Passed c =
     let l = loaded (goal.at.returns-in-Passed c).After-lengths_of in
     let e = c.explain_faults_table.ensures in
-    rw (l.passed, ← l.is) (kept _ c.explain_faults_table.type-inv ∙ e.value, e.shown_after)
+    record {
+      value = rw (l.passed, ← l.is) (kept _ c.explain_faults_table.type-inv ∙ e.value, e.shown_after).0;
+      shown_after = rw (l.passed, ← l.is) (kept _ c.explain_faults_table.type-inv ∙ e.value, e.shown_after).1;
+    }

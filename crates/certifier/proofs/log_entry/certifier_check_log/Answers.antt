@@ -8,4 +8,7 @@ pub returns : goal.returns
 returns c =
     let e = c.store.ensures in
     let n = c.check_files.ensures.in_numbers in
-    rw (← n) (kept _ c.store.type-inv ∙ e.value, e.area_after)
+    record {
+      value = rw (← n) (kept _ c.store.type-inv ∙ e.value, e.area_after).0;
+      starts_after = rw (← n) (kept _ c.store.type-inv ∙ e.value, e.area_after).1;
+    }

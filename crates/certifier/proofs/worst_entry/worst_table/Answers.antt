@@ -39,4 +39,7 @@ unfolding worst_read
 returns-in-Done c =
     let t = table (goal.at.returns-in-Done c).In-Done in
     let e = c.show_last.ensures in
-    rw (t.passed, ← t.rows, ← c.worst.ensures.value) (kept _ c.show_last.type-inv ∙ e.value, e.shown_after)
+    record {
+      value = rw (t.passed, ← t.rows, ← c.worst.ensures.value) (kept _ c.show_last.type-inv ∙ e.value, e.shown_after).0;
+      shown_after = rw (t.passed, ← t.rows, ← c.worst.ensures.value) (kept _ c.show_last.type-inv ∙ e.value, e.shown_after).1;
+    }

@@ -19,7 +19,8 @@ found : (c : After-read-column) → let a = c.args in c.read-column.result ≡ r
 unfolding column_at
 found c =
     let i = c.args.i in
-    let w : line_length * i + c.start-2.result - (line_length * i + c.start.result) ≡ width_of c.args.j = omega (arith, place c.before.before) in
+    let placed : (c.start.result + width_of c.args.j ≡ c.start-2.result) × (c.start-2.result ≤ feed_at) = column-place _ _ _ c.requires.1 c.start.ensures c.start-2.ensures in
+    let w : line_length * i + c.start-2.result - (line_length * i + c.start.result) ≡ width_of c.args.j = omega arith in
     rw (← w, ← c.start.ensures) c.read-column.ensures
 
 pub overflow_add-from : goal.overflow_add-from

@@ -16,7 +16,15 @@ pub returns-in-Fixed : goal.returns-in-Fixed
 unfolding group_work
 returns-in-Fixed c =
     let is = read-group c.requires.ready_2.prepared c.args.j c.requires.j_bound.0 (Fixed c.in-Fixed.a) c.args.n (rw c.part_of.ensures at c.work_in.ensures.value) in
-    rw c.in-Fixed.is (is, (c.work_in.ensures.small, c.requires.ready_2))
+    record {
+      value = rw c.in-Fixed.is (is, (c.work_in.ensures.small, c.requires.ready_2)).0;
+      small = rw c.in-Fixed.is (is, (c.work_in.ensures.small, c.requires.ready_2)).1.0;
+      ready = rw c.in-Fixed.is (is, (c.work_in.ensures.small, c.requires.ready_2)).1.1;
+    }
 
 pub returns-in-Any : goal.returns-in-Any
-returns-in-Any c = rw c.in-Any.is (c.open_work.ensures.value, (c.open_work.ensures.small, c.open_work.ensures.ready))
+returns-in-Any c = record {
+  value = rw c.in-Any.is (c.open_work.ensures.value, (c.open_work.ensures.small, c.open_work.ensures.ready)).0;
+  small = rw c.in-Any.is (c.open_work.ensures.value, (c.open_work.ensures.small, c.open_work.ensures.ready)).1.0;
+  ready = rw c.in-Any.is (c.open_work.ensures.value, (c.open_work.ensures.small, c.open_work.ensures.ready)).1.1;
+}

@@ -8,4 +8,8 @@ use Rattle.load_sheet.proofs.sheet.write_input.Goals as goal
 pub returns : goal.returns
 returns c =
     let xs : List ℕ = c.args.input.now in
-    rw (← first_part xs _ c.lengths_end-end.ensures, ← second-part xs _ c.lengths_end-end.ensures) (c.write.ensures.value, (c.write.ensures.out_after, c.write.ensures.in_numbers))
+    record {
+      value = rw (← first_part xs _ c.lengths_end-end.ensures, ← second-part xs _ c.lengths_end-end.ensures) (c.write.ensures.value, (c.write.ensures.out_after, c.write.ensures.in_numbers)).0;
+      out_after = rw (← first_part xs _ c.lengths_end-end.ensures, ← second-part xs _ c.lengths_end-end.ensures) (c.write.ensures.value, (c.write.ensures.out_after, c.write.ensures.in_numbers)).1.0;
+      in_numbers = rw (← first_part xs _ c.lengths_end-end.ensures, ← second-part xs _ c.lengths_end-end.ensures) (c.write.ensures.value, (c.write.ensures.out_after, c.write.ensures.in_numbers)).1.1;
+    }
