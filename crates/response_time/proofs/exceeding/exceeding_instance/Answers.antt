@@ -18,9 +18,9 @@ own_distance-d-requires c = in-table-fine _ c.requires.ready_2.prepared.filled.t
 
 pub releases_before-instances-requires : goal.releases_before-instances-requires
 releases_before-instances-requires c =
-    let p = (c.requires.ready_2, (c.requires.own_fixed, c.requires.choices_value)) in
-    let f = in-table-fine _ p.0.prepared.filled.table p.0.listed in
-    (f.period-low, f.period-high, omega (arith, window-small _ _ _ _ p.1.1))
+    let p = c.requires in
+    let f = in-table-fine _ p.ready_2.prepared.filled.table p.ready_2.listed in
+    (f.period-low, f.period-high, omega (arith, window-small _ _ _ _ p.choices_value))
 
 pub place-to-requires : goal.place-to-requires
 place-to-requires c = let p = c.requires.ready_2 in record { filled = p.prepared.filled; fine_target = p.target; area_len = search rules }
