@@ -34,4 +34,4 @@ returns c =
     let r = c.shown_by-shown.ensures in
     let k = c.args.target.frame in
     let at = ap (λ d. latest_start c.args.best k.length (d + c.args.q * k.period)) (sym c.own_distance.ensures) ∙ sym c.latest_start-found.ensures ∙ c.in-At.is in
-    let answer = (shows-within _ _ _ _ c.args.q c.args.best at r.shows, r.1) in record { by_index = answer.0; small = answer.1.0; ready = answer.1.1 }
+    record { by_index = shows-within _ _ _ _ c.args.q c.args.best at r.shows; small = r.small; ready = r.ready }
