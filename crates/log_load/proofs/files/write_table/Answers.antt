@@ -27,6 +27,6 @@ returns-in-Refused c =
     absurd (omega arith)
 
 pub returns-in-Done : goal.returns-in-Done
-returns-in-Done c = 
+returns-in-Done c =
     let t = table (goal.at.returns-in-Done c).In-Done in
     record { value = rw (← t.rows) c.write_accepted.ensures.value; out_after = rw (← t.rows) c.write_accepted.ensures.out_after }
