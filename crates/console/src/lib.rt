@@ -112,7 +112,7 @@ pub fn read_file(
     }
 }
 
-// Reads the file at a path to its end, or until the buffer is full. A path is text, so there is no file at other bytes.
+// Reads the file at a path to its end, or until the buffer is full. A file is opened by text: one whose path is other bytes cannot be read.
 fn fill_from(files: &impl Files, path: &[u8], buffer: &mut [u8]) -> Stream
     ensures { Held result (length buffer.new) }
 {

@@ -8,7 +8,7 @@ use certifier::Reply;
 use frame_table::Answer;
 use std::io::Read;
 
-// Room for any payload.
+// Room for a payload; the cases end at a longer one.
 const BUFFER: usize = 4096;
 
 // The bytes before the digits.

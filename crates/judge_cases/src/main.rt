@@ -7,7 +7,7 @@
 use certifier::{Bounded, Judged, Refusal};
 use std::io::Read;
 
-// Room for any payload.
+// Room for a payload; the cases end at a longer one.
 const BUFFER: usize = 4096;
 
 fn main(rt: HostRuntime) {

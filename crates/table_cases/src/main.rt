@@ -9,7 +9,7 @@ use frame_table::Answer;
 use std::io::Read;
 use table_checks::Checked;
 
-// Room for any payload.
+// Room for a payload; the cases end at a longer one.
 const BUFFER: usize = 4096;
 
 // What the lent area holds before the call.
@@ -146,20 +146,16 @@ fn mixed(h: u64, element: u64) -> u64 {
 
 fn fingerprint_words(words: &[u32]) -> u64 {
     let mut h = 0;
-    let mut i = 0;
-    while i < words.len() {
-        h = mixed(h, wide(words[i]));
-        i += 1;
+    for word in words {
+        h = mixed(h, wide(*word));
     }
     h
 }
 
 fn fingerprint_bytes(bytes: &[u8]) -> u64 {
     let mut h = 0;
-    let mut i = 0;
-    while i < bytes.len() {
-        h = mixed(h, wider(bytes[i]));
-        i += 1;
+    for byte in bytes {
+        h = mixed(h, wider(*byte));
     }
     h
 }

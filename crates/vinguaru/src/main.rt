@@ -2,6 +2,7 @@
 // variant of Command, a line in `read_command`, an arm in `main` with a function of its own, and a line of the usage text.
 #![tactic(auto)]
 
+ghost use Rattle.std.specs.Prelude.{◌≡◌, ◌↔◌, IsTrue};
 ghost use Rattle.console.specs.Steps.{IsPrefixLen};
 
 use certifier::Reply;
@@ -15,7 +16,7 @@ const LOG: usize = 64_040;
 // Room for a line of each row.
 const LISTING: usize = 1984;
 
-// Room for any path.
+// Room for any path; a longer argument counts as an empty one.
 const ARGUMENT: usize = 4096;
 
 #[derive(Drop)]
@@ -122,18 +123,10 @@ fn argument(env: &impl Env, i: usize, space: &mut [u8]) -> usize
 }
 
 // Whether two words are the same.
-fn is_word(a: &[u8], b: &[u8]) -> bool {
-    if a.len() != b.len() {
-        return false;
-    }
-    let mut i = 0;
-    while i < a.len() {
-        if a[i] != b[i] {
-            return false;
-        }
-        i += 1;
-    }
-    true
+fn is_word(a: &[u8], b: &[u8]) -> bool
+    ensures { IsTrue result ↔ (a.now ≡ b.now) }
+{
+    a == b
 }
 
 // Prints the load sheet of the table, or its refusal.

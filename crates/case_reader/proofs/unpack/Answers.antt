@@ -4,7 +4,7 @@ use Rattle.std.proofs.lemmas.List.{length-map}
 use Rattle.std.proofs.Math.ListN.{length-set}
 use Rattle.arith.specs.Lists.{range}
 use Rattle.arith.specs.Laws.Members.{length-range, get_d-table}
-use Rattle.arith.specs.Laws.Overwriting.{over, over-element}
+use Rattle.arith.specs.Laws.Overwriting.{over-element}
 use Rattle.case_reader.specs.Cases.{word_at, words_of}
 use Rattle.case_reader.proofs.unpack.Goals as goal
 
