@@ -19,13 +19,13 @@ divisor c =
 
 limits : (c : After-hyperperiod-divisor) → (1 ≤ c.hyperperiod-divisor.result) × (c.hyperperiod-divisor.result ≤ 1000000)
 limits c =
-    let pre = (c.requires.loadable, c.requires.node_value) in
-    rw (divisor c) (divisor-limits _ pre.0.1 _ pre.0.0 _ pre.1)
+    let pre = c.requires in
+    rw (divisor c) (divisor-limits _ pre.loadable.1 _ pre.loadable.0 _ pre.node_value)
 
 pub hyperperiod-divisor-requires : goal.hyperperiod-divisor-requires
 hyperperiod-divisor-requires c =
-    let pre = (c.requires.loadable, c.requires.node_value) in
-    record { accepted = pre.0.1; le_group = rw c.Group-of.ensures (group-limits _ pre.0.1 _ pre.1) }
+    let pre = c.requires in
+    record { accepted = pre.loadable.1; le_group = rw c.Group-of.ensures (group-limits _ pre.loadable.1 _ pre.node_value) }
 
 pub work-dividend-requires : goal.work-dividend-requires
 work-dividend-requires c = record { loadable = c.requires.loadable; h_bound = (limits c).1 }

@@ -8,4 +8,4 @@ pub line_of-requires : goal.line_of-requires
 line_of-requires c = let readable = c.requires.readable in let h = c.requires.i_in_bounds in (omega (arith, few-lines _ readable), rw (← line-is _ readable _ h) (line-stands _ readable _ h))
 
 pub returns : goal.returns
-returns c = let readable = c.requires.readable in let h = c.requires.i_in_bounds in record { value = c.Line-of.ensures.0 ∙ sym (line-is _ readable _ h); small = c.Line-of.ensures.1 }
+returns c = let readable = c.requires.readable in let h = c.requires.i_in_bounds in record { value = c.line_of.ensures.0 ∙ sym (line-is _ readable _ h); small = c.line_of.ensures.1 }

@@ -33,7 +33,7 @@ loop-i-preserved c =
     let ls = c.args.lengths in
     let rows = c.args.rows.now in
     let below = c.loop-i-test.true in
-    let line = c.write_line.ensures ∙ ap line_text (c.before.before.before.before.before.Line-of.ensures ∙ ap (line_of rows) (turn-entry ls c.requires.loadable.0 rows c.requires.loadable.1 c.args.first _ c.loop-i.i _ _ c.loop-i.invariant.0 c.drawn-v.ensures c.entry_next-e.ensures)) in (
+    let line = c.write_line.ensures ∙ ap line_text (c.before.before.before.before.before.line_of.ensures ∙ ap (line_of rows) (turn-entry ls c.requires.loadable.0 rows c.requires.loadable.1 c.args.first _ c.loop-i.i _ _ c.loop-i.invariant.0 c.drawn-v.ensures c.entry_next-e.ensures)) in (
       turn_moved ls c.requires.loadable.0 rows c.requires.loadable.1 c.args.first _ c.loop-i.i _ _ c.loop-i.invariant.0 c.drawn-v.ensures c.entry_next-e.ensures _ c.moved_by-s.ensures,
       line-over (log-lines (frames_of ls rows) rows c.args.first) _ _ _ _ c.loop-i.invariant.1 _ below line,
       search rules,
