@@ -10,16 +10,16 @@ import random
 import re
 
 ROOT = pathlib.Path(__file__).resolve().parent.parent
-PROVED = {'laws', 'theory', 'examples', 'Lib', 'Laws', 'Cases', 'Compute', 'Groups', 'Applied'}  # folders and files of no definitions
+PROVED = {'Laws', 'Theory', 'Examples', 'Lib', 'Cases', 'Compute', 'Groups', 'Applied'}  # folders and files of no definitions
 
-Node = collections.namedtuple('Node', 'start end text inner')  # inner: what stands between brackets, None for a word
+Node = collections.namedtuple('Node', 'start end text inner')  # inner: what stands between brackets, or a value and the field that is taken of it; None for a word
 Clause = collections.namedtuple('Clause', 'pattern start end')  # the sides of an equation, or a field's name and type
 Definition = collections.namedtuple('Definition', 'path name is_record is_type clauses known')
 Edit = collections.namedtuple('Edit', 'name path definition kind line changes')  # changes: (start, end, new text)
 
 # ---- the text of a definition, as a tree
 
-WORD = re.compile(r'--[^\n]*|\[\]|\|\||[()\[\]{};|,]|[^\s()\[\]{};|,]+')
+WORD = re.compile(r'--[^\n]*|\[\]|\|\||[()\[\]{};|,]|[^\s()\[\]{};|,.]+\.(?=\s)|\.?[^\s()\[\]{};|,.]+')  # a field with its dot, a binder with its own
 CLOSED_BY = {'(': ')', '[': ']', '{': '}'}
 PRECEDENCE = {'^': 8, '*': 7, '/': 7, '%': 7, '+': 6, '-': 6, '+ℤ': 6, '-ℤ': 6, '∷': 5, '++': 5, '≤': 4, '<': 4, '≡': 4,
               '&&': 3, '||': 2, '×': 1, '→': 0}
@@ -38,6 +38,9 @@ def tree(text, start, end):
         elif opened and word == CLOSED_BY[text[opened[-1]]]:
             inner, begin = levels.pop(), opened.pop()
             levels[-1].append(Node(begin, found.end(), text[begin:found.end()], inner))
+        elif word[0] == '.' and levels[-1] and levels[-1][-1].end == found.start():
+            value, field = levels[-1].pop(), Node(found.start(), found.end(), word, None)
+            levels[-1].append(Node(value.start, found.end(), text[value.start:found.end()], [value, field]))
         else:
             levels[-1].append(Node(found.start(), found.end(), word, None))
     return levels[0]
@@ -102,12 +105,14 @@ def types_of(signature):
     return [t.strip() for t in types if not t.strip().startswith('{')]
 
 
+BELIEVED = set(believed_files())
 SIGNATURE = re.compile(r'^(?:unfoldable |abbrev )?pub (\S+) : ([^\n]*)', re.M)
-SIGNATURES = {'cond': ['Bool', 'A', 'A', 'A'], 'getD': ['List', 'ℕ', 'ℕ', 'ℕ'], 'set': ['List', 'ℕ', 'ℕ', 'List'],
+SIGNATURES = {'cond': ['Bool', 'A', 'A', 'A'], 'get_or': ['List', 'ℕ', 'ℕ', 'ℕ'], 'slice_index': ['List', 'ℕ', 'ℕ'],
+              'set': ['List', 'ℕ', 'ℕ', 'List'], 'slice_set': ['List', 'ℕ', 'ℕ', 'List'],
               'leb': ['ℕ', 'ℕ', 'Bool'], 'ltb': ['ℕ', 'ℕ', 'Bool']}
 MEMBERS = {}  # of each struct, enum and record by crate and name: its fields or variants, with their types
 for file in sorted(ROOT.glob('crates/*/specs/**/*.antt')):
-    for name, signature in SIGNATURE.findall(file.read_text()):
+    for name, signature in SIGNATURE.findall(file.read_text()) if file in BELIEVED else ():
         SIGNATURES.setdefault(name, types_of(signature))
     for name, body in re.findall(r'^pub record (\w+) [^\n]*where\n((?:  [^\n]*\n)*)', file.read_text(), re.M):
         MEMBERS[file.parts[len(ROOT.parts) + 1], name] = dict(re.findall(r'^  pub (\S+) : (\S+)(?:  --.*)?$', body, re.M))
@@ -119,10 +124,10 @@ for file in ROOT.glob('crates/*/src/**/*.rt'):
 
 def known_at(text, end):
     """What a file names before a place: groups of fields, variants and definitions, each with types."""
-    declared = re.findall(r'Rattle·(\w+?)(?:·specs)?\.specs\.declared\.(\w+)', text[:end])
+    declared = re.findall(r'Rattle\.(\w+)\.specs\.declared\.(\w+)', text[:end])
     declared += [(crate, name) for crate, name in MEMBERS if re.search(rf'^pub record {name} ', text, re.M)]
     groups = [MEMBERS[key] for key in sorted(set(declared)) if key in MEMBERS]
-    names = re.findall(r'^use Rattle[^{]*\.specs\.[A-Z]\w*\.\{([^}]*)\}', text, re.M)
+    names = re.findall(r'^use Rattle\.(?!std\.)[^{]*\.specs\.[A-Z]\w*\.\{([^}]*)\}', text, re.M)
     names = [n for line in names for n in line.split(', ')] + [n for n, _ in SIGNATURE.findall(text[:end])]
     return groups + [{n: SIGNATURES[n] for n in names if len(SIGNATURES.get(n, [])) > 1}]
 
@@ -151,22 +156,21 @@ def definitions(path):
 
 # ---- the edits
 
-WORDS = {}  # each word with the one that takes its place, the edit's kind and the module of both
-for one, other, kind, module in [
-        ('≤', '<', 'comparison', 'Prim.Native.Nat'), ('leb', 'ltb', 'comparison', 'lib.Dec'),
-        ('true', 'false', 'truth', 'mathlib.Core.Bool'), ('&&', '||', 'connective', 'mathlib.Core.Bool'),
-        ('+', '-', 'sign', 'Prim.Native.Nat'), ('+ℤ', '-ℤ', 'sign', 'lib.IntN'), ('max', 'min', 'extreme', 'Prim.Native.Nat')]:
-    WORDS[one], WORDS[other] = (other, kind, module), (one, kind, module)
+WORDS = {}  # each word with the one that takes its place, and the edit's kind
+for one, other, kind in [
+        ('≤', '<', 'comparison'), ('leb', 'ltb', 'comparison'), ('true', 'false', 'truth'), ('&&', '||', 'connective'),
+        ('+', '-', 'sign'), ('+ℤ', '-ℤ', 'sign'), ('max', 'min', 'extreme')]:
+    WORDS[one], WORDS[other] = (other, kind), (one, kind)
 MORE_AT = {'≤': 1, '<': 0, 'leb': 1, 'ltb': 0}  # the side that is made greater by one: WORDS makes the other one so
 NUMBER = re.compile(r'\d[\d_]*')
 
 
-def imported(text, word, module):
-    name = word if word[0].isalpha() else '_' + word + '_'
-    line = re.search(r'^use ' + re.escape(module) + r'\.\{([^}]*)\}', text, re.M)
+def imported(text, word):
+    name = word if word[0].isalpha() else '◌' + word + '◌'
+    line = re.search(r'^use Rattle\.std\.specs\.Prelude\.\{([^}]*)\}', text, re.M)
     if line is None:
         at = re.search(r'^use ', text, re.M).start()
-        return [(at, at, f'use {module}.{{{name}}}\n')]
+        return [(at, at, f'use Rattle.std.specs.Prelude.{{{name}}}\n')]
     return [] if name in line.group(1).split(', ') else [(line.end(1), line.end(1), ', ' + name)]
 
 
@@ -179,21 +183,21 @@ def exchanged(text, kind, one, other):
 def one_more(text, place):
     old = text[slice(*place)] if place else '0'
     if not NUMBER.fullmatch(old):
-        yield 'limit', [(*place, f'(suc ({old}))' if ' ' in old else f'(suc {old})')] + imported(text, 'suc', 'Prim.Native.Nat')
+        yield 'limit', [(*place, f'(suc ({old}))' if ' ' in old else f'(suc {old})')] + imported(text, 'suc')
 
 
 def of_word(text, node, known):
     word, place = node.text, (node.start, node.end)
     if word in WORDS:
-        new, kind, module = WORDS[word]
-        yield kind, [(*place, new)] + imported(text, new, module)
+        new, kind = WORDS[word]
+        yield kind, [(*place, new)] + imported(text, new)
     if NUMBER.fullmatch(word):
         yield from (('number', [(*place, str(value))]) for value in (int(word) + 1, int(word) - 1) if value >= 0)
     other = next_alike(word.lstrip('.'), known)
     if node.inner is None and other != word.lstrip('.'):
         if word[0] == '.':
             yield 'projection', [(*place, '.' + other)]
-        elif word in SIGNATURES or re.search(r'the-variants\.\{[^}]*\b' + other + r'\b[,}]', text):
+        elif word in SIGNATURES or re.search(r'TheVariants\.\{[^}]*\b' + other + r'\b[,}]', text):
             yield 'name', [(*place, other)]
 
 

@@ -1,4 +1,4 @@
-//! Links the library as `rt staticlib` leaves it: the entries for C, and those for tests.
+//! Links the libraries as `tools/build` leaves them: the entries for C, and those for tests.
 
 fn main() {
     let here = std::env::var("CARGO_MANIFEST_DIR").expect("cargo gives the folder");

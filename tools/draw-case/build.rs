@@ -1,4 +1,4 @@
-//! Links the library as `rt staticlib certifier` leaves it.
+//! Links the library as `tools/build certifier_c` leaves it.
 
 fn main() {
     let here = std::env::var("CARGO_MANIFEST_DIR").expect("cargo gives the folder");

@@ -12,8 +12,7 @@ use crate::encode::encode_turned;
 use log_load::Answer;
 
 // Writes the sheet of the log, for stretches of `width` ticks, and answers its length. A refusal leaves the output as it is.
-#[unsafe(no_mangle)]
-pub extern "C" fn certifier_busiest(
+pub fn certifier_busiest(
     lengths: &[u8],
     table: &[u8],
     log: &[u8],

@@ -22,8 +22,7 @@ use row_judgement::{
 use table_checks::Checked;
 
 // Judges the claim of a row of the table, by the lengths.
-#[unsafe(no_mangle)]
-pub extern "C" fn certifier_judge(lengths: &[u8], table: &[u8], row: u64) -> i64
+pub fn certifier_judge(lengths: &[u8], table: &[u8], row: u64) -> i64
     ensures { result ≡ encode_judged (judge_file lengths.now table.now row) }
 {
     let loaded = lengths_file::read(lengths);
@@ -48,8 +47,7 @@ fn judge_table(lengths: [[u32; 9]; 2], table: &[u8], row: u64) -> i64
 }
 
 // The precise bound of a row of the table, by the lengths.
-#[unsafe(no_mangle)]
-pub extern "C" fn certifier_precise_bound(lengths: &[u8], table: &[u8], row: u64) -> i64
+pub fn certifier_precise_bound(lengths: &[u8], table: &[u8], row: u64) -> i64
     ensures { result ≡ encode_bounded (bound_file lengths.now table.now row) }
 {
     let loaded = lengths_file::read(lengths);
@@ -74,8 +72,7 @@ fn bound_table(lengths: [[u32; 9]; 2], table: &[u8], row: u64) -> i64
 }
 
 // Lists the judgements of the table, by the lengths, and answers the listing's length. A refusal leaves the output as it is.
-#[unsafe(no_mangle)]
-pub extern "C" fn certifier_list(lengths: &[u8], table: &[u8], out: &mut [u8]) -> i64
+pub fn certifier_list(lengths: &[u8], table: &[u8], out: &mut [u8]) -> i64
     ensures value { result ≡ encode_answer (list_answer lengths.now table.now out.old) }
     ensures out_after { out.new ≡ area_after (list_answer lengths.now table.now out.old) (listing_of Never (lengths_of lengths.now) (fields_of table.now)) out.old }
 {
@@ -83,8 +80,7 @@ pub extern "C" fn certifier_list(lengths: &[u8], table: &[u8], out: &mut [u8]) -
 }
 
 // Writes the load sheet of the table, by the lengths, and answers its length. A refusal leaves the output as it is.
-#[unsafe(no_mangle)]
-pub extern "C" fn certifier_load_sheet(lengths: &[u8], table: &[u8], out: &mut [u8]) -> i64
+pub fn certifier_load_sheet(lengths: &[u8], table: &[u8], out: &mut [u8]) -> i64
     ensures value { result ≡ encode_answer (sheet_answer lengths.now table.now out.old) }
     ensures out_after { out.new ≡ area_after (sheet_answer lengths.now table.now out.old) (sheet_of (lengths_of lengths.now) (fields_of table.now)) out.old }
 {

@@ -18,13 +18,7 @@ const SHOWN: usize = 17;
 
 // Judges the claim of a row of the table, by the lengths, and shows the case that breaks it, if its verdict is 3: the alignments of groups 1 to
 // 16, and then the instance. Where there is none, or the call is turned back, the area is left as it is.
-#[unsafe(no_mangle)]
-pub extern "C" fn certifier_explain(
-    lengths: &[u8],
-    table: &[u8],
-    row: u64,
-    shown: &mut [u32],
-) -> i64
+pub fn certifier_explain(lengths: &[u8], table: &[u8], row: u64, shown: &mut [u32]) -> i64
     ensures value { result ≡ encode_explained (explain_file lengths.now table.now row) (length shown.old) }
     ensures shown_after { shown.new ≡ shown_after (explain_file lengths.now table.now row) shown.old }
 {

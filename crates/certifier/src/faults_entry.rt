@@ -19,8 +19,7 @@ use row_judgement::{explain_faults, judge_faults_accepted, of_table};
 use table_checks::Checked;
 
 // Judges the claim of a row of the table, by the lengths, where faults begin at least `gap` ticks apart.
-#[unsafe(no_mangle)]
-pub extern "C" fn certifier_judge_faults(lengths: &[u8], table: &[u8], row: u64, gap: u64) -> i64
+pub fn certifier_judge_faults(lengths: &[u8], table: &[u8], row: u64, gap: u64) -> i64
     ensures { result ≡ encode_judged (judge_faults_file lengths.now table.now row gap) }
 {
     let loaded = lengths_file::read(lengths);
@@ -45,8 +44,7 @@ fn judge_faults_table(lengths: [[u32; 9]; 2], table: &[u8], row: u64, gap: u64) 
 }
 
 // Judges the same, and shows the case that breaks the claim, if its verdict is 3.
-#[unsafe(no_mangle)]
-pub extern "C" fn certifier_explain_faults(
+pub fn certifier_explain_faults(
     lengths: &[u8],
     table: &[u8],
     row: u64,
@@ -85,13 +83,7 @@ fn explain_faults_table(
 
 // Lists the judgements of the table, by the lengths, where faults begin at least `gap` ticks apart, and answers the listing's length. A refusal
 // leaves the output as it is.
-#[unsafe(no_mangle)]
-pub extern "C" fn certifier_list_faults(
-    lengths: &[u8],
-    table: &[u8],
-    gap: u64,
-    out: &mut [u8],
-) -> i64
+pub fn certifier_list_faults(lengths: &[u8], table: &[u8], gap: u64, out: &mut [u8]) -> i64
     ensures value { result ≡ encode_answered (list_faults_returns lengths.now table.now gap out.old) }
     ensures out_after { out.new ≡ listed_file lengths.now table.now gap out.old }
 {

@@ -6,8 +6,7 @@ ghost use Rattle.certifier.specs.FrameEntry.{encode_frame};
 use frame_length::Measured;
 
 // The length of the data frame in ticks, or minus (number × 10000 + place).
-#[unsafe(no_mangle)]
-pub extern "C" fn certifier_frame_length(kind: u32, identifier: u32, payload: &[u8]) -> i64
+pub fn certifier_frame_length(kind: u32, identifier: u32, payload: &[u8]) -> i64
     ensures { result ≡ encode_frame (frame_returns kind identifier payload.now) }
 {
     let measured = frame_length::measure(kind as u64, identifier as u64, payload);

@@ -1,6 +1,6 @@
 // The operations on frame tables: the precise bound of a row, its judgement, the listing of all rows, and
-// the entries for C, those of the load sheet, of a frame's length, of a log and of a simulation among them. Each takes any input, and
-// checks its lengths and its table itself. The encode functions give the numbers that the entries answer.
+// the entries for C, which certifier_c exports, those of the load sheet, of a frame's length, of a log and of a simulation among them. Each
+// takes any input, and checks its lengths and its table itself. The encode functions give the numbers that the entries answer.
 #![tactic(auto)]
 
 mod busiest_entry;

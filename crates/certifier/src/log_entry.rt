@@ -7,13 +7,7 @@ use crate::encode::encode_turned;
 use log_check::{GROUPS, LogChecked, Outcome};
 
 // Writes the starts of groups 1 to 16 at the beginning of the area, and answers how many they are. A refusal leaves the area as it is.
-#[unsafe(no_mangle)]
-pub extern "C" fn certifier_check_log(
-    lengths: &[u8],
-    table: &[u8],
-    log: &[u8],
-    starts: &mut [u64],
-) -> i64
+pub fn certifier_check_log(lengths: &[u8], table: &[u8], log: &[u8], starts: &mut [u64]) -> i64
     ensures value { result ≡ encode_answered (starts_answered (files_returns lengths.now table.now log.now) starts.old) }
     ensures starts_after { starts.new ≡ starts_area (files_returns lengths.now table.now log.now) starts.old }
 {

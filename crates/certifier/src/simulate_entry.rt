@@ -8,8 +8,7 @@ use crate::encode::encode_answer;
 use simulator::Simulated;
 
 // Writes a log of so many lines of the table, by the lengths, from a seed, and answers its length. A refusal leaves the output as it is.
-#[unsafe(no_mangle)]
-pub extern "C" fn certifier_simulate(
+pub fn certifier_simulate(
     lengths: &[u8],
     table: &[u8],
     seed: u32,

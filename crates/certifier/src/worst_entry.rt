@@ -19,8 +19,7 @@ const SHOWN: usize = 18;
 // Judges the claim of the frame that ranks last, by the lengths, and shows its worst case, where its precise bound can be had and every
 // offset is below its period: the starts of groups 1 to 16, the instance, from 0, and its response. Where none is shown, or the call is
 // turned back, the area is left as it is.
-#[unsafe(no_mangle)]
-pub extern "C" fn certifier_worst(lengths: &[u8], table: &[u8], shown: &mut [u32]) -> i64
+pub fn certifier_worst(lengths: &[u8], table: &[u8], shown: &mut [u32]) -> i64
     ensures value { result ≡ encode_worst (worst_file lengths.now table.now) (length shown.old) }
     ensures shown_after { shown.new ≡ worst_after (worst_file lengths.now table.now) shown.old }
 {

@@ -1,5 +1,5 @@
 -- What one step of the code hands to the next.
-use Rattle.std.specs.Prelude.{ℕ, ◌≤◌}
+use Rattle.std.specs.Prelude.{ℕ, ◌≡◌, ◌≤◌, List, length, take}
 use Rattle.console.specs.declared.Stream.{Stream}
 use Rattle.console.specs.declared.Stream.TheVariants.{Whole, Longer, Unreadable}
 
@@ -14,3 +14,7 @@ abbrev pub Held : Stream → ℕ → Type 0
 Held (Whole n) size = n ≤ size
 Held (Longer n) size = n ≤ size
 Held Unreadable size = Unit {0}
+
+-- a buffer has n bytes, and n are at its start
+abbrev pub IsPrefixLen : ℕ → List ℕ → Type 0
+IsPrefixLen n buffer = (n ≤ length buffer) × (n ≡ length (take n buffer))

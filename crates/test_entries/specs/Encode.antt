@@ -6,7 +6,7 @@ use Rattle.table_checks.specs.Checks.{lengths_check, rows_check}
 use Rattle.frame_table.specs.declared.Answer.{Answer}
 use Rattle.frame_table.specs.Text.{fields_of, text_of}
 use Rattle.frame_table.specs.Table.{read_check, answer_for}
-use Rattle.lengths_file.specs.Lengths.{text_of as lengthsTextOf}
+use Rattle.lengths_file.specs.Lengths.{text_of as lengths_text_of}
 use Rattle.row_judgement.specs.Refusal.{of_table}
 use Rattle.certifier.specs.Encode.{encode_refusal}
 use Rattle.test_entries.specs.Lengths.{array_of}
@@ -21,7 +21,7 @@ write_answer rows file = answer_for (rows_check rows) (text_of rows) file
 
 -- the lengths are given as numbers
 abbrev pub write_lengths_answer : List ℕ → List ℕ → Answer
-write_lengths_answer numbers file = answer_for (lengths_check (array_of numbers)) (lengthsTextOf (array_of numbers)) file
+write_lengths_answer numbers file = answer_for (lengths_check (array_of numbers)) (lengths_text_of (array_of numbers)) file
 
 -- ---- as a number
 

@@ -12,7 +12,7 @@ use Rattle.frame_table.specs.Text.{fields_of, text_of}
 use Rattle.frame_table.specs.Table.{read_check, answer_for}
 use Rattle.frame_table.specs.Laws.Layout.{table-lines}
 use Rattle.frame_table.specs.Laws.RoundTrip.{text-read}
-use Rattle.lengths_file.specs.Lengths.{text_of as lengthsTextOf}
+use Rattle.lengths_file.specs.Lengths.{text_of as lengths_text_of}
 use Rattle.lengths_file.specs.Laws.Layout.{length-text}
 use Rattle.certifier.specs.Steps.{Countable}
 use Rattle.certifier.specs.Laws.Answers.{countable}
@@ -31,8 +31,8 @@ write-countable rows file =
     (λ e. let most = (accepted-size rows e).most in
     let size = length-lines (table-lines rows) (length rows / columns) 0 in omega arith)
 
-pub lengths-countable : (ls : List (List ℕ)) (file : List ℕ) → Countable (answer_for (lengths_check ls) (lengthsTextOf ls) file)
-lengths-countable ls file = countable (lengths_check ls) (lengthsTextOf ls) file (λ e. omega (arith, length-text ls))
+pub lengths-countable : (ls : List (List ℕ)) (file : List ℕ) → Countable (answer_for (lengths_check ls) (lengths_text_of ls) file)
+lengths-countable ls file = countable (lengths_check ls) (lengths_text_of ls) file (λ e. omega (arith, length-text ls))
 
 -- ---- numbers as lengths
 

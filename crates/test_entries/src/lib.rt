@@ -9,7 +9,7 @@ ghost use Rattle.std.specs.Prelude.{◌≡◌};
 ghost use Rattle.table_checks.specs.Checks.{rows_check};
 ghost use Rattle.frame_table.specs.Text.{fields_of, text_of};
 ghost use Rattle.frame_table.specs.Table.{area_after};
-ghost use Rattle.lengths_file.specs.Lengths.{text_of as lengthsTextOf};
+ghost use Rattle.lengths_file.specs.Lengths.{text_of as lengths_text_of};
 ghost use Rattle.row_judgement.specs.Judge.{judge_row, bound_row};
 ghost use Rattle.certifier.specs.Encode.{encode_judged, encode_bounded, encode_answer};
 ghost use Rattle.test_entries.specs.Lengths.{array_of};
@@ -52,7 +52,7 @@ pub extern "C" fn test_write(rows: &[u32], file: &mut [u8]) -> i64
 #[unsafe(no_mangle)]
 pub extern "C" fn test_write_lengths(lengths: &[u32], file: &mut [u8]) -> i64
     ensures value { result ≡ encode_answer (write_lengths_answer lengths.now file.old) }
-    ensures file_after { file.new ≡ area_after (write_lengths_answer lengths.now file.old) (lengthsTextOf (array_of lengths.now)) file.old }
+    ensures file_after { file.new ≡ area_after (write_lengths_answer lengths.now file.old) (lengths_text_of (array_of lengths.now)) file.old }
 {
     certifier::encode_answer(lengths_file::write(array(lengths), file))
 }

@@ -67,21 +67,22 @@ visits c =
 
 -- the greater work is kept
 greater : (c : Joined-work-visited) → c.if-work-visited.work ≡ max c.loop-work.work (c.begin-whole.result + c.visit-v.result.extra)
-greater c = elim c.if-work-visited.branch [ then-work-visited w ↦ omega (arith, w.if-work-visited.true, w.2) | else-work-visited w ↦ omega (arith, w.if-work-visited.false, w.2) ]
+greater c = elim c.if-work-visited.branch [ then-work-visited w ↦ omega (arith, w.if-work-visited.true, w.work-is) | else-work-visited w ↦ omega (arith, w.if-work-visited.false, w.work-is) ]
 
 -- so the walk may leave the alignment
 step : (c : Joined-work-visited)
+    → c.begin-whole.result + c.visit-v.result.extra ≡ work_at (frames_in (table_of c.args.rows.now c.args.prepared.now) c.args.part.now) c.loop-work.a c.args.n
     → let l = c.loop-work in
     let f : ℕ → ℕ = λ b. work_at (frames_in (table_of c.args.rows.now c.args.prepared.now) c.args.part.now) b c.args.n in
     (xs : List ℕ) → max l.work (greatest f (l.a ∷ xs)) ≡ max c.if-work-visited.work (greatest f xs)
-step c = greatest-more _ _ _ (greater c ∙ ap (max c.loop-work.work) (visits c.before.before).0)
+step c work = greatest-more _ _ _ (greater c ∙ ap (max c.loop-work.work) work)
 
 -- the alignment is one of them
 among : (c : Joined-work-visited)
     → Mem c.if-work-visited.alignment (instants_in (frames_in (table_of c.args.rows.now c.args.prepared.now) c.args.part.now) c.args.end)
 among c =
     let l = c.loop-work in
-    elim c.if-work-visited.branch [ then-work-visited t ↦ rw t.1 l.invariant.1 | else-work-visited t ↦ rw t.1 l.invariant.3 ]
+    elim c.if-work-visited.branch [ then-work-visited t ↦ rw t.alignment-is l.invariant.1 | else-work-visited t ↦ rw t.alignment-is l.invariant.3 ]
 
 pub overflow_add-visited : goal.overflow_add-visited
 overflow_add-visited c = omega (arith, c.begin-whole.ensures.small, c.visit-v.ensures.small.0)
@@ -98,7 +99,7 @@ returns-then-end-a c =
     let v = c.visit-v.ensures in
     let l = c.loop-work in
     let none = ended-none _ _ _ v.next c.if-end-a.true in
-    let most = sym (max-zero _) ∙ walk_end _ _ _ _ _ l.invariant.0 (step (goal.at.returns-then-end-a c).Joined-work-visited) none in
+    let most = sym (max-zero _) ∙ walk_end _ _ _ _ _ l.invariant.0 (step (goal.at.returns-then-end-a c).Joined-work-visited (visits (goal.at.returns-then-end-a c).After-visit-v).0) none in
     let all = sym (add-zero _) ∙ walk_end _ _ _ _ _ l.invariant.6 (length_more l.count l.a) none in
     record { among = or-empty (among (goal.at.returns-then-end-a c).Joined-work-visited); work_value = most; count = all ∙ ap length (sym (visits-are _ _)); small = (omega (arith, l.invariant.2, greater (goal.at.returns-then-end-a c).Joined-work-visited, (visits (goal.at.returns-then-end-a c).After-visit-v).1), omega (arith, l.invariant.7, l.invariant.0.inside, c.requires.end_bound.0)) }
 
@@ -119,7 +120,7 @@ loop-work-preserved c =
     let v = c.visit-v.ensures in
     let l = c.loop-work in
     let last : l.a ≡ l.a + c.visit-v.result.gap - c.visit-v.result.gap = omega arith in (
-      walk_more _ _ _ _ _ l.invariant.0 (step (goal.at.loop-work-preserved c).Joined-work-visited) (found (goal.at.loop-work-preserved c).Else-end-a),
+      walk_more _ _ _ _ _ l.invariant.0 (step (goal.at.loop-work-preserved c).Joined-work-visited (visits (goal.at.loop-work-preserved c).After-visit-v).0) (found (goal.at.loop-work-preserved c).Else-end-a),
       keep-found _ _ _ refl (found (goal.at.loop-work-preserved c).Else-end-a),
       omega (arith, l.invariant.2, greater (goal.at.loop-work-preserved c).Joined-work-visited, (visits (goal.at.loop-work-preserved c).After-visit-v).1),
       among (goal.at.loop-work-preserved c).Joined-work-visited,

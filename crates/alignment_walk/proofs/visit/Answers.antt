@@ -44,25 +44,30 @@ pub overflow_sub-wait : goal.overflow_sub-wait
 overflow_sub-wait c = omega (arith, (waited (goal.at.overflow_sub-wait c).In-loop-i).0)
 
 -- what the rest asks for
-extra : (c : After-in_rest-extra) → (c.in-default.result ≡ extra_demand c.args.a c.args.n (frame c.before.before.before.before.before.before)) × (c.in-default.result ≤ 400)
-extra c =
-    let is = rw ((notes c.before.before.before.before.before.before).length, (notes c.before.before.before.before.before.before).rest) at c.in-default.ensures ∙ wait-rest (fine c.before.before.before.before.before.before) c.args.a (waited c.before.before.before.before.before.before).1 c.args.n in
-    (is, omega (arith, is, extra-small (fine c.before.before.before.before.before.before) c.args.a c.args.n))
+extra : (c : After-in_rest-extra) → let a = c.args in let g = row (table_of a.rows.now a.prepared.now) (get_or a.part.now c.loop-i.i 0) in
+    Fine g → NotesOf a.n g a.notes.now c.loop-i.i → get_or c.loop-i.waits c.loop-i.i 0 - a.gap ≡ wait_from a.a a.a g
+    → (c.in_rest-extra.result ≡ extra_demand a.a a.n g) × (c.in_rest-extra.result ≤ 400)
+extra c good noted late =
+    let is = rw (noted.length, noted.rest) at c.in_rest-extra.ensures ∙ wait-rest good c.args.a late c.args.n in
+    (is, omega (arith, is, extra-small good c.args.a c.args.n))
 
 pub overflow_add-extra : goal.overflow_add-extra
-overflow_add-extra c = omega (arith, extra c, c.loop-i.invariant.0.small, few (goal.at.overflow_add-extra c).In-loop-i)
+overflow_add-extra c =
+    let i = (goal.at.overflow_add-extra c).In-loop-i in
+    omega (arith, extra (goal.at.overflow_add-extra c).After-in_rest-extra (fine i) (notes i) (waited i).1, c.loop-i.invariant.0.small, few i)
 
 pub loop-i-preserved : goal.loop-i-preserved
 loop-i-preserved c =
     let l = c.loop-i in
     let less = c.loop-i-test.true in
     let a = c.args in
-    let asked = extra (goal.at.loop-i-preserved c).After-in_rest-extra in
-    let later = rw (notes (goal.at.loop-i-preserved c).In-loop-i).period at c.wait_after-later.ensures ∙ wait-next (fine (goal.at.loop-i-preserved c).In-loop-i) a.a (waited (goal.at.loop-i-preserved c).In-loop-i).1 in (
+    let i = (goal.at.loop-i-preserved c).In-loop-i in
+    let asked = extra (goal.at.loop-i-preserved c).After-in_rest-extra (fine i) (notes i) (waited i).1 in
+    let later = rw (notes i).period at c.wait_after-later.ensures ∙ wait-next (fine i) a.a (waited i).1 in (
       sum-next l.invariant.0 less asked.0 asked.1,
-      first_next {x = a.a + c.wait_after-later.result} l.invariant.1 less (omega (arith, later, next-late (fine (goal.at.loop-i-preserved c).In-loop-i) (a.a + 1))) (omega (arith, c.lesser-least.ensures)),
+      first_next {x = a.a + c.wait_after-later.result} l.invariant.1 less (omega (arith, later, next-late (fine i) (a.a + 1))) (omega (arith, c.lesser-least.ensures)),
       omega (arith, l.invariant.2, c.lesser-least.ensures),
-      note-more _ l.invariant.3 (omega (arith, few (goal.at.loop-i-preserved c).In-loop-i)) later,
+      note-more _ l.invariant.3 (omega (arith, few i)) later,
       note-left _ l.invariant.4,
     )
 

@@ -17,7 +17,7 @@ returns-then-out-lt-LINE c =
     let answer = area-short Passed (line_of Never a.lengths a.rows.now a.i) a.out.now _ _ (length-alone a.lengths a.rows.now a.i) refl c.if-out-lt-LINE.true c.no_room.ensures in record { value = answer.0; out_after = answer.1 }
 
 pub write_row-requires : goal.write_row-requires
-write_row-requires c = let p = (c.requires.loadable, c.requires.i_in_bounds) in record { loadable = p.0; fine_faults = fine-never; i_in_bounds = (p.1, simp (length-take, length-drop) (omega (arith, c.if-out-lt-LINE.false))) }
+write_row-requires c = let p = c.requires in record { loadable = p.loadable; fine_faults = fine-never; i_in_bounds = (p.i_in_bounds, simp (length-take, length-drop) (omega (arith, c.if-out-lt-LINE.false))) }
 
 pub returns : goal.returns
 returns c =

@@ -8,12 +8,12 @@ use Rattle.bounds.proofs.alignments.is_last.Goals as goal
 
 pub overflow_add-a : goal.overflow_add-a
 overflow_add-a c =
-    let p = (c.requires.prepared, c.requires.le_group) in
-    let t = p.0.filled.table in
-    omega (arith, p.1.2, t.hyper _ p.1.0 p.1.1, turn-le t.valid c.args.target.frame c.args.group)
+    let p = c.requires in
+    let t = p.prepared.filled.table in
+    omega (arith, p.le_group.2, t.hyper _ p.le_group.0 p.le_group.1, turn-le t.valid c.args.target.frame c.args.group)
 
 pub next_of-found-requires : goal.next_of-found-requires
-next_of-found-requires c = let p = (c.requires.prepared, c.requires.le_group) in record { prepared = p.0; le_group = (p.1.0, p.1.1, omega (arith, p.1.2)) }
+next_of-found-requires c = let p = c.requires in record { prepared = p.prepared; le_group = (p.le_group.0, p.le_group.1, omega (arith, p.le_group.2)) }
 
 pub returns-in-At : goal.returns-in-At
 unfolding is_none

@@ -12,8 +12,8 @@ returns-in_default c =
 
 pub refine_own-bound-requires : goal.refine_own-bound-requires
 refine_own-bound-requires c =
-    let p = (c.requires.ready_2, (c.requires.limits, c.requires.frame_value)) in
-    record { ready_2 = p.0; own_open = free-start p.0.prepared.filled.table p.0.listed; limits = p.1.0; frame_value = (p.1.1.0, omega arith) }
+    let p = c.requires in
+    record { ready_2 = p.ready_2; own_open = free-start p.ready_2.prepared.filled.table p.ready_2.listed; limits = p.limits; frame_value = (p.frame_value.0, omega arith) }
 
 pub returns-then-enough-bound : goal.returns-then-enough-bound
 returns-then-enough-bound c =

@@ -23,8 +23,8 @@ own_choice-own-requires c = let p = c.requires.ready_2 in in-table-fine _ p.prep
 
 pub refine_own-requires : goal.refine_own-requires
 refine_own-requires c =
-    let p = (c.requires.ready_2, (c.requires.refined_by, c.requires.frame_value)) in
-    record { ready_2 = p.0; own_open = record { refines = p.1.0; any = sym c.own_choice-own.ensures ∙ c.in_default.is }; limits = tt; frame_value = (p.1.1, omega arith) }
+    let p = c.requires in
+    record { ready_2 = p.ready_2; own_open = record { refines = p.refined_by; any = sym c.own_choice-own.ensures ∙ c.in_default.is }; limits = tt; frame_value = (p.frame_value, omega arith) }
 
 pub shape_of-memory-in_default : goal.shape_of-memory-in_default
 shape_of-memory-in_default c = c.refine_own.ensures.ready.remembered.size ∙ sym c.requires.ready_2.remembered.size
@@ -50,8 +50,8 @@ again c = own-again c.args.target.frame c.args.choices ((group c.before.before.b
 
 pub reach_of-reach-requires : goal.reach_of-reach-requires
 reach_of-reach-requires c =
-    let p = (c.requires.ready_2, (c.requires.refined_by, c.requires.frame_value)) in
-    record { ready_2 = p.0; limits = tt; by_index = refined-window p.0.prepared.filled.table p.0.listed _ c.args.choices (long (goal.at.reach_of-reach-requires c).Start) p.1.0 p.1.1 (fixed (goal.at.reach_of-reach-requires c).In-Fixed-2) }
+    let p = c.requires in
+    record { ready_2 = p.ready_2; limits = tt; by_index = refined-window p.ready_2.prepared.filled.table p.ready_2.listed _ c.args.choices (long (goal.at.reach_of-reach-requires c).Start) p.refined_by p.frame_value (fixed (goal.at.reach_of-reach-requires c).In-Fixed-2) }
 
 pub refine-requires : goal.refine-requires
 refine-requires c =

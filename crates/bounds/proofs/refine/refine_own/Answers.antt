@@ -30,30 +30,30 @@ nonzero_rem-a c = let p = c.requires.ready_2 in (in-table-fine _ p.prepared.fill
 pub loop-most-init : goal.loop-most-init
 unfolding phase
 loop-most-init c =
-    let p = (c.requires.ready_2, (c.requires.own_open, (c.requires.limits, c.requires.frame_value))) in
-    (own_first p.0.prepared.filled.table p.0.listed c.args.choices (long (goal.at.loop-most-init c).Start) p.1.0 c.args.target.faults (c.args.left - 1), p.0)
+    let p = c.requires in
+    (own_first p.ready_2.prepared.filled.table p.ready_2.listed c.args.choices (long (goal.at.loop-most-init c).Start) p.own_open c.args.target.faults (c.args.left - 1), p.ready_2)
 
 pub with_choice-finer-requires : goal.with_choice-finer-requires
 with_choice-finer-requires c = group (goal.at.with_choice-finer-requires c).Start
 
 pub reach_of-reach-requires : goal.reach_of-reach-requires
 reach_of-reach-requires c =
-    let p = (c.requires.ready_2, (c.requires.own_open, (c.requires.limits, c.requires.frame_value))) in
-    let t = p.0.prepared.filled.table in
-    record { ready_2 = c.loop-most.invariant.1; limits = own-limits t p.0.listed c.args.choices (long (goal.at.reach_of-reach-requires c).Start) p.1.0 c.loop-most.invariant.0.listed c.with_choice-finer.ensures c.args.target.faults c.args.limit p.1.1.0; by_index = own-window t p.0.listed c.args.choices (long (goal.at.reach_of-reach-requires c).Start) p.1.0 c.loop-most.invariant.0.listed c.with_choice-finer.ensures c.args.target.faults p.1.1.1.0 }
+    let p = c.requires in
+    let t = p.ready_2.prepared.filled.table in
+    record { ready_2 = c.loop-most.invariant.1; limits = own-limits t p.ready_2.listed c.args.choices (long (goal.at.reach_of-reach-requires c).Start) p.own_open c.loop-most.invariant.0.listed c.with_choice-finer.ensures c.args.target.faults c.args.limit p.limits; by_index = own-window t p.ready_2.listed c.args.choices (long (goal.at.reach_of-reach-requires c).Start) p.own_open c.loop-most.invariant.0.listed c.with_choice-finer.ensures c.args.target.faults p.frame_value.0 }
 
 pub refine-most-requires : goal.refine-most-requires
 refine-most-requires c =
-    let p = (c.requires.ready_2, (c.requires.own_open, (c.requires.limits, c.requires.frame_value))) in
-    record { ready_2 = c.reach_of-reach.ensures.ready; le_group = group (goal.at.refine-most-requires c).Start; own_fixed = own-set p.0.prepared.filled.table p.0.listed c.args.choices (long (goal.at.refine-most-requires c).Start) p.1.0 c.loop-most.invariant.0.listed refl; reaches = rw (← c.with_choice-finer.ensures) (c.reach_of-reach.ensures.by_index_2 c.loop-most.most) }
+    let p = c.requires in
+    record { ready_2 = c.reach_of-reach.ensures.ready; le_group = group (goal.at.refine-most-requires c).Start; own_fixed = own-set p.ready_2.prepared.filled.table p.ready_2.listed c.args.choices (long (goal.at.refine-most-requires c).Start) p.own_open c.loop-most.invariant.0.listed refl; reaches = rw (← c.with_choice-finer.ensures) (c.reach_of-reach.ensures.by_index_2 c.loop-most.most) }
 
 -- the greatest over the alignments is that with one group more
 whole : (s : Start) → let x = s.args in let fs = table_of x.rows.now x.prepared.now in let k = x.target.frame in
     greatest (λ b. fixing_more x.target.faults fs k (x.left - 1) (set x.choices (k.group - 1) (Fixed b))) (or_empty (first_turn fs k k.group)) ≡ fixing_more x.target.faults fs k x.left x.choices
 whole s =
-    let p = (s.requires.ready_2, (s.requires.own_open, (s.requires.limits, s.requires.frame_value))) in
-    let fewer : suc (s.args.left - 1) ≡ s.args.left = omega (arith, p.1.1.1.1) in
-    rw fewer at (open_more p.0.prepared.filled.table p.0.listed s.args.choices (long s) s.args.target.faults (s.args.left - 1) (own-next p.0.prepared.filled.table p.0.listed s.args.choices (long s) p.1.0))
+    let p = s.requires in
+    let fewer : suc (s.args.left - 1) ≡ s.args.left = omega (arith, p.frame_value.1) in
+    rw fewer at (open_more p.ready_2.prepared.filled.table p.ready_2.listed s.args.choices (long s) s.args.target.faults (s.args.left - 1) (own-next p.ready_2.prepared.filled.table p.ready_2.listed s.args.choices (long s) p.own_open))
 
 pub shape_of-memory-then-enough-most : goal.shape_of-memory-then-enough-most
 shape_of-memory-then-enough-most c = c.refine-most.ensures.ready.remembered.size ∙ sym c.requires.ready_2.remembered.size

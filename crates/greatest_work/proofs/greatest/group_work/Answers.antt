@@ -16,15 +16,7 @@ pub returns-in-Fixed : goal.returns-in-Fixed
 unfolding group_work
 returns-in-Fixed c =
     let is = read-group c.requires.ready_2.prepared c.args.j c.requires.j_bound.0 (Fixed c.in-Fixed.a) c.args.n (rw c.part_of.ensures at c.work_in.ensures.value) in
-    record {
-      value = rw c.in-Fixed.is (is, (c.work_in.ensures.small, c.requires.ready_2)).0;
-      small = rw c.in-Fixed.is (is, (c.work_in.ensures.small, c.requires.ready_2)).1.0;
-      ready = rw c.in-Fixed.is (is, (c.work_in.ensures.small, c.requires.ready_2)).1.1;
-    }
+    record { value = rw c.in-Fixed.is is; small = c.work_in.ensures.small; ready = c.requires.ready_2 }
 
 pub returns-in-Any : goal.returns-in-Any
-returns-in-Any c = record {
-  value = rw c.in-Any.is (c.open_work.ensures.value, (c.open_work.ensures.small, c.open_work.ensures.ready)).0;
-  small = rw c.in-Any.is (c.open_work.ensures.value, (c.open_work.ensures.small, c.open_work.ensures.ready)).1.0;
-  ready = rw c.in-Any.is (c.open_work.ensures.value, (c.open_work.ensures.small, c.open_work.ensures.ready)).1.1;
-}
+returns-in-Any c = record { value = rw c.in-Any.is c.open_work.ensures.value; small = c.open_work.ensures.small; ready = c.open_work.ensures.ready }

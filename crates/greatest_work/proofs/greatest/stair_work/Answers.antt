@@ -53,8 +53,10 @@ pub returns : goal.returns
 unfolding group_work
 returns c =
     let p = c.requires.ready_2.prepared in
-    let g = rw (c.part_of-part.ensures, c.cycle_of-cycle.ensures) at (c.best_alignment-best.ensures.among, (c.best_alignment-best.ensures.work_value, (c.best_alignment-best.ensures.count, c.best_alignment-best.ensures.small))) in
-    let is = read-group p c.args.j c.requires.j_bound.0 Any c.args.n g.1.0 in
-    let listed = first-aligned p.filled.table.valid _ _ (rw (read-alignments p c.args.j c.requires.j_bound.0) at g.0) in
+    let best = c.best_alignment-best.ensures in
+    let among = rw (c.part_of-part.ensures, c.cycle_of-cycle.ensures) at best.among in
+    let work = rw (c.part_of-part.ensures, c.cycle_of-cycle.ensures) at best.work_value in
+    let is = read-group p c.args.j c.requires.j_bound.0 Any c.args.n work in
+    let listed = first-aligned p.filled.table.valid _ _ (rw (read-alignments p c.args.j c.requires.j_bound.0) at among) in
     let kept = c.insert.ensures _ _ p.filled.table.valid (sym is) c.requires.ready_2.remembered in
     record { value = is; ready = record { prepared = p; listed = c.requires.ready_2.listed; blocked = c.requires.ready_2.blocked; target = c.requires.ready_2.target; cost = c.requires.ready_2.cost; remembered = put-guess kept c.args.j _ c.requires.j_bound.0 (search rules) listed } }

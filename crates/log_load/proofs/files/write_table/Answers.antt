@@ -12,7 +12,7 @@ table : (c : In-Done) → ReadRows c.args.table.now c.read-read.new.rows c.in-Do
 table c = let both = c.read-read.ensures in read-rows _ _ _ refl both.value _ _ both.rows_after c.in-Done.is
 
 pub slice_bounds-rows-end : goal.slice_bounds-rows-end
-slice_bounds-rows-end c = (table c).room
+slice_bounds-rows-end c = (table (goal.at.slice_bounds-rows-end c).In-Done).room
 
 pub slice_bounds-write_accepted-end : goal.slice_bounds-write_accepted-end
 slice_bounds-write_accepted-end c = (table (goal.at.slice_bounds-write_accepted-end c).In-Done).size
@@ -27,4 +27,6 @@ returns-in-Refused c =
     absurd (omega arith)
 
 pub returns-in-Done : goal.returns-in-Done
-returns-in-Done c = rw (← (table (goal.at.returns-in-Done c).In-Done).rows) (c.write_accepted.ensures.value, c.write_accepted.ensures.out_after)
+returns-in-Done c =
+    let t = table (goal.at.returns-in-Done c).In-Done in
+    record { value = rw (← t.rows) c.write_accepted.ensures.value; out_after = rw (← t.rows) c.write_accepted.ensures.out_after }

@@ -7,10 +7,12 @@ use Rattle.log_load.specs.Theory.Best.{tried-start}
 use Rattle.log_load.proofs.stretch.first_window.Goals as goal
 
 pub walk_to-to-requires : goal.walk_to-to-requires
-walk_to-to-requires c = let p = (c.requires.readable, c.requires.w_bound) in record { readable = p.0; t_bound = omega (arith, p.1.1); walked = walk_start _ p.0.1 _ }
+walk_to-to-requires c =
+    let p = c.requires in
+    record { readable = p.readable; t_bound = omega (arith, p.w_bound.1); walked = walk_start _ p.readable.1 _ }
 
 pub returns : goal.returns
 returns c =
-    let p = (c.requires.readable, c.requires.w_bound) in
+    let p = c.requires in
     let t = c.walk_to-to.ensures in
-    λ place. tried-start _ _ p.0.1 place _ _ p.1.0 refl refl t.walked_2 t.busy_value
+    λ place. tried-start _ _ p.readable.1 place _ _ p.w_bound.0 refl refl t.walked_2 t.busy_value

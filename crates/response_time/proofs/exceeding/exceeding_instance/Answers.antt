@@ -18,9 +18,9 @@ own_distance-d-requires c = in-table-fine _ c.requires.ready_2.prepared.filled.t
 
 pub releases_before-instances-requires : goal.releases_before-instances-requires
 releases_before-instances-requires c =
-    let p = (c.requires.ready_2, (c.requires.own_fixed, c.requires.choices_value)) in
-    let f = in-table-fine _ p.0.prepared.filled.table p.0.listed in
-    (f.period-low, f.period-high, omega (arith, window-small _ _ _ _ p.1.1))
+    let p = c.requires in
+    let f = in-table-fine _ p.ready_2.prepared.filled.table p.ready_2.listed in
+    (f.period-low, f.period-high, omega (arith, window-small _ _ _ _ p.choices_value))
 
 pub place-to-requires : goal.place-to-requires
 place-to-requires c = let p = c.requires.ready_2 in record { filled = p.prepared.filled; fine_target = p.target; area_len = search rules }
@@ -39,43 +39,45 @@ windowed c =
 
 -- an instance's release and its number are small
 fits : (c : In-loop-q) →
-    let a = c.args in (own_distance a.target.frame a.choices + c.loop-q.q * a.target.frame.period < 1000000) × (c.loop-q.q < 1000000)
-fits c =
-    let v = windowed c.before.before.before.before.before in
+    let a = c.args in Windowed a.target.faults (table_of a.rows.now a.prepared.now) a.target.frame a.choices a.window c.releases_before-instances.result
+    → (own_distance a.target.frame a.choices + c.loop-q.q * a.target.frame.period < 1000000) × (c.loop-q.q < 1000000)
+fits c v =
     instance-fits v.accepted v.listed (own_distance c.args.target.frame c.args.choices) v.number (window-small _ _ _ _ v.window) c.loop-q-test.true
 
 pub shown_within-passed-requires : goal.shown_within-passed-requires
 shown_within-passed-requires c =
-    let f = fits (goal.at.shown_within-passed-requires c).In-loop-q in
+    let f = fits (goal.at.shown_within-passed-requires c).In-loop-q (windowed (goal.at.shown_within-passed-requires c).After-releases_before-instances) in
     record { ready_2 = c.loop-q.invariant.0; asked = (c.requires.own_fixed, omega (arith, f.1)); period_bound = f.0; placed_value = rw sub-zero c.place-to.ensures.area_after ∙ placed-any _ c.args.target _ c.loop-q.q }
 
 pub overflow_add-q : goal.overflow_add-q
-overflow_add-q c = record { fits = omega (arith, (fits (goal.at.overflow_add-q c).In-loop-q).1, c.shown_within-passed.ensures.small) }
+overflow_add-q c = record { fits = omega (arith, (fits (goal.at.overflow_add-q c).In-loop-q (windowed (goal.at.overflow_add-q c).After-releases_before-instances)).1, c.shown_within-passed.ensures.small) }
 
 pub loop-q-smaller-then-passed-gt0 : goal.loop-q-smaller-then-passed-gt0
 loop-q-smaller-then-passed-gt0 c = omega (arith, c.loop-q-test.true, c.if-passed-gt0.true, c.lesser-q.ensures)
 
 pub fixed_point-found-requires : goal.fixed_point-found-requires
-fixed_point-found-requires c = record { ready_2 = c.shown_within-passed.ensures.ready; asked = (c.requires.own_fixed, omega (arith, (fits (goal.at.fixed_point-found-requires c).In-loop-q).1)); end_bound = omega arith }
+fixed_point-found-requires c = record { ready_2 = c.shown_within-passed.ensures.ready; asked = (c.requires.own_fixed, omega (arith, (fits (goal.at.fixed_point-found-requires c).In-loop-q (windowed (goal.at.fixed_point-found-requires c).After-releases_before-instances)).1)); end_bound = omega arith }
 
 -- so is its end
-ends : (c : After-or_zero-delay) → c.or_zero-delay.result + c.args.target.frame.length ≤ 1000000
-ends c = loop-ends (windowed c.before.before.before.before.before.before.before.before.before.before.before.before.before.before.before.before.before) c.loop-q.invariant.1.turn c.loop-q-test.true c.fixed_point-found.ensures.value c.or_zero-delay.ensures
+ends : (c : After-or_zero-delay) →
+    let a = c.args in Windowed a.target.faults (table_of a.rows.now a.prepared.now) a.target.frame a.choices a.window c.releases_before-instances.result
+    → c.or_zero-delay.result + c.args.target.frame.length ≤ 1000000
+ends c v = loop-ends v c.loop-q.invariant.1.turn c.loop-q-test.true c.fixed_point-found.ensures.value c.or_zero-delay.ensures
 
 pub overflow_mul-q : goal.overflow_mul-q
-overflow_mul-q c = omega (arith, (fits (goal.at.overflow_mul-q c).In-loop-q).0)
+overflow_mul-q c = omega (arith, (fits (goal.at.overflow_mul-q c).In-loop-q (windowed (goal.at.overflow_mul-q c).After-releases_before-instances)).0)
 
 pub overflow_add-d : goal.overflow_add-d
-overflow_add-d c = omega (arith, (fits (goal.at.overflow_add-d c).In-loop-q).0, c.own_distance-d.ensures)
+overflow_add-d c = omega (arith, (fits (goal.at.overflow_add-d c).In-loop-q (windowed (goal.at.overflow_add-d c).After-releases_before-instances)).0, c.own_distance-d.ensures)
 
 pub response-requires : goal.response-requires
-response-requires c = (omega (arith, ends (goal.at.response-requires c).After-or_zero-delay), (in-table-fine _ c.requires.ready_2.prepared.filled.table c.requires.ready_2.listed).length_high)
+response-requires c = (omega (arith, ends (goal.at.response-requires c).After-or_zero-delay (windowed (goal.at.response-requires c).After-releases_before-instances)), (in-table-fine _ c.requires.ready_2.prepared.filled.table c.requires.ready_2.listed).length_high)
 
 pub overflow_add-from : goal.overflow_add-from
-overflow_add-from c = omega (arith, ends (goal.at.overflow_add-from c).After-or_zero-delay)
+overflow_add-from c = omega (arith, ends (goal.at.overflow_add-from c).After-or_zero-delay (windowed (goal.at.overflow_add-from c).After-releases_before-instances))
 
 pub overflow_add-q-in-loop-q : goal.overflow_add-q-in-loop-q
-overflow_add-q-in-loop-q c = record { fits = omega (arith, (fits (goal.at.overflow_add-q-in-loop-q c).In-loop-q).1) }
+overflow_add-q-in-loop-q c = record { fits = omega (arith, (fits (goal.at.overflow_add-q-in-loop-q c).In-loop-q (windowed (goal.at.overflow_add-q-in-loop-q c).After-releases_before-instances)).1) }
 
 pub loop-q-smaller : goal.loop-q-smaller
 loop-q-smaller c = omega (arith, c.loop-q-test.true)
@@ -94,7 +96,7 @@ is : (c : After-response) → c.response.result ≡ c.or_zero-delay.result + c.a
 is c = c.response.ensures ∙ ap (λ d. c.or_zero-delay.result + c.args.target.frame.length - (d + c.loop-q.q * c.args.target.frame.period)) c.own_distance-d.ensures
 
 pub overflow_add-result : goal.overflow_add-result
-overflow_add-result c = record { fits = omega (arith, (fits (goal.at.overflow_add-result c).In-loop-q).1) }
+overflow_add-result c = record { fits = omega (arith, (fits (goal.at.overflow_add-result c).In-loop-q (windowed (goal.at.overflow_add-result c).After-releases_before-instances)).1) }
 
 pub shape_of-memory-then-claim-response : goal.shape_of-memory-then-claim-response
 shape_of-memory-then-claim-response c = c.fixed_point-found.ensures.ready.remembered.size ∙ sym c.requires.ready_2.remembered.size

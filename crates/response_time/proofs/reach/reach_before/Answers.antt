@@ -12,9 +12,9 @@ own_distance-d-requires c = in-table-fine _ c.requires.ready.prepared.filled.tab
 
 pub releases_before-requires : goal.releases_before-requires
 releases_before-requires c =
-    let p = (c.requires.ready, c.requires.window_within) in
-    let f = in-table-fine _ p.0.prepared.filled.table p.0.listed in
-    (f.period-low, f.period-high, omega (arith, p.1.small))
+    let p = c.requires in
+    let f = in-table-fine _ p.ready.prepared.filled.table p.ready.listed in
+    (f.period-low, f.period-high, omega (arith, p.window_within.small))
 
 pub returns : goal.returns
 returns c =

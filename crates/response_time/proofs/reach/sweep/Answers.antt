@@ -22,9 +22,9 @@ loop-q-init c = (swept_none, c.requires.ready_2, omega arith)
 fits : (c : In-loop-q) →
     let a = c.args in (own_distance a.target.frame a.choices + c.loop-q.q * a.target.frame.period < 1000000) × (c.loop-q.q < 1000000)
 fits c =
-    let p = (c.requires.ready_2, (c.requires.own_fixed, c.requires.reaches)) in
-    let early = p.1.1.early c.loop-q.q c.loop-q-test.true in
-    (early, omega (arith, early, le-mul_of_pos_right c.loop-q.q (in-table-fine _ p.0.prepared.filled.table p.0.listed).period-low))
+    let p = c.requires in
+    let early = p.reaches.early c.loop-q.q c.loop-q-test.true in
+    (early, omega (arith, early, le-mul_of_pos_right c.loop-q.q (in-table-fine _ p.ready_2.prepared.filled.table p.ready_2.listed).period-low))
 
 pub shown_within-shown-requires : goal.shown_within-shown-requires
 shown_within-shown-requires c =

@@ -25,9 +25,9 @@ placed c = rw sub-zero c.place-to.ensures.area_after
 
 pub climb-requires : goal.climb-requires
 climb-requires c =
-    record { fine_placed = rw (placed (goal.at.climb-requires c).After-place-to) (placed-fine c.requires.ready.prepared.filled.table c.requires.ready.target c.args.search c.guessed-finer.result); shift_bound = (c.before.Shift-of.ensures.1, c.waits_of.ensures.small, c.requires.end_bound) }
+    record { fine_placed = rw (placed (goal.at.climb-requires c).After-place-to) (placed-fine c.requires.ready.prepared.filled.table c.requires.ready.target c.args.search c.guessed-finer.result); shift_bound = (c.shift_of.ensures.small, c.waits_of.ensures.small, c.requires.end_bound) }
 
 pub returns : goal.returns
 returns c =
-    let same = placed-search c.requires.ready.prepared.filled.table c.requires.ready.target c.requires.ready.blocked c.requires.ready.cost c.guessed-finer.result c.guessed-finer.ensures.fixed c.args.search (placed (goal.at.returns c).After-place-to) c.before.before.Shift-of.ensures.0 c.waits_of.ensures.value in
+    let same = placed-search c.requires.ready.prepared.filled.table c.requires.ready.target c.requires.ready.blocked c.requires.ready.cost c.guessed-finer.result c.guessed-finer.ensures.fixed c.args.search (placed (goal.at.returns c).After-place-to) c.shift_of.ensures.value c.waits_of.ensures.value in
     (c.guessed-finer.result, c.guessed-finer.ensures.refined_by, c.climb.ensures ∙ ap (λ (p : ℕ → Bool). least p (c.args.end - c.args.from) c.args.from) same)

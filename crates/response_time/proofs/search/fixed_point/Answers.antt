@@ -10,7 +10,7 @@ use Rattle.greatest_work.specs.Ready.{Ready}
 use Rattle.response_time.specs.Load.{holds}
 use Rattle.response_time.specs.Laws.Searches.{climb-here, climb-skip, climb-beyond, finer-skip, finer-beyond}
 use Rattle.response_time.proofs.search.fixed_point.Goals as goal
-use Rattle.response_time.proofs.search.fixed_point.Goals.{In-At-2}
+use Rattle.response_time.proofs.search.fixed_point.Goals.{In-At}
 
 pub loop-x-init : goal.loop-x-init
 loop-x-init c = (refl, c.requires.ready_2, refl)
@@ -24,11 +24,11 @@ returns-in_default c =
     record { value = finer-beyond c.args.target.faults c.requires.ready_2.prepared.filled.table.valid c.args.target.frame _ _ refines _ c.args.end c.loop-x.x is c.in_default.is ∙ c.loop-x.invariant.0; ready = c.loop-x.invariant.1 }
 
 -- where the number lies that is found with guesses
-within : (c : In-At-2) → (c.loop-x.x ≤ c.in-At.y) × (c.in-At.y < c.args.end)
+within : (c : In-At) → (c.loop-x.x ≤ c.in-At.y) × (c.in-At.y < c.args.end)
 within c = let (low, high, t) = least-within _ _ (sym c.climb_guessed-found.ensures.2 ∙ c.in-At.is) in (low, high)
 
 -- what is found from there on is what is found
-goes_on : (c : In-At-2) →
+goes_on : (c : In-At) →
     let a = c.args in
     let p = holds a.target.faults (table_of a.rows.now a.prepared.now) a.target.frame a.choices a.search in
     let y = c.in-At.y in
@@ -38,25 +38,25 @@ goes_on c =
     sym (finer-skip c.args.target.faults c.requires.ready_2.prepared.filled.table.valid c.args.target.frame _ _ refines _ c.args.end c.loop-x.x is c.in-At.is) ∙ c.loop-x.invariant.0
 
 pub load-needed-requires : goal.load-needed-requires
-load-needed-requires c = let p = c.requires.1 in record { ready_2 = c.loop-x.invariant.1; asked = p.0; x_bound = omega (arith, p.1, within (goal.at.load-needed-requires c).In-At-2) }
+load-needed-requires c = record { ready_2 = c.loop-x.invariant.1; asked = c.requires.asked; x_bound = omega (arith, c.requires.end_bound, within (goal.at.load-needed-requires c).In-At) }
 
 pub returns-then-needed-y : goal.returns-then-needed-y
 returns-then-needed-y c =
-    record { value = climb-here c.args.target.faults c.requires.ready_2.prepared.filled.table.valid _ _ _ c.args.end c.in-At.y c.load-needed.ensures.value (within (goal.at.returns-then-needed-y c).In-At-2).1 c.if-needed-y.true ∙ goes_on (goal.at.returns-then-needed-y c).In-At-2; ready = c.load-needed.ensures.ready }
+    record { value = climb-here c.args.target.faults c.requires.ready_2.prepared.filled.table.valid _ _ _ c.args.end c.in-At.y c.load-needed.ensures.value (within (goal.at.returns-then-needed-y c).In-At).1 c.if-needed-y.true ∙ goes_on (goal.at.returns-then-needed-y c).In-At; ready = c.load-needed.ensures.ready }
 
 pub returns-then-end-needed : goal.returns-then-end-needed
 returns-then-end-needed c =
-    record { value = climb-beyond c.args.target.faults c.requires.ready_2.prepared.filled.table.valid _ _ _ c.args.end c.in-At.y c.load-needed.ensures.value c.if-end-needed.true ∙ goes_on (goal.at.returns-then-end-needed c).In-At-2; ready = c.load-needed.ensures.ready }
+    record { value = climb-beyond c.args.target.faults c.requires.ready_2.prepared.filled.table.valid _ _ _ c.args.end c.in-At.y c.load-needed.ensures.value c.if-end-needed.true ∙ goes_on (goal.at.returns-then-end-needed c).In-At; ready = c.load-needed.ensures.ready }
 
 pub overflow_cast-x : goal.overflow_cast-x
 overflow_cast-x c = omega (arith, c.requires.end_bound, c.if-end-needed.false)
 
 pub loop-x-smaller : goal.loop-x-smaller
-loop-x-smaller c = omega (arith, within (goal.at.loop-x-smaller c).In-At-2, c.if-needed-y.false, c.if-end-needed.false)
+loop-x-smaller c = omega (arith, within (goal.at.loop-x-smaller c).In-At, c.if-needed-y.false, c.if-end-needed.false)
 
 pub loop-x-preserved : goal.loop-x-preserved
 loop-x-preserved c =
-    (sym (climb-skip c.args.target.faults c.requires.ready_2.prepared.filled.table.valid _ _ _ c.args.end c.in-At.y c.load-needed.ensures.value c.if-needed-y.false (omega (arith, c.if-end-needed.false))) ∙ goes_on (goal.at.loop-x-preserved c).In-At-2, c.load-needed.ensures.ready, search rules)
+    (sym (climb-skip c.args.target.faults c.requires.ready_2.prepared.filled.table.valid _ _ _ c.args.end c.in-At.y c.load-needed.ensures.value c.if-needed-y.false (omega (arith, c.if-end-needed.false))) ∙ goes_on (goal.at.loop-x-preserved c).In-At, c.load-needed.ensures.ready, search rules)
 
 pub returns : goal.returns
 returns c = record { value = sym (least-end _ _ c.loop-x.x c.loop-x-test.false) ∙ c.loop-x.invariant.0; ready = c.loop-x.invariant.1 }

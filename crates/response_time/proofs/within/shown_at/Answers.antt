@@ -11,10 +11,10 @@ pub returns-then-x-latest : goal.returns-then-x-latest
 returns-then-x-latest c = record { shows = λ i less. absurd (omega arith); small = omega arith; ready = c.requires.ready_2 }
 
 pub load-needed-requires : goal.load-needed-requires
-load-needed-requires c = let p = (c.requires.ready_2, (c.requires.asked, c.requires.latest_bound)) in record { ready_2 = p.0; asked = p.1.0; x_bound = omega (arith, p.1.1, c.if-x-latest.false) }
+load-needed-requires c = let p = c.requires in record { ready_2 = p.ready_2; asked = p.asked; x_bound = omega (arith, p.latest_bound, c.if-x-latest.false) }
 
 pub count_shown-requires : goal.count_shown-requires
-count_shown-requires c = let p = (c.requires.ready_2, (c.requires.asked, c.requires.latest_bound)) in ((in-table-fine _ p.0.prepared.filled.table p.0.listed).length-low, omega (arith, p.1.1, c.if-x-latest.false))
+count_shown-requires c = let p = c.requires in ((in-table-fine _ p.ready_2.prepared.filled.table p.ready_2.listed).length-low, omega (arith, p.latest_bound, c.if-x-latest.false))
 
 pub returns : goal.returns
 returns c =

@@ -4,7 +4,7 @@ use borrow.Author.Rules.{rules}
 use Rattle.response_time.proofs.within.shown_late.Goals as goal
 
 pub fixed_point-found-requires : goal.fixed_point-found-requires
-fixed_point-found-requires c = let p = (c.requires.ready_2, (c.requires.asked, c.requires.latest_bound)) in record { ready_2 = p.0; asked = p.1.0; end_bound = omega (arith, p.1.1) }
+fixed_point-found-requires c = let p = c.requires in record { ready_2 = p.ready_2; asked = p.asked; end_bound = omega (arith, p.latest_bound) }
 
 pub returns-in_default : goal.returns-in_default
 returns-in_default c = record { shows = λ i less. absurd (omega arith); small = omega arith; ready = c.fixed_point-found.ensures.ready }

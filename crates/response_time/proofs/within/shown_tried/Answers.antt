@@ -12,22 +12,22 @@ use Rattle.response_time.proofs.within.shown_tried.Goals as goal
 use Rattle.response_time.proofs.within.shown_tried.Goals.{After-waits_of-base}
 
 pub waits_of-base-requires : goal.waits_of-base-requires
-waits_of-base-requires c = let p = (c.requires.ready_2, (c.requires.asked, (c.requires.latest_bound, c.requires.placed_value))) in record { fine_target = p.0.target; search_bound = base-small p.0.prepared.filled.table p.0.listed c.args.choices (Instance c.args.q) p.1.0 p.0.blocked }
+waits_of-base-requires c = let p = c.requires in record { fine_target = p.ready_2.target; search_bound = base-small p.ready_2.prepared.filled.table p.ready_2.listed c.args.choices (Instance c.args.q) p.asked p.ready_2.blocked }
 
 -- what the climbs ask for
 climbs : (c : After-waits_of-base) → FinePlaced (placed_in c.args.placed.now) × ((1 ≤ c.args.target.frame.length) × (c.waits_of-base.result ≤ 1000000000) × (c.args.latest ≤ 1000000))
 climbs c =
-    let p = (c.requires.ready_2, (c.requires.asked, (c.requires.latest_bound, c.requires.placed_value))) in
-    let t = p.0.prepared.filled.table in
-    (rw p.1.1.1 (placed-fine t p.0.target (Instance c.args.q) c.args.choices), ((in-table-fine _ t p.0.listed).length-low, c.waits_of-base.ensures.small, p.1.1.0))
+    let p = c.requires in
+    let t = p.ready_2.prepared.filled.table in
+    (rw p.placed_value (placed-fine t p.ready_2.target (Instance c.args.q) c.args.choices), ((in-table-fine _ t p.ready_2.listed).length-low, c.waits_of-base.ensures.small, p.latest_bound))
 
 pub climb_above-last-requires : goal.climb_above-last-requires
 climb_above-last-requires c = let answer = climbs (c) in record { fine_placed = answer.0; in_bounds = answer.1 }
 
 pub returns-then-last-gt0 : goal.returns-then-last-gt0
 returns-then-last-gt0 c =
-    let p = (c.requires.ready_2, (c.requires.asked, (c.requires.latest_bound, c.requires.placed_value))) in
-    record { shows = shows-placed p.0.prepared.filled.table p.0.target p.0.blocked p.0.cost _ _ p.1.1.1 c.waits_of-base.ensures.value c.climb_above-last.ensures.shows_placed; small = c.climb_above-last.ensures.small; ready = p.0 }
+    let p = c.requires in
+    record { shows = shows-placed p.ready_2.prepared.filled.table p.ready_2.target p.ready_2.blocked p.ready_2.cost _ _ p.placed_value c.waits_of-base.ensures.value c.climb_above-last.ensures.shows_placed; small = c.climb_above-last.ensures.small; ready = p.ready_2 }
 
 pub returns-then-not-has_open : goal.returns-then-not-has_open
 returns-then-not-has_open c = record { shows = λ i less. absurd (omega arith); small = omega arith; ready = c.requires.ready_2 }
@@ -37,8 +37,8 @@ climb_above-climbed-requires c = let answer = climbs (goal.at.climb_above-climbe
 
 pub returns-then-climbed-gt0 : goal.returns-then-climbed-gt0
 returns-then-climbed-gt0 c =
-    let p = (c.requires.ready_2, (c.requires.asked, (c.requires.latest_bound, c.requires.placed_value))) in
-    record { shows = shows-placed p.0.prepared.filled.table p.0.target p.0.blocked p.0.cost _ _ p.1.1.1 c.waits_of-base.ensures.value c.climb_above-climbed.ensures.shows_placed; small = c.climb_above-climbed.ensures.small; ready = p.0 }
+    let p = c.requires in
+    record { shows = shows-placed p.ready_2.prepared.filled.table p.ready_2.target p.ready_2.blocked p.ready_2.cost _ _ p.placed_value c.waits_of-base.ensures.value c.climb_above-climbed.ensures.shows_placed; small = c.climb_above-climbed.ensures.small; ready = p.ready_2 }
 
 pub shown_at-requires : goal.shown_at-requires
-shown_at-requires c = let p = (c.requires.ready_2, (c.requires.asked, (c.requires.latest_bound, c.requires.placed_value))) in record { ready_2 = p.0; asked = p.1.0; latest_bound = p.1.1.0 }
+shown_at-requires c = let p = c.requires in record { ready_2 = p.ready_2; asked = p.asked; latest_bound = p.latest_bound }
