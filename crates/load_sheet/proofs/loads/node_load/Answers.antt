@@ -2,7 +2,6 @@
 use Prim.Native.Nat.{◌≤◌}
 use mathlib.Core.Path.{◌≡◌, sym, ◌∙◌}
 use native.Mathlib.Omega.{arith}
-use borrow.Author.Rules.{rules}
 use Rattle.bus_model.specs.Pattern.{of_group, hyperperiod}
 use Rattle.table_checks.specs.Frames.{frames_of}
 use Rattle.table_checks.specs.Laws.Accepted.{hyper-same}

@@ -1,9 +1,6 @@
-use Prim.Native.Nat.{◌-◌}
-use mathlib.Core.Logic.{⊎_elim}
 use mathlib.Core.Path.{sym, ◌∙◌}
 use native.Mathlib.Omega.{arith}
-use borrow.Author.Rules.{rules}
-use Rattle.arith.specs.Laws.Gathering.{Gathered, range-room, gathered_none, gathered-room, gathered-put, gathered-skip, gathered-all}
+use Rattle.arith.specs.Laws.Gathering.{range-room, gathered_none, gathered-room, gathered-put, gathered-skip, gathered-all}
 use Rattle.load_sheet.specs.Sheet.{has_frames, nodes_of}
 use Rattle.load_sheet.proofs.sheet.find_nodes.Goals as goal
 use Rattle.load_sheet.proofs.sheet.find_nodes.Goals.{else-has_frames, then-has_frames}

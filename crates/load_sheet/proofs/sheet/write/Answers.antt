@@ -1,6 +1,5 @@
 -- `load_sheet::sheet::write` meets its contract: lengths that are turned back are answered with their refusal, and by others the sheet is written.
 use mathlib.Core.Path.{refl}
-use borrow.Author.Rules.{rules}
 use Rattle.frame_table.specs.Laws.Areas.{area-refused}
 use Rattle.frame_table.specs.Text.{fields_of}
 use Rattle.lengths_file.specs.Lengths.{lengths_of}
@@ -26,6 +25,6 @@ returns-in-Passed c =
     let a = c.args in
     let t = c.write_table in
     let answer =
-        input-told a.lengths.now a.file.now (sheet_of (lengths_of a.lengths.now) (fields_of a.file.now)) a.out.now {a = t.result} {l = t.new.out}
-        (rw (l.passed, ← l.is) t.ensures.value, rw (← l.is) t.ensures.out_after)
+    input-told a.lengths.now a.file.now (sheet_of (lengths_of a.lengths.now) (fields_of a.file.now)) a.out.now {a = t.result} {l = t.new.out}
+    (rw (l.passed, ← l.is) t.ensures.value, rw (← l.is) t.ensures.out_after)
     in record { value = answer.0; out_after = answer.1.0; in_numbers = answer.1.1 }
