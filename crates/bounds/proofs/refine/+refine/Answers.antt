@@ -1,4 +1,4 @@
-use Rattle.std.proofs.Common.{◌≡◌, ℕ, suc, ◌-◌, ◌+◌, ◌≤◌, ◌<◌, min, max, List, length, set, refl, sym, ap, subst, ◌∙◌, arith, rules}
+use Rattle.std.proofs.Common.{◌≡◌, ℕ, suc, ◌-◌, ◌≤◌, min, max, List, length, set, refl, sym, ap, subst, ◌∙◌, arith, rules}
 use mathlib.Core.List.{Memᴰ as Mem}
 use Rattle.arith.specs.Lists.{greatest}
 use Rattle.arith.specs.Laws.Walks.{walk-less}
@@ -141,7 +141,7 @@ next_of-found-requires-clause-le_group t c =
 pub returns-in_default-found-clause-settles : goal.returns-in_default-found-clause-settles
 returns-in_default-found-clause-settles t c =
     told t (goal.at.returns-in_default-found-clause-settles t c).After-with_choice-choices _ (ap (min (suc c.args.enough)) (best-end _ _ _ _ c.loop-rest.invariant.0 (exact t (goal.at.returns-in_default-found-clause-settles t c).Else-enough-more) (sym c.next_of-found.ensures ∙ c.in_default-found.is)
-      ∙ ap (max c.args.known.best) (whole t (goal.at.returns-in_default-found-clause-settles t c).In-At)))
+    ∙ ap (max c.args.known.best) (whole t (goal.at.returns-in_default-found-clause-settles t c).In-At)))
 
 pub loop-rest-smaller : goal.loop-rest-smaller
 loop-rest-smaller t c = walk-less _ _ _ _ _ c.loop-rest.invariant.0.walk (sym c.next_of-found.ensures ∙ c.in-At-found.is)
