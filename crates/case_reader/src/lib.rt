@@ -2,11 +2,13 @@
 // each and a line feed, and then as many bytes as the second number says.
 #![tactic(auto)]
 
-ghost use Rattle.std.specs.Prelude.{◌≡◌, ◌/◌, min, ◌++◌, length, take, drop};
+ghost use Rattle.std.specs.Prelude.{◌≡◌, ◌/◌, min, ◌++◌, true, length, take, drop};
+ghost use Rattle.std.specs.Io.KnownBytes.{Consumes};
 ghost use Rattle.decimal.specs.Decimal.{read_column};
 ghost use Rattle.case_reader.specs.Cases.{number_in, PayloadRead, word_of, words_of};
 
 use decimal::Column;
+use std::io::Read;
 
 // So many cases are read at the most.
 pub const MOST_CASES: usize = 100_000;
@@ -25,13 +27,14 @@ pub fn number(s: &[u8]) -> u64
 }
 
 // Reads so many bytes of the input; false where there are fewer or no room for them.
-pub fn read_payload(size: usize, buffer: &mut [u8]) -> bool
-    ensures { PayloadRead size buffer.old buffer.new result }
+pub fn read_payload<R: Read>(input: &mut R, size: usize, buffer: &mut [u8]) -> bool
+    ensures touched { PayloadRead size buffer.old buffer.new result }
+    ensures taken { result ≡ true → Consumes (R.remaining input.old) (R.remaining input.new) (take size buffer.new) }
 {
     if buffer.len() < size {
         return false;
     }
-    io::read_full(0, &mut buffer[0..size]) == size
+    input.read_exact(&mut buffer[0..size]).is_ok()
 }
 
 // Puts the numbers of a payload, four bytes each with the lowest first, at the start of rows, and answers

@@ -4,18 +4,34 @@
 #![tactic(auto)]
 
 ghost use Rattle.std.specs.Prelude.{length};
-ghost use Rattle.io.specs.Counts.{IsPrefixLen};
-ghost use Rattle.console.specs.Steps.{Held, Within};
+ghost use Rattle.console.specs.Steps.{Held, IsPrefixLen, TakesStart, Within};
 
 use frame_table::Answer;
+use std::io::{Read, Stderr};
+use std::rt::Files;
+use std::{fs, io};
 use table_checks::{Checked, Refusal};
 
 // More than the lengths and the longest accepted table.
 pub const BUFFER: usize = 4096;
 
-// A proved loop has to end, and nothing says that the input does: so a loop over all of it counts its turns down, from a
-// number that no run uses up.
-const TURNS: u64 = 1 << 62;
+// What is read at a time of an input that is only counted.
+const CHUNK: usize = 65_536;
+
+// What a program has of the system: standard input and output, and standard error, to which complaints go as bytes.
+pub trait Streams: io::Input + Print {
+    type Errors: Print + Drop;
+
+    fn errors(&self) -> Self::Errors;
+}
+
+impl Streams for HostRuntime {
+    type Errors = Stderr;
+
+    fn errors(&self) -> Stderr {
+        self.stderr()
+    }
+}
 
 // The input that a program works on: the lengths, and behind them the table; or a file.
 #[derive(Drop)]
@@ -37,21 +53,21 @@ enum Stream {
 }
 
 // Reads the input on standard input.
-pub fn read_input(program: &[u8], buffer: &mut [u8]) -> Input
+pub fn read_input(rt: &impl Streams, program: &[u8], buffer: &mut [u8]) -> Input
     ensures { IsPrefixLen result.size buffer.new }
 {
-    let stream = read(buffer);
+    let stream = read(rt, buffer);
     match stream {
         Stream::Whole(size) => Input { held: true, size },
         Stream::Longer(size) => {
-            print_size(program, buffer, size);
+            print_size(rt, program, buffer, size);
             Input {
                 held: false,
                 size: 0,
             }
         }
         Stream::Unreadable => {
-            complain(program, b": standard input cannot be read\n");
+            complain(rt, program, b": standard input cannot be read\n");
             Input {
                 held: false,
                 size: 0,
@@ -61,30 +77,33 @@ pub fn read_input(program: &[u8], buffer: &mut [u8]) -> Input
 }
 
 // Reads standard input to its end.
-fn read(buffer: &mut [u8]) -> Stream
+fn read(rt: &impl Streams, buffer: &mut [u8]) -> Stream
     ensures { Within result (length buffer.new) }
 {
-    let stream = fill(0, buffer);
+    let mut input = rt.reader();
+    let stream = fill(&mut input, buffer);
     match stream {
         Stream::Whole(size) => Stream::Whole(size),
-        Stream::Longer(size) => read_rest(size),
+        Stream::Longer(size) => read_rest(&mut input, size),
         Stream::Unreadable => Stream::Unreadable,
     }
 }
 
-// Reads the file at a path, of which no more is held than the buffer holds. Where it cannot be opened, its descriptor is none that can be
-// read.
-pub fn read_file(program: &[u8], path: &[u8], buffer: &mut [u8]) -> Input
+// Reads the file at a path, of which no more is held than the buffer holds.
+pub fn read_file(
+    rt: &(impl Streams + Files),
+    program: &[u8],
+    path: &[u8],
+    buffer: &mut [u8],
+) -> Input
     ensures { IsPrefixLen result.size buffer.new }
 {
-    let fd = os::open_read(path);
-    let stream = fill(fd, buffer);
-    libc::close(fd);
+    let stream = fill_from(rt, path, buffer);
     match stream {
         Stream::Whole(size) => Input { held: true, size },
         Stream::Longer(size) => Input { held: true, size },
         Stream::Unreadable => {
-            complain(program, b": the file cannot be read\n");
+            complain(rt, program, b": the file cannot be read\n");
             Input {
                 held: false,
                 size: 0,
@@ -93,43 +112,49 @@ pub fn read_file(program: &[u8], path: &[u8], buffer: &mut [u8]) -> Input
     }
 }
 
-// Reads a stream to its end, or until the buffer is full.
-fn fill(fd: i32, buffer: &mut [u8]) -> Stream
+// Reads the file at a path to its end, or until the buffer is full. A file is opened by text: one whose path is other bytes cannot be read.
+fn fill_from(files: &impl Files, path: &[u8], buffer: &mut [u8]) -> Stream
     ensures { Held result (length buffer.new) }
+{
+    let Ok(path) = str::from_utf8(path) else {
+        return Stream::Unreadable;
+    };
+    match fs::open(files, path) {
+        Ok(mut file) => fill(&mut file, buffer),
+        Err(_) => Stream::Unreadable,
+    }
+}
+
+// Reads a stream to its end, or until the buffer is full.
+fn fill<R: Read>(stream: &mut R, buffer: &mut [u8]) -> Stream
+    ensures held { Held result (length buffer.new) }
+    ensures bytes { TakesStart result (R.remaining stream.old) (R.remaining stream.new) buffer.new }
 {
     let end = buffer.len();
     let mut done = 0;
     while done < end {
-        let got = libc::read(fd, &mut buffer[done..end]);
-        if got < 0 {
-            return Stream::Unreadable;
+        match stream.read(&mut buffer[done..end]) {
+            Ok(0) => return Stream::Whole(done),
+            Ok(count) => done += count,
+            Err(_) => return Stream::Unreadable,
         }
-        let count = io::count(got, &buffer[done..end]);
-        if count == 0 {
-            return Stream::Whole(done);
-        }
-        done += count;
     }
     Stream::Longer(done)
 }
 
-// Reads what is left of standard input after so many bytes, and counts it.
-fn read_rest(size: usize) -> Stream
+// Reads what is left of a stream after so many bytes, and counts it. A proved loop has to end, and nothing says that the
+// stream does: so its turns are counted, up to a number that no run uses up.
+fn read_rest(stream: &mut impl Read, size: usize) -> Stream
     ensures { Within result size }
 {
     let mut total = size;
-    let mut turns = TURNS;
-    while 0 < turns {
-        let mut chunk = io::large_buffer();
-        let got = libc::read(0, &mut chunk);
-        if got < 0 {
-            return Stream::Unreadable;
+    let mut chunk = [0u8; CHUNK];
+    for _ in 0..u64::MAX {
+        match stream.read(&mut chunk) {
+            Ok(0) => return Stream::Longer(total),
+            Ok(count) => total = more(total, count),
+            Err(_) => return Stream::Unreadable,
         }
-        if got == 0 {
-            return Stream::Longer(total);
-        }
-        total = more(total, io::count(got, &chunk));
-        turns -= 1;
     }
     Stream::Unreadable
 }
@@ -144,42 +169,42 @@ fn more(a: usize, b: usize) -> usize {
 }
 
 // Prints the refusal of an input of so many bytes by its start: by its lengths, or by its table's size.
-fn print_size(program: &[u8], start: &[u8], size: usize) {
+fn print_size(rt: &impl Streams, program: &[u8], start: &[u8], size: usize) {
     let checked = lengths_file::check_size(start, size);
     if let Checked::Failed(refusal) = checked {
-        print_refusal(program, refusal);
+        print_refusal(rt, program, refusal);
     }
 }
 
 // Prints what an operation wrote, or its refusal.
-pub fn print_answer(program: &[u8], answer: Answer, out: &[u8]) {
+pub fn print_answer(rt: &impl Streams, program: &[u8], answer: Answer, out: &[u8]) {
     match answer {
         Answer::Done(n) => {
             if n <= out.len() {
-                print(program, &out[0..n]);
+                print(rt, program, &out[0..n]);
             }
         }
-        Answer::Refused(refusal) => print_refusal(program, refusal),
+        Answer::Refused(refusal) => print_refusal(rt, program, refusal),
     }
 }
 
 // Prints the line of a refusal.
-fn print_refusal(program: &[u8], refusal: Refusal) {
+fn print_refusal(rt: &impl Streams, program: &[u8], refusal: Refusal) {
     let mut line = [0u8; certifier::REFUSAL_LINE];
     certifier::write_refusal(certifier::of_table(refusal), &mut line);
-    print(program, &line);
+    print(rt, program, &line);
 }
 
 // Prints text, and says on standard error where it cannot be written.
-fn print(program: &[u8], text: &[u8]) {
-    let written = io::write_all(1, text);
-    if !written {
-        complain(program, b": standard output cannot be written\n");
+fn print(rt: &impl Streams, program: &[u8], text: &[u8]) {
+    if rt.write_all(text).is_err() {
+        complain(rt, program, b": standard output cannot be written\n");
     }
 }
 
-// Says what is wrong, behind the program's name.
-fn complain(program: &[u8], what: &[u8]) {
-    io::write_all(2, program);
-    io::write_all(2, what);
+// Says what is wrong, behind the program's name. Where that cannot be written either, there is nobody left to tell.
+fn complain(rt: &impl Streams, program: &[u8], what: &[u8]) {
+    let errors = rt.errors();
+    let _ = errors.write_all(program);
+    let _ = errors.write_all(what);
 }

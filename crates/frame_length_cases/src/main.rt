@@ -6,63 +6,64 @@
 
 use certifier::Reply;
 use frame_table::Answer;
+use std::io::Read;
+
+// Room for a payload; the cases end at a longer one.
+const BUFFER: usize = 4096;
 
 // The bytes before the digits.
 const NUMBERS: usize = 40;
 
-fn main() {
-    let mut done = 0;
-    while done < case_reader::MOST_CASES {
-        if run_case() {
-            done += 1;
-        } else {
+fn main(rt: HostRuntime) {
+    let mut input = rt.stdin();
+    for _ in 0..case_reader::MOST_CASES {
+        if !run_case(&rt, &mut input) {
             return;
         }
     }
 }
 
 // Runs the next case; false at the end of the input.
-fn run_case() -> bool {
+fn run_case(rt: &impl Print, input: &mut impl Read) -> bool {
     let mut header = [0u8; case_reader::HEADER];
-    let got = io::read_full(0, &mut header);
-    if got < case_reader::HEADER {
+    if input.read_exact(&mut header).is_err() {
         return false;
     }
     let size = case_reader::number(&header[9..17]) as usize;
-    let mut buffer = io::buffer();
-    if case_reader::read_payload(size, &mut buffer) {
-        run(size, &buffer);
+    let mut buffer = [0u8; BUFFER];
+    if case_reader::read_payload(input, size, &mut buffer) {
+        run(rt, size, &buffer);
         return true;
     }
     false
 }
 
-fn run(size: usize, buffer: &[u8]) {
+fn run(rt: &impl Print, size: usize, buffer: &[u8]) {
     if buffer.len() < size {
         return;
     }
     if size < NUMBERS {
         return;
     }
-    answer_case(&buffer[0..20], &buffer[20..40], &buffer[40..size]);
+    answer_case(rt, &buffer[0..20], &buffer[20..40], &buffer[40..size]);
 }
 
-fn answer_case(kind: &[u8], identifier: &[u8], hex: &[u8]) {
+fn answer_case(rt: &impl Print, kind: &[u8], identifier: &[u8], hex: &[u8]) {
     let mut space = [0u8; frame_length_command::LONGEST];
     let line: &mut [u8] = &mut space;
     let reply = frame_length_command::write_line(kind, identifier, hex, line);
     match reply {
         Reply::Malformed => {
-            io::write_all(1, b"malformed\n");
+            let _ = rt.write_all(b"malformed\n");
         }
-        Reply::Answered(answer) => print(answer, line),
+        Reply::Answered(answer) => print(rt, answer, line),
     }
 }
 
-fn print(answer: Answer, line: &[u8]) {
+fn print(rt: &impl Print, answer: Answer, line: &[u8]) {
     if let Answer::Done(n) = answer {
         if n <= line.len() {
-            io::write_all(1, &line[0..n]);
+            let _ = rt.write_all(&line[0..n]);
         }
     }
 }

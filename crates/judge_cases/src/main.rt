@@ -5,50 +5,51 @@
 #![tactic(auto)]
 
 use certifier::{Bounded, Judged, Refusal};
+use std::io::Read;
 
-fn main() {
-    let mut done = 0;
-    while done < case_reader::MOST_CASES {
-        if run_case() {
-            done += 1;
-        } else {
+// Room for a payload; the cases end at a longer one.
+const BUFFER: usize = 4096;
+
+fn main(rt: HostRuntime) {
+    let mut input = rt.stdin();
+    for _ in 0..case_reader::MOST_CASES {
+        if !run_case(&rt, &mut input) {
             return;
         }
     }
 }
 
 // Runs the next case; false at the end of the input.
-fn run_case() -> bool {
+fn run_case(rt: &impl Print, input: &mut impl Read) -> bool {
     let mut header = [0u8; case_reader::HEADER];
-    let got = io::read_full(0, &mut header);
-    if got < case_reader::HEADER {
+    if input.read_exact(&mut header).is_err() {
         return false;
     }
     let row = case_reader::number(&header[1..9]);
     let size = case_reader::number(&header[9..17]) as usize;
-    let mut buffer = io::buffer();
-    if case_reader::read_payload(size, &mut buffer) {
-        run(header[0], row, size, &buffer);
+    let mut buffer = [0u8; BUFFER];
+    if case_reader::read_payload(input, size, &mut buffer) {
+        run(rt, header[0], row, size, &buffer);
         return true;
     }
     false
 }
 
-fn run(letter: u8, row: u64, size: usize, buffer: &[u8]) {
+fn run(rt: &impl Print, letter: u8, row: u64, size: usize, buffer: &[u8]) {
     if buffer.len() < size {
         return;
     }
     let mut rows = [0u32; 600];
     let count = case_reader::unpack(&buffer[0..size], &mut rows);
     if letter == b'J' {
-        run_judge(&rows, count, row);
+        run_judge(rt, &rows, count, row);
     } else {
-        run_bound(&rows, count, row);
+        run_bound(rt, &rows, count, row);
     }
-    io::write_all(1, b"\n");
+    let _ = rt.write_all(b"\n");
 }
 
-fn run_judge(rows: &[u32], count: usize, row: u64) {
+fn run_judge(rt: &impl Print, rows: &[u32], count: usize, row: u64) {
     if rows.len() < count {
         return;
     }
@@ -56,57 +57,57 @@ fn run_judge(rows: &[u32], count: usize, row: u64) {
     match answer {
         Judged::Verdict(judgement) => {
             let outcome = judgement.outcome;
-            print(b"J", 0);
-            print_three(certifier::verdict(outcome));
-            print_eight(judgement.bound);
-            print_margin(judgement.margin);
+            print(rt, b"J", 0);
+            print_three(rt, certifier::verdict(outcome));
+            print_eight(rt, judgement.bound);
+            print_margin(rt, judgement.margin);
         }
-        Judged::NotJudged(refusal) => print_refusal(b"J", refusal),
+        Judged::NotJudged(refusal) => print_refusal(rt, b"J", refusal),
     }
 }
 
-fn run_bound(rows: &[u32], count: usize, row: u64) {
+fn run_bound(rt: &impl Print, rows: &[u32], count: usize, row: u64) {
     if rows.len() < count {
         return;
     }
     let answer = certifier::precise_bound(table_checks::standard_lengths(), &rows[0..count], row);
     match answer {
         Bounded::Bound(bound) => {
-            print(b"P", 0);
-            print_eight(bound);
+            print(rt, b"P", 0);
+            print_eight(rt, bound);
         }
-        Bounded::NotBounded(refusal) => print_refusal(b"P", refusal),
+        Bounded::NotBounded(refusal) => print_refusal(rt, b"P", refusal),
     }
 }
 
 // The letter and a number.
-fn print(letter: &[u8], number: u32) {
-    io::write_all(1, letter);
-    print_three(number);
+fn print(rt: &impl Print, letter: &[u8], number: u32) {
+    let _ = rt.write_all(letter);
+    print_three(rt, number);
 }
 
-fn print_refusal(letter: &[u8], refusal: Refusal) {
+fn print_refusal(rt: &impl Print, letter: &[u8], refusal: Refusal) {
     let cause = refusal.cause;
-    print(letter, certifier::number(cause));
+    print(rt, letter, certifier::number(cause));
     let mut column = [0u8; 6];
     decimal::write(&mut column, refusal.place as u64);
-    io::write_all(1, &column);
+    let _ = rt.write_all(&column);
 }
 
-fn print_three(n: u32) {
+fn print_three(rt: &impl Print, n: u32) {
     let mut column = [0u8; 3];
     decimal::write(&mut column, n as u64);
-    io::write_all(1, &column);
+    let _ = rt.write_all(&column);
 }
 
-fn print_eight(n: u32) {
+fn print_eight(rt: &impl Print, n: u32) {
     let mut column = [0u8; 8];
     decimal::write(&mut column, n as u64);
-    io::write_all(1, &column);
+    let _ = rt.write_all(&column);
 }
 
-fn print_margin(margin: i64) {
+fn print_margin(rt: &impl Print, margin: i64) {
     let mut column = [0u8; 9];
     decimal::write_signed(&mut column, margin);
-    io::write_all(1, &column);
+    let _ = rt.write_all(&column);
 }

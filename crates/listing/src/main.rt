@@ -7,14 +7,14 @@ use console::BUFFER;
 // Room for a line of each row.
 const LISTING: usize = 1984;
 
-fn main() {
+fn main(rt: HostRuntime) {
     let mut bytes = [0u8; BUFFER];
-    let input = console::read_input(b"listing", &mut bytes);
+    let input = console::read_input(&rt, b"listing", &mut bytes);
     if !input.held {
         return;
     }
     let size = input.size;
     let mut listing = [0u8; LISTING];
     let answer = certifier::list_input(&bytes[..size], &mut listing);
-    console::print_answer(b"listing", answer, &listing);
+    console::print_answer(&rt, b"listing", answer, &listing);
 }

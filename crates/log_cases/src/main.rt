@@ -5,6 +5,7 @@
 
 use certifier::Reply;
 use frame_table::Answer;
+use std::io::Read;
 
 // The bytes of the arguments.
 const ARGUMENTS: usize = 40;
@@ -12,37 +13,34 @@ const ARGUMENTS: usize = 40;
 // More than the arguments, lengths and table, and a log of more lines than any.
 const BUFFER: usize = 67_200;
 
-fn main() {
-    let mut done = 0;
-    while done < case_reader::MOST_CASES {
-        if run_case() {
-            done += 1;
-        } else {
+fn main(rt: HostRuntime) {
+    let mut input = rt.stdin();
+    for _ in 0..case_reader::MOST_CASES {
+        if !run_case(&rt, &mut input) {
             return;
         }
     }
 }
 
 // Runs the next case; false at the end of the input.
-fn run_case() -> bool {
+fn run_case(rt: &impl Print, input: &mut impl Read) -> bool {
     let mut header = [0u8; case_reader::HEADER];
-    let got = io::read_full(0, &mut header);
-    if got < case_reader::HEADER {
+    if input.read_exact(&mut header).is_err() {
         return false;
     }
     let letter = header[0];
     let part = case_reader::number(&header[1..9]);
     let size = case_reader::number(&header[9..17]) as usize;
     let mut buffer = [0u8; BUFFER];
-    if case_reader::read_payload(size, &mut buffer) {
-        run(letter, part, size, &buffer);
+    if case_reader::read_payload(input, size, &mut buffer) {
+        run(rt, letter, part, size, &buffer);
         return true;
     }
     false
 }
 
 // Answers a case whose lengths and table have `part` bytes.
-fn run(letter: u8, part: u64, size: usize, buffer: &[u8]) {
+fn run(rt: &impl Print, letter: u8, part: u64, size: usize, buffer: &[u8]) {
     if buffer.len() < size {
         return;
     }
@@ -56,47 +54,47 @@ fn run(letter: u8, part: u64, size: usize, buffer: &[u8]) {
     let input = &buffer[40..to];
     let log = &buffer[to..size];
     match letter {
-        b'C' => check_log(input, log),
-        b'B' => busiest(&buffer[0..20], input, log),
-        b'S' => simulate(&buffer[0..20], &buffer[20..40], input),
+        b'C' => check_log(rt, input, log),
+        b'B' => busiest(rt, &buffer[0..20], input, log),
+        b'S' => simulate(rt, &buffer[0..20], &buffer[20..40], input),
         _ => {}
     }
 }
 
-fn check_log(input: &[u8], log: &[u8]) {
+fn check_log(rt: &impl Print, input: &[u8], log: &[u8]) {
     let mut space = [0u8; log_command::LONGEST];
     let out: &mut [u8] = &mut space;
     let answer = log_command::write_input(input, log, out);
-    print(answer, out);
+    print(rt, answer, out);
 }
 
-fn busiest(width: &[u8], input: &[u8], log: &[u8]) {
+fn busiest(rt: &impl Print, width: &[u8], input: &[u8], log: &[u8]) {
     let mut space = [0u8; busiest_command::LONGEST];
     let out: &mut [u8] = &mut space;
     let reply = busiest_command::write_input(input, log, width, out);
-    print_reply(reply, out);
+    print_reply(rt, reply, out);
 }
 
-fn simulate(seed: &[u8], lines: &[u8], input: &[u8]) {
+fn simulate(rt: &impl Print, seed: &[u8], lines: &[u8], input: &[u8]) {
     let mut space = [0u8; simulator::LONGEST];
     let out: &mut [u8] = &mut space;
     let reply = simulate_command::write_log(seed, lines, input, out);
-    print_reply(reply, out);
+    print_reply(rt, reply, out);
 }
 
-fn print_reply(reply: Reply, text: &[u8]) {
+fn print_reply(rt: &impl Print, reply: Reply, text: &[u8]) {
     match reply {
         Reply::Malformed => {
-            io::write_all(1, b"malformed\n");
+            let _ = rt.write_all(b"malformed\n");
         }
-        Reply::Answered(answer) => print(answer, text),
+        Reply::Answered(answer) => print(rt, answer, text),
     }
 }
 
-fn print(answer: Answer, text: &[u8]) {
+fn print(rt: &impl Print, answer: Answer, text: &[u8]) {
     if let Answer::Done(n) = answer {
         if n <= text.len() {
-            io::write_all(1, &text[0..n]);
+            let _ = rt.write_all(&text[0..n]);
         }
     }
 }

@@ -2,16 +2,22 @@
 // variant of Command, a line in `read_command`, an arm in `main` with a function of its own, and a line of the usage text.
 #![tactic(auto)]
 
-ghost use Rattle.io.specs.Counts.{IsPrefixLen};
+ghost use Rattle.std.specs.Prelude.{◌≡◌, ◌↔◌, IsTrue};
+ghost use Rattle.console.specs.Steps.{IsPrefixLen};
 
 use certifier::Reply;
-use console::{BUFFER, Input};
+use console::{BUFFER, Input, Streams};
+use std::env::FillError;
+use std::rt::{Env, Files};
 
 // A line more than the longest log.
 const LOG: usize = 64_040;
 
 // Room for a line of each row.
 const LISTING: usize = 1984;
+
+// Room for any path; a longer argument counts as an empty one.
+const ARGUMENT: usize = 4096;
 
 #[derive(Drop)]
 enum Command {
@@ -26,112 +32,124 @@ enum Command {
     Unknown,
 }
 
-fn main() {
-    let command = read_command();
+fn main(rt: HostRuntime) {
+    let command = read_command(&rt);
     match command {
-        Command::LoadSheet => load_sheet(),
-        Command::FrameLength => frame_length(),
-        Command::CheckLog => check_log(),
-        Command::Busiest => busiest(),
-        Command::Simulate => simulate(),
-        Command::Explain => explain(),
-        Command::Worst => worst(),
-        Command::Faults => faults(),
-        Command::Unknown => print_usage(),
+        Command::LoadSheet => load_sheet(&rt),
+        Command::FrameLength => frame_length(&rt),
+        Command::CheckLog => check_log(&rt),
+        Command::Busiest => busiest(&rt),
+        Command::Simulate => simulate(&rt),
+        Command::Explain => explain(&rt),
+        Command::Worst => worst(&rt),
+        Command::Faults => faults(&rt),
+        Command::Unknown => print_usage(&rt),
     }
 }
 
 // The command that the program is called with.
-fn read_command() -> Command {
-    if is_called(b"load-sheet", 0) {
+fn read_command(env: &impl Env) -> Command {
+    if is_called(env, b"load-sheet", 0) {
         return Command::LoadSheet;
     }
-    if is_called(b"frame-length", 3) {
+    if is_called(env, b"frame-length", 3) {
         return Command::FrameLength;
     }
-    if is_called(b"check-log", 1) {
+    if is_called(env, b"check-log", 1) {
         return Command::CheckLog;
     }
-    if is_called(b"busiest", 2) {
+    if is_called(env, b"busiest", 2) {
         return Command::Busiest;
     }
-    if is_called(b"simulate", 2) {
+    if is_called(env, b"simulate", 2) {
         return Command::Simulate;
     }
-    if is_called(b"explain", 1) {
+    if is_called(env, b"explain", 1) {
         return Command::Explain;
     }
-    if is_called(b"worst", 0) {
+    if is_called(env, b"worst", 0) {
         return Command::Worst;
     }
-    if is_called(b"faults", 1) {
+    if is_called(env, b"faults", 1) {
         return Command::Faults;
     }
     Command::Unknown
 }
 
 // Says how the program is used.
-fn print_usage() {
-    io::write_all(
-        2,
-        b"usage: vinguaru COMMAND\nINPUT is a file of lengths, 92 bytes, and behind it that of a table.\ncommands:\n  load-sheet < INPUT                 each node's bus load, and the greatest of them\n  frame-length KIND IDENTIFIER HEX   the exact length of a frame on the wire; HEX are its payload's bytes, - for none\n  check-log LOGFILE < INPUT          the groups' starts with which a bus log is the beginning of a schedule\n  busiest LOGFILE WIDTH < INPUT      the busiest stretch of so many ticks of a bus log, and what it shows of each row\n  simulate SEED LINES < INPUT        a log of so many lines, drawn from a seed by the bus rule\n  explain ROW < INPUT                the judgement of a row, counted from 0, and the case that breaks its claim\n  worst < INPUT                      the judgement of the frame that ranks last, and the starts with which its precise bound is reached\n  faults GAP < INPUT                 the listing of the table where bus faults begin at least so many ticks apart\n",
-    );
+fn print_usage(rt: &impl Streams) {
+    let usage =
+        b"usage: vinguaru COMMAND\nINPUT is a file of lengths, 92 bytes, and behind it that of a table.\ncommands:\n  load-sheet < INPUT                 each node's bus load, and the greatest of them\n  frame-length KIND IDENTIFIER HEX   the exact length of a frame on the wire; HEX are its payload's bytes, - for none\n  check-log LOGFILE < INPUT          the groups' starts with which a bus log is the beginning of a schedule\n  busiest LOGFILE WIDTH < INPUT      the busiest stretch of so many ticks of a bus log, and what it shows of each row\n  simulate SEED LINES < INPUT        a log of so many lines, drawn from a seed by the bus rule\n  explain ROW < INPUT                the judgement of a row, counted from 0, and the case that breaks its claim\n  worst < INPUT                      the judgement of the frame that ranks last, and the starts with which its precise bound is reached\n  faults GAP < INPUT                 the listing of the table where bus faults begin at least so many ticks apart\n";
+    let _ = rt.errors().write_all(usage);
 }
 
 // Prints what a command has written, or how the program is used where an argument breaks its notation.
-fn print_reply(reply: Reply, text: &[u8]) {
+fn print_reply(rt: &impl Streams, reply: Reply, text: &[u8]) {
     match reply {
-        Reply::Malformed => print_usage(),
-        Reply::Answered(answer) => console::print_answer(b"vinguaru", answer, text),
+        Reply::Malformed => print_usage(rt),
+        Reply::Answered(answer) => console::print_answer(rt, b"vinguaru", answer, text),
     }
 }
 
 // Whether the first argument is the word, and so many more follow it.
-fn is_called(word: &[u8], more: u8) -> bool {
-    if os::arg_count() != 2 + more as usize {
+fn is_called(env: &impl Env, word: &[u8], more: u8) -> bool {
+    let last = 1 + more as usize;
+    if !has_argument(env, last) || has_argument(env, last + 1) {
         return false;
     }
-    let mut space = io::buffer();
-    let n = os::arg(1, &mut space);
+    let mut space = [0u8; ARGUMENT];
+    let n = argument(env, 1, &mut space);
     is_word(&space[..n], word)
 }
 
+// Whether the program is called with an argument i, of any length; argument 0 is its name.
+fn has_argument(env: &impl Env, i: usize) -> bool {
+    let mut space = [0u8; 1];
+    match env.arg(i, &mut space) {
+        Ok(_) => true,
+        Err(FillError::TooLong) => true,
+        Err(FillError::NotPresent) => false,
+    }
+}
+
+// Puts argument i at the start of a buffer, and answers its length; 0 where it has no room there.
+fn argument(env: &impl Env, i: usize, space: &mut [u8]) -> usize
+    ensures { IsPrefixLen result space.new }
+{
+    match env.arg(i, space) {
+        Ok(n) => n,
+        Err(_) => 0,
+    }
+}
+
 // Whether two words are the same.
-fn is_word(a: &[u8], b: &[u8]) -> bool {
-    if a.len() != b.len() {
-        return false;
-    }
-    let mut i = 0;
-    while i < a.len() {
-        if a[i] != b[i] {
-            return false;
-        }
-        i += 1;
-    }
-    true
+fn is_word(a: &[u8], b: &[u8]) -> bool
+    ensures { IsTrue result ↔ (a.now ≡ b.now) }
+{
+    a == b
 }
 
 // Prints the load sheet of the table, or its refusal.
-fn load_sheet() {
+fn load_sheet(rt: &impl Streams) {
     let mut bytes = [0u8; BUFFER];
-    let input = console::read_input(b"vinguaru", &mut bytes);
+    let input = console::read_input(rt, b"vinguaru", &mut bytes);
     if !input.held {
         return;
     }
     let size = input.size;
     let mut sheet = [0u8; load_sheet::LONGEST];
     let answer = load_sheet::write_input(&bytes[..size], &mut sheet);
-    console::print_answer(b"vinguaru", answer, &sheet);
+    console::print_answer(rt, b"vinguaru", answer, &sheet);
 }
 
 // Prints the exact length of the frame that the arguments name, or its refusal.
-fn frame_length() {
-    let mut kind = io::buffer();
-    let k = os::arg(2, &mut kind);
-    let mut identifier = io::buffer();
-    let i = os::arg(3, &mut identifier);
-    let mut hex = io::buffer();
-    let h = os::arg(4, &mut hex);
+fn frame_length(rt: &(impl Streams + Env)) {
+    let mut kind = [0u8; ARGUMENT];
+    let k = argument(rt, 2, &mut kind);
+    let mut identifier = [0u8; ARGUMENT];
+    let i = argument(rt, 3, &mut identifier);
+    let mut hex = [0u8; ARGUMENT];
+    let h = argument(rt, 4, &mut hex);
     let mut line = [0u8; frame_length_command::LONGEST];
     let reply = frame_length_command::write_line(
         &kind[..k],
@@ -139,40 +157,40 @@ fn frame_length() {
         &hex[..h],
         &mut line,
     );
-    print_reply(reply, &line);
+    print_reply(rt, reply, &line);
 }
 
 // Prints the starts of the groups that explain the log, or the log's refusal. A longer log is turned back by its length alone.
-fn check_log() {
+fn check_log(rt: &(impl Streams + Env + Files)) {
     let mut log = [0u8; LOG];
-    let file = read_log(&mut log);
+    let file = read_log(rt, &mut log);
     if !file.held {
         return;
     }
     let length = file.size;
     let mut bytes = [0u8; BUFFER];
-    let input = console::read_input(b"vinguaru", &mut bytes);
+    let input = console::read_input(rt, b"vinguaru", &mut bytes);
     if !input.held {
         return;
     }
     let size = input.size;
     let mut text = [0u8; log_command::LONGEST];
     let answer = log_command::write_input(&bytes[..size], &log[..length], &mut text);
-    console::print_answer(b"vinguaru", answer, &text);
+    console::print_answer(rt, b"vinguaru", answer, &text);
 }
 
 // Prints the busiest stretch of the log and what it shows of each row, or the log's refusal.
-fn busiest() {
-    let mut width = io::buffer();
-    let w = os::arg(3, &mut width);
+fn busiest(rt: &(impl Streams + Env + Files)) {
+    let mut width = [0u8; ARGUMENT];
+    let w = argument(rt, 3, &mut width);
     let mut log = [0u8; LOG];
-    let file = read_log(&mut log);
+    let file = read_log(rt, &mut log);
     if !file.held {
         return;
     }
     let length = file.size;
     let mut bytes = [0u8; BUFFER];
-    let input = console::read_input(b"vinguaru", &mut bytes);
+    let input = console::read_input(rt, b"vinguaru", &mut bytes);
     if !input.held {
         return;
     }
@@ -184,74 +202,74 @@ fn busiest() {
         &width[..w],
         &mut text,
     );
-    print_reply(reply, &text);
+    print_reply(rt, reply, &text);
 }
 
 // Reads the log in the file that the argument behind the command names.
-fn read_log(log: &mut [u8]) -> Input
+fn read_log(rt: &(impl Streams + Env + Files), log: &mut [u8]) -> Input
     ensures { IsPrefixLen result.size log.new }
 {
-    let mut path = io::buffer();
-    let n = os::arg(2, &mut path);
-    console::read_file(b"vinguaru", &path[..n], log)
+    let mut path = [0u8; ARGUMENT];
+    let n = argument(rt, 2, &mut path);
+    console::read_file(rt, b"vinguaru", &path[..n], log)
 }
 
 // Prints a log that is drawn from the seed, or its refusal.
-fn simulate() {
-    let mut seed = io::buffer();
-    let s = os::arg(2, &mut seed);
-    let mut lines = io::buffer();
-    let n = os::arg(3, &mut lines);
+fn simulate(rt: &(impl Streams + Env)) {
+    let mut seed = [0u8; ARGUMENT];
+    let s = argument(rt, 2, &mut seed);
+    let mut lines = [0u8; ARGUMENT];
+    let n = argument(rt, 3, &mut lines);
     let mut bytes = [0u8; BUFFER];
-    let input = console::read_input(b"vinguaru", &mut bytes);
+    let input = console::read_input(rt, b"vinguaru", &mut bytes);
     if !input.held {
         return;
     }
     let size = input.size;
     let mut log = [0u8; simulator::LONGEST];
     let reply = simulate_command::write_log(&seed[..s], &lines[..n], &bytes[..size], &mut log);
-    print_reply(reply, &log);
+    print_reply(rt, reply, &log);
 }
 
 // Prints the judgement of a row with the case that breaks its claim, or its refusal.
-fn explain() {
-    let mut row = io::buffer();
-    let r = os::arg(2, &mut row);
+fn explain(rt: &(impl Streams + Env)) {
+    let mut row = [0u8; ARGUMENT];
+    let r = argument(rt, 2, &mut row);
     let mut bytes = [0u8; BUFFER];
-    let input = console::read_input(b"vinguaru", &mut bytes);
+    let input = console::read_input(rt, b"vinguaru", &mut bytes);
     if !input.held {
         return;
     }
     let size = input.size;
     let mut text = [0u8; explain_command::LONGEST];
     let reply = explain_command::write_input(&bytes[..size], &row[..r], &mut text);
-    print_reply(reply, &text);
+    print_reply(rt, reply, &text);
 }
 
 // Prints the line of the frame that ranks last and its worst case, or the table's refusal.
-fn worst() {
+fn worst(rt: &impl Streams) {
     let mut bytes = [0u8; BUFFER];
-    let input = console::read_input(b"vinguaru", &mut bytes);
+    let input = console::read_input(rt, b"vinguaru", &mut bytes);
     if !input.held {
         return;
     }
     let size = input.size;
     let mut text = [0u8; worst_command::LONGEST];
     let answer = worst_command::write_input(&bytes[..size], &mut text);
-    console::print_answer(b"vinguaru", answer, &text);
+    console::print_answer(rt, b"vinguaru", answer, &text);
 }
 
 // Prints the listing of the table under faults, or its refusal.
-fn faults() {
-    let mut gap = io::buffer();
-    let g = os::arg(2, &mut gap);
+fn faults(rt: &(impl Streams + Env)) {
+    let mut gap = [0u8; ARGUMENT];
+    let g = argument(rt, 2, &mut gap);
     let mut bytes = [0u8; BUFFER];
-    let input = console::read_input(b"vinguaru", &mut bytes);
+    let input = console::read_input(rt, b"vinguaru", &mut bytes);
     if !input.held {
         return;
     }
     let size = input.size;
     let mut listing = [0u8; LISTING];
     let reply = faults_command::write_input(&bytes[..size], &gap[..g], &mut listing);
-    print_reply(reply, &listing);
+    print_reply(rt, reply, &listing);
 }

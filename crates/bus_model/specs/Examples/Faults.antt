@@ -60,7 +60,7 @@ same-tick is = cc
 
 -- The only fault is that of tick 134.
 one-fault : (f : ℕ) → FaultIn (first ∷ again ∷ []) f → f ≡ 134
-one-fault f (x , there (there x11) , is) = elim x11 [ ]
+one-fault f (x, there (there x11), is) = elim x11 [ ]
 one-fault f (x, here e, is) = same-tick (sym is ∙ ap (λ (y : Transmission). y.fault) e)
 one-fault f (x, there (here e), is) = absurd (not_at (sym (ap (λ (y : Transmission). y.fault) e) ∙ is))
 

@@ -6,26 +6,25 @@ use Rattle.log_check.specs.Laws.Answer.{files-told}
 use Rattle.log_check.proofs.files.check_files.Goals as goal
 use Rattle.log_check.proofs.files.check_files.Goals.{After-lengths_of}
 
-abbrev start : tie.After-read → tie.Start
-start c = c.before.before.before.before
-
 -- the lengths of the file
-loaded : (c : After-lengths_of) → let s = start c.before.before.before in ReadLengths s.args.lengths.now s.args.table.now c.lengths_of.result
+loaded : (c : After-lengths_of) → ReadLengths c.args.lengths.now c.args.table.now c.lengths_of.result
 loaded c = lengths_read _ _ c.read-loaded.ensures.value c.in-Passed.is c.lengths_of.ensures
 
 pub check_table-requires : goal.check_table-requires
-check_table-requires c = (loaded c).loadable
+check_table-requires c = (loaded (goal.at.check_table-requires c).After-lengths_of).loadable
 
 pub returns-in-Failed : goal.returns-in-Failed
 unfolding files_answer checked_answer
 returns-in-Failed c =
-    let s = start (goal.at.returns-in-Failed c).After-read-loaded in
-    let answer = files-told s.args.lengths.now s.args.table.now s.args.text.now
-    (rw (lengths-refused _ _ c.read-loaded.ensures.value c.in-Failed.is, ← c.of_table.ensures) c.refuse.ensures) in record { value = answer.0; says = answer.1.0; in_numbers = answer.1.1 }
+    let a = c.args in
+    let t = files-told a.lengths.now a.table.now a.text.now
+    (rw (lengths-refused _ _ c.read-loaded.ensures.value c.in-Failed.is, ← c.of_table.ensures) c.refuse.ensures) in
+    record { value = t.0; says = t.1.0; in_numbers = t.1.1 }
 
 pub returns-in-Passed : goal.returns-in-Passed
 unfolding files_answer
 returns-in-Passed c =
+    let a = c.args in
     let l = loaded (goal.at.returns-in-Passed c).After-lengths_of in
-    let s = start (goal.at.returns-in-Passed c).After-read-loaded in
-    let answer = files-told s.args.lengths.now s.args.table.now s.args.text.now (rw (l.passed, ← l.is) c.check_table.ensures) in record { value = answer.0; says = answer.1.0; in_numbers = answer.1.1 }
+    let t = files-told a.lengths.now a.table.now a.text.now (rw (l.passed, ← l.is) c.check_table.ensures) in
+    record { value = t.0; says = t.1.0; in_numbers = t.1.1 }

@@ -6,26 +6,17 @@ use Rattle.log_check.specs.Check.{checked_answer}
 use Rattle.log_check.proofs.files.check_table.Goals as goal
 use Rattle.log_check.proofs.files.check_table.Goals.{In-Done}
 
-abbrev start : tie.After-read → tie.Start
-start c = c.before.before.before.before
-
 -- what was read is the table
-table : (c : In-Done) → ReadRows (start c.before.before.before.before).args.table.now c.read-answer.new.rows c.in-Done.n
+table : (c : In-Done) → ReadRows c.args.table.now c.read-answer.new.rows c.in-Done.n
 table c = let r = c.read-answer in read-rows _ _ _ refl r.ensures.value _ _ r.ensures.rows_after c.in-Done.is
 
-pub slice_bounds-rows-end : goal.slice_bounds-rows-end
-slice_bounds-rows-end c = (table c).room
-
-pub slice_bounds-check_text-end : goal.slice_bounds-check_text-end
-slice_bounds-check_text-end c = (table (goal.at.slice_bounds-check_text-end c).In-Done).size
-
 pub check_text-requires : goal.check_text-requires
-check_text-requires c = ((start (goal.at.check_text-requires c).After-read-answer).requires, (table (goal.at.check_text-requires c).In-Done).accepted)
+check_text-requires c = (c.requires, (table (goal.at.check_text-requires c).In-Done).accepted)
 
 pub returns-in-Refused : goal.returns-in-Refused
 unfolding checked_answer
 returns-in-Refused c =
-    rw (read-refused (start (goal.at.returns-in-Refused c).After-read-answer).args.table.now _ _ refl c.read-answer.ensures.value _ c.in-Refused.is, ← c.of_table.ensures) c.refuse.ensures
+    rw (read-refused c.args.table.now _ _ refl c.read-answer.ensures.value _ c.in-Refused.is, ← c.of_table.ensures) c.refuse.ensures
 
 pub returns-in-Done : goal.returns-in-Done
 unfolding checked_answer

@@ -23,12 +23,12 @@ line_of-requires c =
 pub follow_line-followed-requires : goal.follow_line-followed-requires
 unfolding entry_of
 follow_line-followed-requires c =
-    let small = c.before.line_of.ensures.1 in
+    let small = c.line_of.ensures.small in
     record { accepted = c.requires.accepted; n_bound = (omega (arith, c.requires.text_len_bound.0, c.loop-i-test.true), rw c.entry_of-e.ensures small.release, rw c.entry_of-e.ensures small.start, rw c.entry_of-e.ensures small.length) }
 
 -- the line as it was followed
 followed : (c : After-follow_line-followed) → c.follow_line-followed.result ≡ follow_line (frames_of c.args.lengths c.args.rows.now) c.loop-i.p c.loop-i.i (entry_at c.args.lengths c.args.rows.now c.args.text.now c.loop-i.i)
-followed c = rw (← c.before.before.line_of.ensures.0, ← c.entry_of-e.ensures) c.follow_line-followed.ensures
+followed c = rw (← c.line_of.ensures.value, ← c.entry_of-e.ensures) c.follow_line-followed.ensures
 
 pub returns-then-followed-ne0 : goal.returns-then-followed-ne0
 returns-then-followed-ne0 c = log-stops _ _ _ _ _ _ c.loop-i.invariant.0 _ c.loop-i-test.true (followed (goal.at.returns-then-followed-ne0 c).After-follow_line-followed) c.if-followed-ne0.true

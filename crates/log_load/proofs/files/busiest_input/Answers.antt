@@ -8,4 +8,12 @@ use Rattle.log_load.proofs.files.busiest_input.Goals as goal
 pub returns : goal.returns
 returns c =
     let xs : List ℕ = c.args.input.now in
-    rw (← first_part xs _ c.lengths_end-end.ensures, ← second-part xs _ c.lengths_end-end.ensures) (c.busiest_file.ensures.value, (c.busiest_file.ensures.out_after, (c.busiest_file.ensures.says, c.busiest_file.ensures.in_numbers)))
+    let first = first_part xs _ c.lengths_end-end.ensures in
+    let second = second-part xs _ c.lengths_end-end.ensures in
+    let e = c.busiest_file.ensures in
+    record {
+      value = rw (← first, ← second) e.value;
+      out_after = rw (← second) e.out_after;
+      says = rw (← first, ← second) e.says;
+      in_numbers = rw (← first, ← second) e.in_numbers;
+    }

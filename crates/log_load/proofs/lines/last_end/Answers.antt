@@ -12,5 +12,5 @@ returns-then-n-eq0 c = record { value = last_none _ (sym c.count-n.ensures.value
 
 pub returns : goal.returns
 returns c =
-    let z = c.before.line_of.ensures in
-    record { value = ap (λ (l : Line). l.start + l.length) z.0 ∙ last-is _ _ (omega (arith, c.if-n-eq0.false, c.count-n.ensures.value)); small = omega (arith, z.1.start, z.1.length) }
+    let z = c.line_of-l.ensures in
+    record { value = ap (λ (l : Line). l.start + l.length) z.value ∙ last-is _ _ (omega (arith, c.if-n-eq0.false, c.count-n.ensures.value)); small = omega (arith, z.small.start, z.small.length) }

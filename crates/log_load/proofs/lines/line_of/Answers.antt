@@ -5,7 +5,10 @@ use Rattle.log_load.specs.Theory.Lines.{few-lines, line-stands, line-is}
 use Rattle.log_load.proofs.lines.line_of.Goals as goal
 
 pub line_of-requires : goal.line_of-requires
-line_of-requires c = let readable = c.requires.readable in let h = c.requires.i_in_bounds in (omega (arith, few-lines _ readable), rw (← line-is _ readable _ h) (line-stands _ readable _ h))
+line_of-requires c =
+    let readable = c.requires.readable in
+    let h = c.requires.i_in_bounds in
+    (omega (arith, few-lines _ readable), rw (← line-is _ readable _ h) (line-stands _ readable _ h))
 
 pub returns : goal.returns
-returns c = let readable = c.requires.readable in let h = c.requires.i_in_bounds in record { value = c.line_of.ensures.0 ∙ sym (line-is _ readable _ h); small = c.line_of.ensures.1 }
+returns c = record { value = c.line_of.ensures.value ∙ sym (line-is _ c.requires.readable _ c.requires.i_in_bounds); small = c.line_of.ensures.small }

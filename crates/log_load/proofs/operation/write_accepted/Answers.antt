@@ -18,8 +18,7 @@ returns-then-out-size c = let answer = area-short _ _ _ _ c.if-width-eq0.false (
 
 pub write_rows-requires : goal.write_rows-requires
 write_rows-requires c =
-    let p = c.requires in
-    record { n_value = (refl, omega (arith, (accepted-size _ p.accepted).most), rest-long c.args.out.now _ _ _ _ _ c.write_first.ensures refl c.if-out-size.false); readable = p.readable.0 }
+    record { n_value = (refl, omega (arith, (accepted-size _ c.requires.accepted).most), rest-long c.args.out.now _ _ _ _ _ c.write_first.ensures refl c.if-out-size.false); readable = c.requires.readable.0 }
 
 pub returns : goal.returns
 returns c =

@@ -10,15 +10,12 @@ use Rattle.log_load.specs.Steps.{no_line, with_line}
 use Rattle.log_load.specs.Theory.Sheet.{joined, seen_more, seen_start, seen_end}
 use Rattle.log_load.proofs.sheet.seen_of.Goals as goal
 
-pub loop-j-init : goal.loop-j-init
-loop-j-init c = (through-start _ _ _ _ (seen_start c.args.rows.now c.args.i (lines_of c.args.text.now)), search rules, search rules)
-
 pub loop-j-preserved : goal.loop-j-preserved
 loop-j-preserved c =
     let l = c.loop-j in
     let w = c.with_line-seen.ensures in (
       through-more _ _ _ _ no_line l.invariant.0 (omega (arith, c.loop-j-test.true, c.count-n.ensures.value))
-          (λ ls. seen_more c.args.rows.now c.args.i l.seen _ _ ls (w.value ∙ ap (λ (k : Line). with_line c.args.rows.now c.args.i k l.seen) c.before.line_of.ensures.0)),
+          (λ ls. seen_more c.args.rows.now c.args.i l.seen _ _ ls (w.value ∙ ap (λ (k : Line). with_line c.args.rows.now c.args.i k l.seen) c.line_of-l.ensures.value)),
       omega (arith, l.invariant.1, w.small.0),
       omega (arith, l.invariant.2, w.small.1),
     )

@@ -7,7 +7,9 @@ use Rattle.log_load.specs.Theory.Best.{tried-start}
 use Rattle.log_load.proofs.stretch.first_window.Goals as goal
 
 pub walk_to-to-requires : goal.walk_to-to-requires
-walk_to-to-requires c = let p = c.requires in record { readable = p.readable; t_bound = omega (arith, p.w_bound.1); walked = walk_start _ p.readable.1 _ }
+walk_to-to-requires c =
+    let p = c.requires in
+    record { readable = p.readable; t_bound = omega (arith, p.w_bound.1); walked = walk_start _ p.readable.1 _ }
 
 pub returns : goal.returns
 returns c =

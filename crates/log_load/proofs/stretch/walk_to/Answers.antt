@@ -17,7 +17,7 @@ overflow_add-busy c =
 pub returns-then-t-l : goal.returns-then-t-l
 returns-then-t-l c =
     let l = c.loop-line in
-    let line = c.before.before.before.line_of.ensures.0 in
+    let line = c.line_of-l.ensures.value in
     let less : l.line < length (lines_of c.args.text.now) = omega (arith, c.loop-line-test.true, c.count-n.ensures.value) in
     let ends = rw line at c.if-t-l.true in
     record { walked_2 = l.invariant; busy_value = ap (λ (k : ℕ). l.done + k) (c.less.ensures ∙ ap (λ (k : Line). c.args.t - k.start) line) ∙ walk-stop _ c.requires.readable.1 l.invariant less ends }
@@ -25,12 +25,12 @@ returns-then-t-l c =
 pub overflow_add-done : goal.overflow_add-done
 overflow_add-done c =
     let done = walk-done _ c.requires.readable.1 c.loop-line.invariant in
-    omega (arith, done, c.requires.t_bound, c.before.before.before.line_of.ensures.1.length)
+    omega (arith, done, c.requires.t_bound, c.line_of-l.ensures.small.length)
 
 pub loop-line-preserved : goal.loop-line-preserved
 loop-line-preserved c =
     let l = c.loop-line in
-    let line = c.before.before.before.line_of.ensures.0 in
+    let line = c.line_of-l.ensures.value in
     let less : l.line < length (lines_of c.args.text.now) = omega (arith, c.loop-line-test.true, c.count-n.ensures.value) in
     let ends = rw line at c.if-t-l.false in
     rw line (walk_more _ c.requires.readable.1 l.invariant less ends)

@@ -12,12 +12,6 @@ read c =
     let both = c.read-answer.ensures in
     read-rows _ _ _ refl both.value _ _ both.rows_after c.in-Done.is
 
-pub slice_bounds-rows-end : goal.slice_bounds-rows-end
-slice_bounds-rows-end c = (read c).room
-
-pub slice_bounds-simulate_accepted-end : goal.slice_bounds-simulate_accepted-end
-slice_bounds-simulate_accepted-end c = (read (goal.at.slice_bounds-simulate_accepted-end c).In-Done).size
-
 pub simulate_accepted-requires : goal.simulate_accepted-requires
 simulate_accepted-requires c =
     let table = read (goal.at.simulate_accepted-requires c).In-Done in
@@ -25,9 +19,12 @@ simulate_accepted-requires c =
 
 pub returns-in-Refused : goal.returns-in-Refused
 returns-in-Refused c =
-    rw c.in-Refused.is (left-refused _ _ _ _ _ _ (read-refused _ _ _ refl c.read-answer.ensures.value _ c.in-Refused.is))
+    let left = left-refused _ _ _ _ _ _ (read-refused _ _ _ refl c.read-answer.ensures.value _ c.in-Refused.is) in
+    record { value = rw c.in-Refused.is left.0; out_after = rw c.in-Refused.is left.1 }
 
 pub returns-in-Done : goal.returns-in-Done
 returns-in-Done c =
     let table = read (goal.at.returns-in-Done c).In-Done in
-    let answer = left_passed _ _ _ _ _ table.passed (rw (← table.rows) (c.simulate_accepted.ensures.value, c.simulate_accepted.ensures.out_after)) in record { value = answer.0; out_after = answer.1 }
+    let e = c.simulate_accepted.ensures in
+    let left = left_passed _ _ _ _ _ table.passed (rw (← table.rows) (e.value, e.out_after)) in
+    record { value = left.0; out_after = left.1 }

@@ -8,4 +8,11 @@ use Rattle.simulator.proofs.operation.simulate_input.Goals as goal
 pub returns : goal.returns
 returns c =
     let xs : List ℕ = c.args.input.now in
-    rw (← first_part xs _ c.lengths_end-end.ensures, ← second-part xs _ c.lengths_end-end.ensures) (c.simulate_files.ensures.value, (c.simulate_files.ensures.out_after, c.simulate_files.ensures.in_numbers))
+    let first = first_part xs _ c.lengths_end-end.ensures in
+    let second = second-part xs _ c.lengths_end-end.ensures in
+    let e = c.simulate_files.ensures in
+    record {
+      value = rw (← first, ← second) e.value;
+      out_after = rw (← first, ← second) e.out_after;
+      in_numbers = rw (← first, ← second) e.in_numbers;
+    }

@@ -26,7 +26,7 @@ returns-then-out-lines c =
     (length-text c.args.lengths c.args.rows.now c.args.seed c.args.lines) refl c.if-out-lines.true c.no_room.ensures in record { value = answer.0; out_after = answer.1 }
 
 pub first-first-requires : goal.first-first-requires
-first-first-requires c = record { loadable = c.requires.loadable; early = early c }
+first-first-requires c = record { loadable = c.requires.loadable; early = early (goal.at.first-first-requires c).After-draw_starts-starts }
 
 pub write_log-requires : goal.write_log-requires
 write_log-requires c =

@@ -23,7 +23,7 @@ small c =
     turn_small c.args.lengths c.requires.loadable.0 c.args.rows.now c.requires.loadable.1 c.args.first _ c.loop-i.i _ _ c.loop-i.invariant.0 c.drawn-v.ensures c.entry_next-e.ensures c.requires.within.0 (omega (arith, c.loop-i-test.true, c.requires.within.1))
 
 pub line_of-requires : goal.line_of-requires
-line_of-requires c = ((small c).inside, (small c).row)
+line_of-requires c = let z = small (goal.at.line_of-requires c).After-entry_next-e in (z.inside, z.row)
 
 pub moved_by-s-requires : goal.moved_by-s-requires
 moved_by-s-requires c = let z = small (goal.at.moved_by-s-requires c).After-entry_next-e in (z.row, omega (arith, z.start), omega (arith, z.release), omega (arith, z.length-max))
@@ -33,7 +33,7 @@ loop-i-preserved c =
     let ls = c.args.lengths in
     let rows = c.args.rows.now in
     let below = c.loop-i-test.true in
-    let line = c.write_line.ensures ∙ ap line_text (c.before.before.before.before.before.line_of.ensures ∙ ap (line_of rows) (turn-entry ls c.requires.loadable.0 rows c.requires.loadable.1 c.args.first _ c.loop-i.i _ _ c.loop-i.invariant.0 c.drawn-v.ensures c.entry_next-e.ensures)) in (
+    let line = c.write_line.ensures ∙ ap line_text (c.line_of.ensures ∙ ap (line_of rows) (turn-entry ls c.requires.loadable.0 rows c.requires.loadable.1 c.args.first _ c.loop-i.i _ _ c.loop-i.invariant.0 c.drawn-v.ensures c.entry_next-e.ensures)) in (
       turn_moved ls c.requires.loadable.0 rows c.requires.loadable.1 c.args.first _ c.loop-i.i _ _ c.loop-i.invariant.0 c.drawn-v.ensures c.entry_next-e.ensures _ c.moved_by-s.ensures,
       line-over (log-lines (frames_of ls rows) rows c.args.first) _ _ _ _ c.loop-i.invariant.1 _ below line,
       search rules,
