@@ -10,8 +10,8 @@ returns-in-Refused c =
     let line = text-refused _ _ _ _ _ _ a.value a.in_numbers _ refused in
     let left = rw refused at a.out_after in
     record {
-      value = rw (← line, ← left, ← c.number.ensures) (c.write_refusal_line.ensures.value, c.write_refusal_line.ensures.out_after).0;
-      out_after = rw (← line, ← left, ← c.number.ensures) (c.write_refusal_line.ensures.value, c.write_refusal_line.ensures.out_after).1;
+      value = rw (← line, ← left, ← c.number.ensures) c.write_refusal_line.ensures.value;
+      out_after = rw (← line, ← left, ← c.number.ensures) c.write_refusal_line.ensures.out_after;
     }
 
 pub returns-in-Done : goal.returns-in-Done

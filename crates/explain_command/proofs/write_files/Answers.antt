@@ -14,8 +14,8 @@ unfolding text_for explain_file explain_read
 returns-in-Failed c =
     let e = c.write_refusal.ensures in
     record {
-      value = rw (lengths-refused _ c.args.table.now c.read-loaded.ensures.value c.in-Failed.is, ← c.of_table.ensures, text-turned (field (fields_of c.args.table.now) c.args.row identifier_column) c.of_table.result) (e.value, e.out_after).0;
-      out_after = rw (lengths-refused _ c.args.table.now c.read-loaded.ensures.value c.in-Failed.is, ← c.of_table.ensures, text-turned (field (fields_of c.args.table.now) c.args.row identifier_column) c.of_table.result) (e.value, e.out_after).1;
+      value = rw (lengths-refused _ c.args.table.now c.read-loaded.ensures.value c.in-Failed.is, ← c.of_table.ensures, text-turned (field (fields_of c.args.table.now) c.args.row identifier_column) c.of_table.result) e.value;
+      out_after = rw (lengths-refused _ c.args.table.now c.read-loaded.ensures.value c.in-Failed.is, ← c.of_table.ensures, text-turned (field (fields_of c.args.table.now) c.args.row identifier_column) c.of_table.result) e.out_after;
     }
 
 -- the lengths of the file
@@ -27,6 +27,6 @@ unfolding text_for explain_file
 returns-in-Passed c =
     let l = loaded (goal.at.returns-in-Passed c).After-lengths_of in
     record {
-      value = rw (l.passed, ← l.is) (c.write_table.ensures.value, c.write_table.ensures.out_after).0;
-      out_after = rw (l.passed, ← l.is) (c.write_table.ensures.value, c.write_table.ensures.out_after).1;
+      value = rw (l.passed, ← l.is) c.write_table.ensures.value;
+      out_after = rw (l.passed, ← l.is) c.write_table.ensures.out_after;
     }

@@ -33,12 +33,12 @@ pub returns-in-NotJudged : goal.returns-in-NotJudged
 returns-in-NotJudged c =
     let e = c.write_refusal.ensures in
     record {
-      value = rw (← c.explain-explained.ensures.value, text-refused _ c.explain-explained.result _ c.in-NotJudged.is) (e.value, e.out_after).0;
-      out_after = rw (← c.explain-explained.ensures.value, text-refused _ c.explain-explained.result _ c.in-NotJudged.is) (e.value, e.out_after).1;
+      value = rw (← c.explain-explained.ensures.value, text-refused _ c.explain-explained.result _ c.in-NotJudged.is) e.value;
+      out_after = rw (← c.explain-explained.ensures.value, text-refused _ c.explain-explained.result _ c.in-NotJudged.is) e.out_after;
     }
 
 pub returns-in-Verdict : goal.returns-in-Verdict
 returns-in-Verdict c = record {
-  value = rw (← c.explain-explained.ensures.value, text-judged _ c.explain-explained.result _ c.in-Verdict.is) (c.write_judged.ensures.value, c.write_judged.ensures.out_after).0;
-  out_after = rw (← c.explain-explained.ensures.value, text-judged _ c.explain-explained.result _ c.in-Verdict.is) (c.write_judged.ensures.value, c.write_judged.ensures.out_after).1;
+  value = rw (← c.explain-explained.ensures.value, text-judged _ c.explain-explained.result _ c.in-Verdict.is) c.write_judged.ensures.value;
+  out_after = rw (← c.explain-explained.ensures.value, text-judged _ c.explain-explained.result _ c.in-Verdict.is) c.write_judged.ensures.out_after;
 }

@@ -27,8 +27,8 @@ unfolding explain_read
 returns-in-Refused c =
     let e = c.write_refusal.ensures in
     record {
-      value = rw (read-refused c.args.table.now _ _ refl c.read-answer.ensures.value _ c.in-Refused.is, ← c.of_table.ensures, text-turned (field (fields_of c.args.table.now) c.args.row identifier_column) c.of_table.result) (e.value, e.out_after).0;
-      out_after = rw (read-refused c.args.table.now _ _ refl c.read-answer.ensures.value _ c.in-Refused.is, ← c.of_table.ensures, text-turned (field (fields_of c.args.table.now) c.args.row identifier_column) c.of_table.result) (e.value, e.out_after).1;
+      value = rw (read-refused c.args.table.now _ _ refl c.read-answer.ensures.value _ c.in-Refused.is, ← c.of_table.ensures, text-turned (field (fields_of c.args.table.now) c.args.row identifier_column) c.of_table.result) e.value;
+      out_after = rw (read-refused c.args.table.now _ _ refl c.read-answer.ensures.value _ c.in-Refused.is, ← c.of_table.ensures, text-turned (field (fields_of c.args.table.now) c.args.row identifier_column) c.of_table.result) e.out_after;
     }
 
 pub returns-in-Done : goal.returns-in-Done
@@ -36,6 +36,6 @@ unfolding explain_read
 returns-in-Done c =
     let t = table (goal.at.returns-in-Done c).In-Done in
     record {
-      value = rw (t.passed, ← t.rows) (c.write_row.ensures.value, c.write_row.ensures.out_after).0;
-      out_after = rw (t.passed, ← t.rows) (c.write_row.ensures.value, c.write_row.ensures.out_after).1;
+      value = rw (t.passed, ← t.rows) c.write_row.ensures.value;
+      out_after = rw (t.passed, ← t.rows) c.write_row.ensures.out_after;
     }

@@ -5,14 +5,14 @@ use Rattle.faults_command.proofs.write_listed.Goals as goal
 
 pub returns-in-Written : goal.returns-in-Written
 returns-in-Written c = record {
-  value = rw c.in-Written.is (refl, refl).0;
-  out_after = rw c.in-Written.is (refl, refl).1;
+  value = rw c.in-Written.is refl;
+  out_after = rw c.in-Written.is refl;
 }
 
 pub returns-in-NotListed : goal.returns-in-NotListed
 returns-in-NotListed c =
     let e = c.write_refusal.ensures in
     record {
-      value = rw c.in-NotListed.is (e.value, rw e.value at e.out_after).0;
-      out_after = rw c.in-NotListed.is (e.value, rw e.value at e.out_after).1;
+      value = rw c.in-NotListed.is e.value;
+      out_after = rw c.in-NotListed.is (rw e.value at e.out_after);
     }

@@ -11,6 +11,6 @@ returns c =
     let end = c.lengths_end-end.ensures in
     let l = c.list_faults-listed.ensures in
     record {
-      value = rw (← first_part xs _ end, ← second-part xs _ end, ← l.value, ← l.out_after) (c.write_listed.ensures.value, c.write_listed.ensures.out_after).0;
-      out_after = rw (← first_part xs _ end, ← second-part xs _ end, ← l.value, ← l.out_after) (c.write_listed.ensures.value, c.write_listed.ensures.out_after).1;
+      value = rw (← first_part xs _ end, ← second-part xs _ end, ← l.value, ← l.out_after) c.write_listed.ensures.value;
+      out_after = rw (← first_part xs _ end, ← second-part xs _ end, ← l.value, ← l.out_after) c.write_listed.ensures.out_after;
     }

@@ -20,7 +20,8 @@ measure_hex-requires c = payload-digits _ (sym c.is_payload.ensures ∙ c.if-is_
 pub returns-then-is_payload : goal.returns-then-is_payload
 unfolding reply_for is_asked line_for
 returns-then-is_payload c =
-    let both = rw c.measure_hex.ensures at (c.write_measured.ensures.value, c.write_measured.ensures.out_after) in
+    let value = rw c.measure_hex.ensures at c.write_measured.ensures.value in
+    let after = rw c.measure_hex.ensures at c.write_measured.ensures.out_after in
     record {
       value = rw (
         ← c.read-first.ensures,
@@ -29,15 +30,8 @@ returns-then-is_payload c =
         c.in-Value-second.is,
         ← c.is_payload.ensures,
         c.if-is_payload.true,
-      ) (rw both.0, both.1).0;
-      out_after = rw (
-        ← c.read-first.ensures,
-        c.in-Value.is,
-        ← c.read-second.ensures,
-        c.in-Value-second.is,
-        ← c.is_payload.ensures,
-        c.if-is_payload.true,
-      ) (rw both.0, both.1).1;
+      ) (rw value);
+      out_after = rw value after;
     }
 
 pub returns-else-is_payload : goal.returns-else-is_payload

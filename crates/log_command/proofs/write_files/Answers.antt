@@ -4,6 +4,6 @@ use Rattle.log_command.proofs.write_files.Goals as goal
 
 pub returns : goal.returns
 returns c = record {
-  value = rw (← c.check_files.ensures.in_numbers) (c.write_checked.ensures.value, c.write_checked.ensures.out_after).0;
-  out_after = rw (← c.check_files.ensures.in_numbers) (c.write_checked.ensures.value, c.write_checked.ensures.out_after).1;
+  value = rw (← c.check_files.ensures.in_numbers) c.write_checked.ensures.value;
+  out_after = rw (← c.check_files.ensures.in_numbers) c.write_checked.ensures.out_after;
 }

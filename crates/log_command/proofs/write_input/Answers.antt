@@ -9,6 +9,6 @@ pub returns : goal.returns
 returns c =
     let xs : List ℕ = c.args.input.now in
     record {
-      value = rw (← first_part xs _ c.lengths_end-end.ensures, ← second-part xs _ c.lengths_end-end.ensures) (c.write_files.ensures.value, c.write_files.ensures.out_after).0;
-      out_after = rw (← first_part xs _ c.lengths_end-end.ensures, ← second-part xs _ c.lengths_end-end.ensures) (c.write_files.ensures.value, c.write_files.ensures.out_after).1;
+      value = rw (← first_part xs _ c.lengths_end-end.ensures, ← second-part xs _ c.lengths_end-end.ensures) c.write_files.ensures.value;
+      out_after = rw (← first_part xs _ c.lengths_end-end.ensures, ← second-part xs _ c.lengths_end-end.ensures) c.write_files.ensures.out_after;
     }

@@ -8,8 +8,8 @@ use Rattle.simulate_command.proofs.write_answer.Goals as goal
 pub returns-in-Answered : goal.returns-in-Answered
 returns-in-Answered c =
     record {
-      value = rw c.in-Answered.is (c.write_refused.ensures.value, c.write_refused.ensures.out_after).0;
-      out_after = rw c.in-Answered.is (c.write_refused.ensures.value, c.write_refused.ensures.out_after).1;
+      value = rw c.in-Answered.is c.write_refused.ensures.value;
+      out_after = rw c.in-Answered.is c.write_refused.ensures.out_after;
     }
 
 pub returns-in-ZeroSeed : goal.returns-in-ZeroSeed

@@ -11,8 +11,8 @@ use Rattle.simulate_command.proofs.write_refused.Goals as goal
 pub returns-in-Done : goal.returns-in-Done
 unfolding simulated_returns answer_returns answer_after area_printed
 returns-in-Done c = record {
-  value = rw c.in-Done.is (refl, refl).0;
-  out_after = rw c.in-Done.is (refl, refl).1;
+  value = rw c.in-Done.is refl;
+  out_after = rw c.in-Done.is refl;
 }
 
 pub returns-in-Refused : goal.returns-in-Refused

@@ -20,6 +20,6 @@ pub returns-in-Passed : goal.returns-in-Passed
 returns-in-Passed c =
     let l = loaded (goal.at.returns-in-Passed c).After-lengths_of in
     record {
-      value = rw (l.passed, ← l.is) (c.write_table.ensures.value, c.write_table.ensures.out_after).0;
-      out_after = rw (l.passed, ← l.is) (c.write_table.ensures.value, c.write_table.ensures.out_after).1;
+      value = rw (l.passed, ← l.is) c.write_table.ensures.value;
+      out_after = rw (l.passed, ← l.is) c.write_table.ensures.out_after;
     }

@@ -13,6 +13,6 @@ write_with-requires c = record { loadable = c.requires; i_in_bounds = rw (length
 pub returns : goal.returns
 unfolding text_of
 returns c = record {
-  value = rw (← c.last_row-i.ensures.value, ← c.worst_row.ensures) (c.write_with.ensures.value, c.write_with.ensures.out_after).0;
-  out_after = rw (← c.last_row-i.ensures.value, ← c.worst_row.ensures) (c.write_with.ensures.value, c.write_with.ensures.out_after).1;
+  value = rw (← c.last_row-i.ensures.value, ← c.worst_row.ensures) c.write_with.ensures.value;
+  out_after = rw (← c.last_row-i.ensures.value, ← c.worst_row.ensures) c.write_with.ensures.out_after;
 }

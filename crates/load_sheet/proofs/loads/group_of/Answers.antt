@@ -1,8 +1,5 @@
-use Prim.Native.Nat.{◌-◌, ◌/◌, ◌≤◌}
 use borrow.Author.Rules.{rules}
-use lib.ListN.{length}
-use Rattle.table_checks.specs.Columns.{columns}
-use Rattle.load_sheet.specs.Laws.Loads.{Ungrouped, group-first, group-here, group-later, group-none}
+use Rattle.load_sheet.specs.Laws.Loads.{group-first, group-here, group-later, group-none}
 use Rattle.load_sheet.proofs.loads.group_of.Goals as goal
 
 pub loop-i-init : goal.loop-i-init

@@ -1,9 +1,8 @@
 -- `load_sheet::loads::group_of` meets its contract: the invariant says that none of the rows passed is the node's.
 use Prim.Native.Nat.{◌-◌, ◌/◌, ◌≤◌}
-use borrow.Author.Rules.{rules}
 use lib.ListN.{length}
 use Rattle.table_checks.specs.Columns.{columns}
-use Rattle.load_sheet.specs.Laws.Loads.{Ungrouped, group-first, group-here, group-later, group-none}
+use Rattle.load_sheet.specs.Laws.Loads.{Ungrouped}
 use Rattle.load_sheet.proofs.loads.group_of.Given as goal
 
 abbrev pub invariant-loop-i : goal.invariant-loop-i

@@ -1,8 +1,5 @@
-use Prim.Native.Nat.{◌-◌, ◌/◌, ◌≤◌}
 use borrow.Author.Rules.{rules}
-use lib.ListN.{length}
-use Rattle.table_checks.specs.Columns.{columns}
-use Rattle.load_sheet.specs.Laws.Loads.{Decides, decides-first, found_here, found-later, found_none}
+use Rattle.load_sheet.specs.Laws.Loads.{decides-first, found_here, found-later, found_none}
 use Rattle.load_sheet.proofs.loads.has_frames.Goals as goal
 
 pub loop-i-init : goal.loop-i-init

@@ -1,9 +1,8 @@
 -- `load_sheet::loads::has_frames` meets its contract: the invariant says that the rows left decide.
 use Prim.Native.Nat.{◌-◌, ◌/◌, ◌≤◌}
-use borrow.Author.Rules.{rules}
 use lib.ListN.{length}
 use Rattle.table_checks.specs.Columns.{columns}
-use Rattle.load_sheet.specs.Laws.Loads.{Decides, decides-first, found_here, found-later, found_none}
+use Rattle.load_sheet.specs.Laws.Loads.{Decides}
 use Rattle.load_sheet.proofs.loads.has_frames.Given as goal
 
 abbrev pub invariant-loop-i : goal.invariant-loop-i

@@ -2,7 +2,6 @@
 use Prim.Native.Nat.{◌≤◌}
 use mathlib.Core.Path.{◌≡◌, sym, ◌∙◌}
 use native.Mathlib.Omega.{arith}
-use borrow.Author.Rules.{rules}
 use Rattle.bus_model.specs.Pattern.{of_group, hyperperiod}
 use Rattle.table_checks.specs.Frames.{frames_of}
 use Rattle.table_checks.specs.Laws.Accepted.{hyper-same}
@@ -15,17 +14,15 @@ use Rattle.load_sheet.proofs.loads.node_load.Goals.{After-hyperperiod-divisor}
 divisor : (c : After-hyperperiod-divisor) → let a = c.args in c.hyperperiod-divisor.result ≡ hyperperiod (of_group (frames_of a.lengths a.rows.now) (group_of a.rows.now a.node))
 divisor c =
     let a = c.args in
-    rw (← c.before.Group-of.ensures) (c.hyperperiod-divisor.ensures ∙ sym (hyper-same a.lengths a.rows.now _))
+    rw (← c.group_of-group.ensures) (c.hyperperiod-divisor.ensures ∙ sym (hyper-same a.lengths a.rows.now _))
 
 limits : (c : After-hyperperiod-divisor) → (1 ≤ c.hyperperiod-divisor.result) × (c.hyperperiod-divisor.result ≤ 1000000)
 limits c =
-    let pre = c.requires in
-    rw (divisor c) (divisor-limits _ pre.loadable.1 _ pre.loadable.0 _ pre.node_value)
+    rw (divisor c) (divisor-limits _ c.requires.loadable.1 _ c.requires.loadable.0 _ c.requires.node_value)
 
 pub hyperperiod-divisor-requires : goal.hyperperiod-divisor-requires
 hyperperiod-divisor-requires c =
-    let pre = c.requires in
-    record { accepted = pre.loadable.1; le_group = rw c.Group-of.ensures (group-limits _ pre.loadable.1 _ pre.node_value) }
+    record { accepted = c.requires.loadable.1; le_group = rw c.group_of-group.ensures (group-limits _ c.requires.loadable.1 _ c.requires.node_value) }
 
 pub work-dividend-requires : goal.work-dividend-requires
 work-dividend-requires c = record { loadable = c.requires.loadable; h_bound = (limits c).1 }

@@ -1,14 +1,13 @@
-use Prim.Native.Nat.{◌-◌, ◌*◌, ◌/◌, ◌≤◌, ◌<◌}
+use Prim.Native.Nat.{◌-◌, ◌/◌, ◌<◌}
 use mathlib.Core.Path.{◌∙◌}
 use native.Mathlib.Omega.{arith}
 use borrow.Author.Rules.{rules}
 use lib.ListN.{length}
-use Rattle.arith.specs.Lists.{range}
-use Rattle.arith.specs.Laws.Walks.{Down, down-end}
+use Rattle.arith.specs.Laws.Walks.{down-end}
 use Rattle.table_checks.specs.Columns.{columns}
 use Rattle.table_checks.specs.Laws.Accepted.{frame_row, accepted-size}
 use Rattle.load_sheet.specs.Sheet.{node_frames, rows_of}
-use Rattle.load_sheet.specs.Laws.Loads.{frame-limits, work_of, work_none, work-more}
+use Rattle.load_sheet.specs.Laws.Loads.{frame-limits, work_none, work-more}
 use Rattle.load_sheet.proofs.loads.work.Goals as goal
 
 pub loop-i-init : goal.loop-i-init

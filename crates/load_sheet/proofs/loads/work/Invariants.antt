@@ -1,15 +1,10 @@
 -- `load_sheet::loads::work` meets its contract: the invariant has the work of the frames read.
-use Prim.Native.Nat.{◌-◌, ◌*◌, ◌/◌, ◌≤◌, ◌<◌}
-use mathlib.Core.Path.{◌∙◌}
-use native.Mathlib.Omega.{arith}
-use borrow.Author.Rules.{rules}
+use Prim.Native.Nat.{◌-◌, ◌*◌, ◌/◌, ◌≤◌}
 use lib.ListN.{length}
 use Rattle.arith.specs.Lists.{range}
-use Rattle.arith.specs.Laws.Walks.{Down, down-end}
+use Rattle.arith.specs.Laws.Walks.{Down}
 use Rattle.table_checks.specs.Columns.{columns}
-use Rattle.table_checks.specs.Laws.Accepted.{frame_row, accepted-size}
-use Rattle.load_sheet.specs.Sheet.{node_frames, rows_of}
-use Rattle.load_sheet.specs.Laws.Loads.{frame-limits, work_of, work_none, work-more}
+use Rattle.load_sheet.specs.Laws.Loads.{work_of}
 use Rattle.load_sheet.proofs.loads.work.Given as goal
 
 abbrev pub invariant-loop-i : goal.invariant-loop-i

@@ -1,9 +1,6 @@
-use Prim.Native.Nat.{◌-◌}
-use mathlib.Core.Logic.{⊎_elim}
 use mathlib.Core.Path.{sym, ◌∙◌}
 use native.Mathlib.Omega.{arith}
-use borrow.Author.Rules.{rules}
-use Rattle.arith.specs.Laws.Gathering.{Gathered, range-room, gathered_none, gathered-room, gathered-put, gathered-skip, gathered-all}
+use Rattle.arith.specs.Laws.Gathering.{range-room, gathered_none, gathered-room, gathered-put, gathered-skip, gathered-all}
 use Rattle.load_sheet.specs.Sheet.{has_frames, nodes_of}
 use Rattle.load_sheet.proofs.sheet.find_nodes.Goals as goal
 use Rattle.load_sheet.proofs.sheet.find_nodes.Goals.{else-has_frames, then-has_frames}
@@ -17,7 +14,7 @@ bounds-nodes-found c = let g = c.loop-node.invariant in omega (arith, g.whole, g
 pub loop-node-preserved : goal.loop-node-preserved
 loop-node-preserved c =
     let g = c.loop-node.invariant in
-    elim c.if-has_frames.branch [ then-has_frames w ↦ gathered-put g (omega (arith, c.loop-node-test.true)) _ c.has_frames.ensures w.if-has_frames.true w.1 w.2 | else-has_frames w ↦ gathered-skip g (omega (arith, c.loop-node-test.true)) _ c.has_frames.ensures w.if-has_frames.false w.1 w.2 ]
+    elim c.if-has_frames.branch [ then-has_frames w ↦ gathered-put g (omega (arith, c.loop-node-test.true)) _ c.has_frames.ensures w.if-has_frames.true w.nodes-is w.found-is | else-has_frames w ↦ gathered-skip g (omega (arith, c.loop-node-test.true)) _ c.has_frames.ensures w.if-has_frames.false w.nodes-is w.found-is ]
 
 pub returns : goal.returns
 unfolding nodes_of

@@ -1,11 +1,7 @@
 -- `load_sheet::sheet::find_nodes` meets its contract: the invariant has the nodes found and those still to come.
 use Prim.Native.Nat.{◌-◌}
-use mathlib.Core.Logic.{⊎_elim}
-use mathlib.Core.Path.{sym, ◌∙◌}
-use native.Mathlib.Omega.{arith}
-use borrow.Author.Rules.{rules}
-use Rattle.arith.specs.Laws.Gathering.{Gathered, range-room, gathered_none, gathered-room, gathered-put, gathered-skip, gathered-all}
-use Rattle.load_sheet.specs.Sheet.{has_frames, nodes_of}
+use Rattle.arith.specs.Laws.Gathering.{Gathered}
+use Rattle.load_sheet.specs.Sheet.{has_frames}
 use Rattle.load_sheet.proofs.sheet.find_nodes.Given as goal
 
 abbrev pub invariant-loop-node : goal.invariant-loop-node

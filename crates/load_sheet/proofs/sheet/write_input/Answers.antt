@@ -2,14 +2,13 @@
 use Prim.Native.Nat.{ℕ}
 use mathlib.Core.List.{List}
 use Rattle.lengths_file.specs.Laws.Input.{first_part, second-part}
-use borrow.Author.Rules.{rules}
 use Rattle.load_sheet.proofs.sheet.write_input.Goals as goal
 
 pub returns : goal.returns
 returns c =
     let xs : List ℕ = c.args.input.now in
     record {
-      value = rw (← first_part xs _ c.lengths_end-end.ensures, ← second-part xs _ c.lengths_end-end.ensures) (c.write.ensures.value, (c.write.ensures.out_after, c.write.ensures.in_numbers)).0;
-      out_after = rw (← first_part xs _ c.lengths_end-end.ensures, ← second-part xs _ c.lengths_end-end.ensures) (c.write.ensures.value, (c.write.ensures.out_after, c.write.ensures.in_numbers)).1.0;
-      in_numbers = rw (← first_part xs _ c.lengths_end-end.ensures, ← second-part xs _ c.lengths_end-end.ensures) (c.write.ensures.value, (c.write.ensures.out_after, c.write.ensures.in_numbers)).1.1;
+      value = rw (← first_part xs _ c.lengths_end-end.ensures, ← second-part xs _ c.lengths_end-end.ensures) c.write.ensures.value;
+      out_after = rw (← first_part xs _ c.lengths_end-end.ensures, ← second-part xs _ c.lengths_end-end.ensures) c.write.ensures.out_after;
+      in_numbers = rw (← first_part xs _ c.lengths_end-end.ensures, ← second-part xs _ c.lengths_end-end.ensures) c.write.ensures.in_numbers;
     }

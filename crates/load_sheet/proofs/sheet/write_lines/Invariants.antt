@@ -1,11 +1,9 @@
 -- `load_sheet::sheet::write_lines` meets its contract: after i turns the lines of the first i nodes are written, and the rest is as it was.
 use Prim.Native.Nat.{◌-◌}
-use mathlib.Core.Path.{◌≡◌, refl}
-use native.Mathlib.Omega.{arith}
-use borrow.Author.Rules.{rules}
-use lib.ListN.{length, length-take, length-drop}
+use mathlib.Core.Path.{◌≡◌}
+use lib.ListN.{length}
 use Rattle.load_sheet.specs.Sheet.{node_load}
-use Rattle.load_sheet.specs.Laws.Lines.{Written, written_none, written-more, written_all}
+use Rattle.load_sheet.specs.Laws.Lines.{Written}
 use Rattle.load_sheet.proofs.sheet.write_lines.Given as goal
 
 abbrev pub invariant-loop-i : goal.invariant-loop-i

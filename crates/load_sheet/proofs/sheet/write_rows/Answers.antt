@@ -1,7 +1,6 @@
 -- `load_sheet::sheet::write_rows` meets its contract: lines and last line are written where they have room, and else the area is left.
 use mathlib.Core.Path.{refl, sym, ap, ◌∙◌}
 use native.Mathlib.Omega.{arith}
-use borrow.Author.Rules.{rules}
 use lib.ListN.{length}
 use Rattle.table_checks.specs.declared.Checked.TheVariants.{Passed}
 use Rattle.frame_table.specs.Laws.Areas.{area-short, area-written}

@@ -1,6 +1,5 @@
 -- `load_sheet::sheet::write_table` meets its contract: what the file is read into is its table, and a file that is turned back is answered with its refusal.
 use mathlib.Core.Path.{refl}
-use borrow.Author.Rules.{rules}
 use Rattle.frame_table.specs.Laws.Areas.{area-refused}
 use Rattle.frame_table.specs.Laws.Reading.{ReadRows, read-rows, read-refused}
 use Rattle.load_sheet.proofs.sheet.write_table.Goals as goal
@@ -31,6 +30,6 @@ pub returns-in-Done : goal.returns-in-Done
 returns-in-Done c =
     let table = read (goal.at.returns-in-Done c).In-Done in
     record {
-      value = rw (table.passed, ← table.rows) (c.write_rows.ensures.value, c.write_rows.ensures.out_after).0;
-      out_after = rw (table.passed, ← table.rows) (c.write_rows.ensures.value, c.write_rows.ensures.out_after).1;
+      value = rw (table.passed, ← table.rows) c.write_rows.ensures.value;
+      out_after = rw (← table.rows) c.write_rows.ensures.out_after;
     }
