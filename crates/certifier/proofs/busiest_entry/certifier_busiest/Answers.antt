@@ -11,6 +11,6 @@ pub returns : goal.returns
 returns c =
     let e = c.busiest_file.ensures in
     record {
-      value = rw (← e.in_numbers, ← e.value) (kept _ c.encode_sheet.type-inv ∙ c.encode_sheet.ensures, e.out_after).0;
-      out_after = rw (← e.in_numbers, ← e.value) (kept _ c.encode_sheet.type-inv ∙ c.encode_sheet.ensures, e.out_after).1;
+      value = rw (← e.in_numbers) (kept _ c.encode_sheet.type_inv ∙ c.encode_sheet.ensures);
+      out_after = rw (← e.value) e.out_after;
     }

@@ -25,4 +25,4 @@ returns-in-Done c = rw c.in-Done.is (to_z_pos _ (omega (arith, small c)))
 pub returns-in-Refused : goal.returns-in-Refused
 unfolding encode_answered answer_returns
 returns-in-Refused c =
-    rw (c.in-Refused.is, ne_eqb _ 0 (cause-some c.in-Refused.refusal.cause), ← c.number.ensures) (kept _ c.encode_turned.type-inv ∙ c.encode_turned.ensures)
+    rw (c.in-Refused.is, ne_eqb _ 0 (cause-some c.in-Refused.refusal.cause), ← c.number.ensures) (kept _ c.encode_turned.type_inv ∙ c.encode_turned.ensures)

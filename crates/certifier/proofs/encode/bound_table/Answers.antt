@@ -26,7 +26,7 @@ bound_accepted-requires c = (c.requires, (table (goal.at.bound_accepted-requires
 pub returns-in-Refused : goal.returns-in-Refused
 unfolding encode_bounded bound_read
 returns-in-Refused c =
-    kept _ c.encode_refusal.type-inv ∙ c.encode_refusal.ensures
+    kept _ c.encode_refusal.type_inv ∙ c.encode_refusal.ensures
     ∙ rw (read-refused c.args.table.now _ _ refl c.read-answer.ensures.value _ c.in-Refused.is) (ap encode_refusal c.of_table.ensures)
 
 pub returns-in-Done : goal.returns-in-Done
@@ -34,5 +34,5 @@ unfolding bound_read
 returns-in-Done c =
     let t = table (goal.at.returns-in-Done c).In-Done in
     let a = c.args in
-    kept _ c.encode_bounded.type-inv ∙ c.encode_bounded.ensures
+    kept _ c.encode_bounded.type_inv ∙ c.encode_bounded.ensures
     ∙ ap encode_bounded (c.bound_accepted.ensures ∙ rw t.passed (ap (λ (rows : List ℕ). bound_row a.lengths rows a.row) t.rows))

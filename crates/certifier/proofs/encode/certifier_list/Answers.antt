@@ -12,4 +12,4 @@ encode_answer-requires c = subst Countable (sym c.list.ensures.value) (list-coun
 pub returns : goal.returns
 returns c =
     let both = c.list.ensures in
-    let answer = named _ _ both.value (kept _ c.encode_answer.type-inv ∙ c.encode_answer.ensures) both.out_after in record { value = answer.0; out_after = answer.1 }
+    let answer = named _ _ both.value (kept _ c.encode_answer.type_inv ∙ c.encode_answer.ensures) both.out_after in record { value = answer.0; out_after = answer.1 }

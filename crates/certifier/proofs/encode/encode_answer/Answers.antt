@@ -22,4 +22,4 @@ returns-in-Done c = rw c.in-Done.is (to_z_pos _ (omega (arith, small c)))
 
 pub returns-in-Refused : goal.returns-in-Refused
 unfolding encode_answer
-returns-in-Refused c = rw c.in-Refused.is (kept _ c.encode_refusal.type-inv ∙ c.encode_refusal.ensures ∙ ap encode_refusal c.of_table.ensures)
+returns-in-Refused c = rw c.in-Refused.is (kept _ c.encode_refusal.type_inv ∙ c.encode_refusal.ensures ∙ ap encode_refusal c.of_table.ensures)

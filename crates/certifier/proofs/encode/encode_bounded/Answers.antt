@@ -8,8 +8,8 @@ use Rattle.certifier.proofs.encode.encode_bounded.Goals as goal
 
 pub returns-in-Bound : goal.returns-in-Bound
 unfolding encode_bounded
-returns-in-Bound c = rw c.in-Bound.is (to_z_pos _ (omega (arith, c.known_told-1.given)))
+returns-in-Bound c = rw c.in-Bound.is (to_z_pos _ (omega arith))
 
 pub returns-in-NotBounded : goal.returns-in-NotBounded
 unfolding encode_bounded
-returns-in-NotBounded c = rw c.in-NotBounded.is (kept _ c.encode_refusal.type-inv ∙ c.encode_refusal.ensures)
+returns-in-NotBounded c = rw c.in-NotBounded.is (kept _ c.encode_refusal.type_inv ∙ c.encode_refusal.ensures)

@@ -32,5 +32,5 @@ pub returns : goal.returns
 returns c =
     let j : Judgement = c.args.judgement in
     let k : to_z w64 (of_z w64 j.margin) ≡ j.margin = search rules in
-    to_z_pos _ (cast-result c).sfits
+    to_z_pos _ (omega (arith, limits c))
     ∙ rw c.verdict.ensures (sym (judgement-number j c.shifted-low.result (rw k at c.shifted-low.ensures.0)))

@@ -7,4 +7,4 @@ use Rattle.certifier.proofs.encode.encode_refusal.Goals as goal
 
 pub returns : goal.returns
 unfolding encode_refusal
-returns c = rw (← c.number.ensures) (kept _ c.encode_turned.type-inv ∙ c.encode_turned.ensures)
+returns c = rw (← c.number.ensures) (kept _ c.encode_turned.type_inv ∙ c.encode_turned.ensures)

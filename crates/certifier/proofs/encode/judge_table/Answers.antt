@@ -31,7 +31,7 @@ encode_judged-requires c = subst Encodable (sym c.judge_accepted.ensures) (judge
 pub returns-in-Refused : goal.returns-in-Refused
 unfolding encode_judged judge_read
 returns-in-Refused c =
-    kept _ c.encode_refusal.type-inv ∙ c.encode_refusal.ensures
+    kept _ c.encode_refusal.type_inv ∙ c.encode_refusal.ensures
     ∙ rw (read-refused c.args.table.now _ _ refl c.read-answer.ensures.value _ c.in-Refused.is) (ap encode_refusal c.of_table.ensures)
 
 pub returns-in-Done : goal.returns-in-Done
@@ -39,5 +39,5 @@ unfolding judge_read
 returns-in-Done c =
     let t = table (goal.at.returns-in-Done c).In-Done in
     let a = c.args in
-    kept _ c.encode_judged.type-inv ∙ c.encode_judged.ensures
+    kept _ c.encode_judged.type_inv ∙ c.encode_judged.ensures
     ∙ ap encode_judged (c.judge_accepted.ensures ∙ rw t.passed (ap (λ (rows : List ℕ). judge_row a.lengths rows a.row) t.rows))

@@ -11,26 +11,23 @@ use borrow.Author.Rules.{rules}
 use Rattle.certifier.proofs.faults_entry.certifier_judge_faults.Goals as goal
 use Rattle.certifier.proofs.faults_entry.certifier_judge_faults.Goals.{After-lengths_of}
 
-abbrev start : tie.After-read → tie.Start
-start c = c.before.before.before
-
 -- the lengths of the file
-loaded : (c : After-lengths_of) → let s = start c.before.before.before in ReadLengths s.args.lengths.now s.args.table.now c.lengths_of.result
+loaded : (c : After-lengths_of) → ReadLengths c.args.lengths.now c.args.table.now c.lengths_of.result
 loaded c = lengths_read _ _ c.read-loaded.ensures.value c.in-Passed.is c.lengths_of.ensures
 
 pub judge_faults_table-requires : goal.judge_faults_table-requires
-judge_faults_table-requires c = (loaded c).loadable
+judge_faults_table-requires c = (loaded (goal.at.judge_faults_table-requires c).After-lengths_of).loadable
 
 pub returns-in-Failed : goal.returns-in-Failed
 unfolding encode_judged judge_faults_file judge_faults_read
 returns-in-Failed c =
-    kept _ c.encode_refusal.type-inv ∙ c.encode_refusal.ensures
-    ∙ rw (lengths-refused _ (start (goal.at.returns-in-Failed c).After-read-loaded).args.table.now c.read-loaded.ensures.value c.in-Failed.is) (ap encode_refusal c.of_table.ensures)
+    kept _ c.encode_refusal.type_inv ∙ c.encode_refusal.ensures
+    ∙ rw (lengths-refused _ c.args.table.now c.read-loaded.ensures.value c.in-Failed.is) (ap encode_refusal c.of_table.ensures)
 
 pub returns-in-Passed : goal.returns-in-Passed
 unfolding judge_faults_file
 returns-in-Passed c =
     let l = loaded (goal.at.returns-in-Passed c).After-lengths_of in
-    let a = (start (goal.at.returns-in-Passed c).After-read-loaded).args in
-    kept _ c.judge_faults_table.type-inv ∙ c.judge_faults_table.ensures
+    let a = c.args in
+    kept _ c.judge_faults_table.type_inv ∙ c.judge_faults_table.ensures
     ∙ ap encode_judged (rw l.passed (ap (λ (ls : List (List ℕ)). judge_faults_read (read_check a.table.now) ls a.table.now a.row a.gap) l.is))

@@ -15,4 +15,4 @@ encode_listed-requires c =
 pub returns : goal.returns
 returns c =
     let e = c.list_faults.ensures in
-    record { value = kept _ c.encode_listed.type-inv ∙ c.encode_listed.ensures ∙ ap encode_answered e.in_numbers; out_after = e.out_after }
+    record { value = kept _ c.encode_listed.type_inv ∙ c.encode_listed.ensures ∙ ap encode_answered e.in_numbers; out_after = e.out_after }

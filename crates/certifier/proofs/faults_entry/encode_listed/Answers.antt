@@ -26,4 +26,4 @@ returns-in-Written c = rw c.in-Written.is (to_z_pos _ (omega (arith, small c)))
 
 pub returns-in-NotListed : goal.returns-in-NotListed
 unfolding encode_answered listed_returns encode_refusal
-returns-in-NotListed c = rw (c.in-NotListed.is, ne_eqb _ 0 (number-some c.in-NotListed.refusal.cause)) (kept _ c.encode_refusal.type-inv ∙ c.encode_refusal.ensures)
+returns-in-NotListed c = rw (c.in-NotListed.is, ne_eqb _ 0 (number-some c.in-NotListed.refusal.cause)) (kept _ c.encode_refusal.type_inv ∙ c.encode_refusal.ensures)

@@ -32,7 +32,7 @@ unfolding explain_faults_read
 returns-in-Refused c =
     let (a, b) = shown-refused (explain_faults_read (read_check c.args.table.now) c.args.lengths c.args.table.now c.args.row c.args.gap) c.of_table.result c.args.shown.now
     (rw (read-refused c.args.table.now _ _ refl c.read-answer.ensures.value _ c.in-Refused.is, c.of_table.ensures)) in
-    record { value = kept _ c.encode_refusal.type-inv ∙ c.encode_refusal.ensures ∙ a; shown_after = b }
+    record { value = kept _ c.encode_refusal.type_inv ∙ c.encode_refusal.ensures ∙ a; shown_after = b }
 
 pub returns-in-Done : goal.returns-in-Done
 unfolding explain_faults_read
@@ -40,6 +40,6 @@ returns-in-Done c =
     let t = table (goal.at.returns-in-Done c).In-Done in
     let e = c.show.ensures in
     record {
-      value = rw (t.passed, ← t.rows, ← c.explain_faults.ensures.value) (kept _ c.show.type-inv ∙ e.value, e.shown_after).0;
-      shown_after = rw (t.passed, ← t.rows, ← c.explain_faults.ensures.value) (kept _ c.show.type-inv ∙ e.value, e.shown_after).1;
+      value = rw (t.passed, ← t.rows, ← c.explain_faults.ensures.value) (kept _ c.show.type_inv ∙ e.value);
+      shown_after = rw (t.passed, ← t.rows, ← c.explain_faults.ensures.value) e.shown_after;
     }

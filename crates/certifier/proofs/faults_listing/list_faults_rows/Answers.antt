@@ -29,13 +29,13 @@ returns-then-is_gap c =
     let listing = listing_of (Apart c.args.gap) c.args.lengths c.args.rows.now in
     let e = c.list_rows-answer.ensures in
     record {
-      value = rw (gap (goal.at.returns-then-is_gap c).Then-is_gap) (c.listed_by.ensures ∙ ap listed_by e.value, e.out_after ∙ ap (λ (a : Answer). area_after a listing c.args.out.now) e.value).0;
-      out_after = rw (gap (goal.at.returns-then-is_gap c).Then-is_gap) (c.listed_by.ensures ∙ ap listed_by e.value, e.out_after ∙ ap (λ (a : Answer). area_after a listing c.args.out.now) e.value).1;
+      value = rw (gap (goal.at.returns-then-is_gap c).Then-is_gap) (c.listed_by.ensures ∙ ap listed_by e.value);
+      out_after = rw (gap (goal.at.returns-then-is_gap c).Then-is_gap) (e.out_after ∙ ap (λ (a : Answer). area_after a listing c.args.out.now) e.value);
     }
 
 pub returns : goal.returns
 unfolding list_faults_rows listed_rows
 returns c = record {
-  value = rw (sym c.is_gap.ensures ∙ c.if-is_gap.false) (refl, refl).0;
-  out_after = rw (sym c.is_gap.ensures ∙ c.if-is_gap.false) (refl, refl).1;
+  value = rw (sym c.is_gap.ensures ∙ c.if-is_gap.false) refl;
+  out_after = rw (sym c.is_gap.ensures ∙ c.if-is_gap.false) refl;
 }

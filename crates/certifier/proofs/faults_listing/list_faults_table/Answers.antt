@@ -24,8 +24,8 @@ pub returns-in-Refused : goal.returns-in-Refused
 unfolding list_faults_read listed_read
 returns-in-Refused c =
     record {
-      value = rw (read-refused c.args.table.now _ _ refl c.read-answer.ensures.value _ c.in-Refused.is) (ap NotListed c.of_table.ensures, refl).0;
-      out_after = rw (read-refused c.args.table.now _ _ refl c.read-answer.ensures.value _ c.in-Refused.is) (ap NotListed c.of_table.ensures, refl).1;
+      value = rw (read-refused c.args.table.now _ _ refl c.read-answer.ensures.value _ c.in-Refused.is) (ap NotListed c.of_table.ensures);
+      out_after = rw (read-refused c.args.table.now _ _ refl c.read-answer.ensures.value _ c.in-Refused.is) refl;
     }
 
 pub returns-in-Done : goal.returns-in-Done
@@ -33,6 +33,6 @@ unfolding list_faults_read listed_read
 returns-in-Done c =
     let t = table (goal.at.returns-in-Done c).In-Done in
     record {
-      value = rw (t.passed, ← t.rows) (c.list_faults_rows.ensures.value, c.list_faults_rows.ensures.out_after).0;
-      out_after = rw (t.passed, ← t.rows) (c.list_faults_rows.ensures.value, c.list_faults_rows.ensures.out_after).1;
+      value = rw (t.passed, ← t.rows) c.list_faults_rows.ensures.value;
+      out_after = rw (t.passed, ← t.rows) c.list_faults_rows.ensures.out_after;
     }

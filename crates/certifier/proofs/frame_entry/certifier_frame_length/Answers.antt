@@ -8,7 +8,7 @@ use Rattle.certifier.proofs.frame_entry.certifier_frame_length.Goals as goal
 
 pub returns-in-Length : goal.returns-in-Length
 unfolding measured_returns encode_frame
-returns-in-Length c = rw (← c.measure-measured.ensures, c.before.decreases.given.1) (to_z_pos _ (omega (arith, c.known_told-1.given)))
+returns-in-Length c = rw (← c.measure-measured.ensures, c.in-Length.is) (to_z_pos _ (omega arith))
 
 pub returns-in-Refused : goal.returns-in-Refused
 unfolding measured_returns encode_frame

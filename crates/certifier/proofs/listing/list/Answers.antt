@@ -6,11 +6,8 @@ use borrow.Author.Rules.{rules}
 use Rattle.certifier.proofs.listing.list.Goals as goal
 use Rattle.certifier.proofs.listing.list.Goals.{After-lengths_of}
 
-abbrev start : tie.After-read → tie.Start
-start c = c.before.before.before.before
-
 -- the lengths of the file
-loaded : (c : After-lengths_of) → let s = start c.before.before.before in ReadLengths s.args.lengths.now s.args.file.now c.lengths_of.result
+loaded : (c : After-lengths_of) → ReadLengths c.args.lengths.now c.args.file.now c.lengths_of.result
 loaded c = lengths_read _ _ c.read-loaded.ensures.value c.in-Passed.is c.lengths_of.ensures
 
 pub list_table-requires : goal.list_table-requires

@@ -9,7 +9,7 @@ pub returns : goal.returns
 returns c =
     let xs : List ℕ = c.args.input.now in
     record {
-      value = rw (← first_part xs _ c.lengths_end-end.ensures, ← second-part xs _ c.lengths_end-end.ensures) (c.list.ensures.value, (c.list.ensures.out_after, c.list.ensures.in_numbers)).0;
-      out_after = rw (← first_part xs _ c.lengths_end-end.ensures, ← second-part xs _ c.lengths_end-end.ensures) (c.list.ensures.value, (c.list.ensures.out_after, c.list.ensures.in_numbers)).1.0;
-      in_numbers = rw (← first_part xs _ c.lengths_end-end.ensures, ← second-part xs _ c.lengths_end-end.ensures) (c.list.ensures.value, (c.list.ensures.out_after, c.list.ensures.in_numbers)).1.1;
+      value = rw (← first_part xs _ c.lengths_end-end.ensures, ← second-part xs _ c.lengths_end-end.ensures) c.list.ensures.value;
+      out_after = rw (← first_part xs _ c.lengths_end-end.ensures, ← second-part xs _ c.lengths_end-end.ensures) c.list.ensures.out_after;
+      in_numbers = rw (← first_part xs _ c.lengths_end-end.ensures, ← second-part xs _ c.lengths_end-end.ensures) c.list.ensures.in_numbers;
     }

@@ -30,6 +30,6 @@ pub returns-in-Done : goal.returns-in-Done
 returns-in-Done c =
     let table = read (goal.at.returns-in-Done c).In-Done in
     record {
-      value = rw (table.passed, ← table.rows) (c.list_rows.ensures.value, c.list_rows.ensures.out_after).0;
-      out_after = rw (table.passed, ← table.rows) (c.list_rows.ensures.value, c.list_rows.ensures.out_after).1;
+      value = rw (table.passed, ← table.rows) c.list_rows.ensures.value;
+      out_after = rw (← table.rows) c.list_rows.ensures.out_after;
     }

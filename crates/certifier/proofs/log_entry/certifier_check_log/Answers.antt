@@ -9,6 +9,6 @@ returns c =
     let e = c.store.ensures in
     let n = c.check_files.ensures.in_numbers in
     record {
-      value = rw (← n) (kept _ c.store.type-inv ∙ e.value, e.area_after).0;
-      starts_after = rw (← n) (kept _ c.store.type-inv ∙ e.value, e.area_after).1;
+      value = rw (← n) (kept _ c.store.type_inv ∙ e.value);
+      starts_after = rw (← n) e.area_after;
     }

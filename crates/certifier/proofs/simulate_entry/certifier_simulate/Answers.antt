@@ -12,4 +12,4 @@ encode_simulated-requires c = subst CountableLog (sym c.simulate_files.ensures.v
 pub returns : goal.returns
 returns c =
     let both = c.simulate_files.ensures in
-    let answer = log-named _ _ both.value (kept _ c.encode_simulated.type-inv ∙ c.encode_simulated.ensures) both.out_after in record { value = answer.0; out_after = answer.1 }
+    let answer = log-named _ _ both.value (kept _ c.encode_simulated.type_inv ∙ c.encode_simulated.ensures) both.out_after in record { value = answer.0; out_after = answer.1 }

@@ -13,7 +13,7 @@ encode_answer-requires c = subst CountableLog c.in-Answered.is c.requires
 
 pub returns-in-Answered : goal.returns-in-Answered
 unfolding simulated_returns
-returns-in-Answered c = rw c.in-Answered.is (kept _ c.encode_answer.type-inv ∙ c.encode_answer.ensures ∙ answer-encoded _)
+returns-in-Answered c = rw c.in-Answered.is (kept _ c.encode_answer.type_inv ∙ c.encode_answer.ensures ∙ answer-encoded _)
 
 pub returns-in-ZeroSeed : goal.returns-in-ZeroSeed
 unfolding simulated_returns encode_answered

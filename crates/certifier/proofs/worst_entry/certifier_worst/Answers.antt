@@ -13,7 +13,7 @@ unfolding worst_file worst_read
 returns-in-Failed c =
     let (a, b) = last-refused (worst_file c.args.lengths.now c.args.table.now) c.of_table.result c.args.shown.now
     (rw (lengths-refused _ c.args.table.now c.read-loaded.ensures.value c.in-Failed.is, c.of_table.ensures)) in
-    record { value = kept _ c.encode_refusal.type-inv ∙ c.encode_refusal.ensures ∙ a; shown_after = b }
+    record { value = kept _ c.encode_refusal.type_inv ∙ c.encode_refusal.ensures ∙ a; shown_after = b }
 
 -- the lengths of the file
 loaded : (c : After-lengths_of) → ReadLengths c.args.lengths.now c.args.table.now c.lengths_of.result
@@ -25,6 +25,6 @@ returns-in-Passed c =
     let l = loaded (goal.at.returns-in-Passed c).After-lengths_of in
     let e = c.worst_table.ensures in
     record {
-      value = rw (l.passed, ← l.is) (kept _ c.worst_table.type-inv ∙ e.value, e.shown_after).0;
-      shown_after = rw (l.passed, ← l.is) (kept _ c.worst_table.type-inv ∙ e.value, e.shown_after).1;
+      value = rw (l.passed, ← l.is) (kept _ c.worst_table.type_inv ∙ e.value);
+      shown_after = rw (l.passed, ← l.is) e.shown_after;
     }

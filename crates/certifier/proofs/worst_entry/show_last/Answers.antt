@@ -17,9 +17,9 @@ encode_judged-requires-in-At c = c.requires
 pub returns-in-Nothing : goal.returns-in-Nothing
 returns-in-Nothing c =
     let (a, b) = last_none c.args.last c.args.shown.now c.in-Nothing.is in
-    record { value = kept _ c.encode_judged.type-inv ∙ c.encode_judged.ensures ∙ a; shown_after = b }
+    record { value = kept _ c.encode_judged.type_inv ∙ c.encode_judged.ensures ∙ a; shown_after = b }
 
 pub returns-else-shown-lt-SHOWN : goal.returns-else-shown-lt-SHOWN
 returns-else-shown-lt-SHOWN c =
     let (a, b) = last-all c.args.last c.args.shown.now _ c.in-At.is c.if-shown-lt-SHOWN.false in
-    record { value = kept _ c.encode_judged-in-At.type-inv ∙ c.encode_judged-in-At.ensures ∙ a; shown_after = c.write_worst.ensures ∙ b }
+    record { value = kept _ c.encode_judged-in-At.type_inv ∙ c.encode_judged-in-At.ensures ∙ a; shown_after = c.write_worst.ensures ∙ b }
