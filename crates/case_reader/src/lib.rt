@@ -2,7 +2,8 @@
 // each and a line feed, and then as many bytes as the second number says.
 #![tactic(auto)]
 
-ghost use Rattle.std.specs.Prelude.{◌≡◌, ◌/◌, min, ◌++◌, length, take, drop};
+ghost use Rattle.std.specs.Prelude.{◌≡◌, ◌/◌, min, ◌++◌, true, length, take, drop};
+ghost use Rattle.std.specs.Io.KnownBytes.{Consumes};
 ghost use Rattle.decimal.specs.Decimal.{read_column};
 ghost use Rattle.case_reader.specs.Cases.{number_in, PayloadRead, word_of, words_of};
 
@@ -27,7 +28,8 @@ pub fn number(s: &[u8]) -> u64
 
 // Reads so many bytes of the input; false where there are fewer or no room for them.
 pub fn read_payload<R: Read>(input: &mut R, size: usize, buffer: &mut [u8]) -> bool
-    ensures { PayloadRead size buffer.old buffer.new result }
+    ensures touched { PayloadRead size buffer.old buffer.new result }
+    ensures taken { result ≡ true → Consumes (R.remaining input.old) (R.remaining input.new) (take size buffer.new) }
 {
     if buffer.len() < size {
         return false;

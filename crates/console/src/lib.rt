@@ -4,7 +4,7 @@
 #![tactic(auto)]
 
 ghost use Rattle.std.specs.Prelude.{length};
-ghost use Rattle.console.specs.Steps.{Held, IsPrefixLen, Within};
+ghost use Rattle.console.specs.Steps.{Held, IsPrefixLen, TakesStart, Within};
 
 use frame_table::Answer;
 use std::io::{Read, Stderr};
@@ -126,8 +126,9 @@ fn fill_from(files: &impl Files, path: &[u8], buffer: &mut [u8]) -> Stream
 }
 
 // Reads a stream to its end, or until the buffer is full.
-fn fill(stream: &mut impl Read, buffer: &mut [u8]) -> Stream
-    ensures { Held result (length buffer.new) }
+fn fill<R: Read>(stream: &mut R, buffer: &mut [u8]) -> Stream
+    ensures held { Held result (length buffer.new) }
+    ensures bytes { TakesStart result (R.remaining stream.old) (R.remaining stream.new) buffer.new }
 {
     let end = buffer.len();
     let mut done = 0;

@@ -2,7 +2,6 @@ use Prim.Native.Nat.{ℕ, ◌≤◌}
 use mathlib.Core.Path.{◌≡◌, refl, ◌∙◌}
 use native.Mathlib.Nat.{mod-lt}
 use native.Mathlib.Omega.{arith}
-use borrow.Author.Rules.{rules}
 use Rattle.arith.specs.Multiples.{gcd}
 use Rattle.arith.specs.Laws.Multiples.{gcd-zero, gcd-step}
 use Rattle.arith.proofs.gcd.Goals as goal

@@ -1,5 +1,4 @@
 -- `arith::lcm` meets its contract: the product fits, since both factors are 32-bit numbers.
-use borrow.Author.Rules.{rules}
 use Prim.Native.Nat.{ℕ, ◌*◌, ◌/◌, ◌^◌, ◌-◌, ◌<◌, ◌≤◌}
 use native.Mathlib.Nat.{mul-le-mul, div-le_self, lt_of_le_of_lt}
 use native.Mathlib.Omega.{arith}

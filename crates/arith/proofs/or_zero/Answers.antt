@@ -1,6 +1,5 @@
 -- By the two answers of a search.
 use mathlib.Core.Path.{sym, ap}
-use borrow.Author.Rules.{rules}
 use Rattle.arith.specs.Least.{or_zero}
 use Rattle.arith.proofs.or_zero.Goals as goal
 

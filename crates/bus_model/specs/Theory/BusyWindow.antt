@@ -10,7 +10,7 @@ use Rattle.std.proofs.Math.Nat.{le_refl, le_trans, le_of_suc-le-suc, mul-le-mul_
 use Rattle.std.proofs.Common.{le_of_eq, lt_of_not-le, mul-le-mul_left, leb→le, le→leb, ltb→lt, lt→ltb, eqb→eq}
 use Rattle.std.proofs.Math.Decide.{ℕ_discrete, dec_le, dec_lt}
 use native.Mathlib.Omega.{arith}
-use Rattle.std.proofs.Math.Dec.{T, eqb_refl}
+use Rattle.std.proofs.Math.Dec.{eqb_refl}
 use Rattle.arith.specs.Lists.{sum}
 use Rattle.arith.specs.Laws.Members.{mem-keep, mem-get_d}
 use Rattle.arith.specs.Laws.Tests.{cond_yes, cond_no}

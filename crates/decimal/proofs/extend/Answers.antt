@@ -1,5 +1,4 @@
 -- `decimal::extend` meets its contract: what may follow goes by the prefix.
-use borrow.Author.Rules.{rules}
 use borrow.Author.Tests.{eq-eqb, ne_eqb}
 use Rattle.decimal.proofs.extend.Goals as goal
 

@@ -1,5 +1,4 @@
 -- `decimal::last` meets its contract: the last character of a number is its last digit.
-use borrow.Author.Rules.{rules}
 use mathlib.Core.Path.{sym, ap}
 use Rattle.decimal.specs.Decimal.{last_of}
 use Rattle.decimal.proofs.last.Goals as goal

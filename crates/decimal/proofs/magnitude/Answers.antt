@@ -1,5 +1,4 @@
 -- `decimal::magnitude` meets its contract: a negative number is taken up by one, negated and cast, and the one added again.
-use borrow.Author.Rules.{rules}
 use Prim.Native.Nat.{ℕ, zero, suc, ◌^◌, ◌<◌}
 use mathlib.Core.Path.{◌≡◌, refl, sym, ap, ◌∙◌}
 use mathlib.Core.Bool.{true, false}

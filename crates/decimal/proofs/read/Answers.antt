@@ -1,4 +1,4 @@
-use Prim.Native.Nat.{ℕ, ◌+◌, ◌-◌, ◌≤◌, ◌<◌}
+use Prim.Native.Nat.{ℕ, ◌+◌, ◌≤◌, ◌<◌}
 use mathlib.Core.Path.{◌≡◌, refl, ap, sym, ◌∙◌}
 use mathlib.Core.List.{List}
 use native.Mathlib.Numerals.{add-one}
@@ -6,7 +6,6 @@ use borrow.Author.Rules.{rules}
 use lib.ListN.{length, get_or, drop, drop_of_length-le}
 use lib.Seq.{drop-cons}
 use Rattle.decimal.specs.declared.Prefix.{Prefix}
-use Rattle.decimal.specs.declared.Prefix.TheVariants.{Blank}
 use Rattle.decimal.specs.Decimal.{extended, extended_by, value_of, read_column}
 use Rattle.decimal.proofs.read.Goals as goal
 

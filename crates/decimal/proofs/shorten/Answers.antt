@@ -1,5 +1,4 @@
 -- `decimal::shorten` meets its contract: a number of one digit leaves the blank prefix.
-use borrow.Author.Rules.{rules}
 use borrow.Author.Tests.{lt-ltb, le-ltb}
 use Rattle.decimal.proofs.shorten.Goals as goal
 

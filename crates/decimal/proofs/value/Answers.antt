@@ -1,5 +1,4 @@
 -- `decimal::value` meets its contract: a column that is all spaces, or broken, holds no number.
-use borrow.Author.Rules.{rules}
 use mathlib.Core.Path.{sym, ap}
 use Rattle.decimal.specs.Decimal.{value_of}
 use Rattle.decimal.proofs.value.Goals as goal

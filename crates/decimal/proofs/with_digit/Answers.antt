@@ -1,5 +1,4 @@
 -- `decimal::with_digit` meets its contract: each test that fails leads to a broken prefix.
-use borrow.Author.Rules.{rules}
 use borrow.Author.Tests.{lt-ltb, le-ltb, le-leb, lt-leb}
 use Rattle.decimal.proofs.with_digit.Goals as goal
 

@@ -1,5 +1,4 @@
 -- `decimal::write` meets its contract: a column is a number's prefix, written.
-use borrow.Author.Rules.{rules}
 use Rattle.decimal.specs.Decimal.{write_column}
 use Rattle.decimal.proofs.write.Goals as goal
 

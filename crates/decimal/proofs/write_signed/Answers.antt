@@ -1,5 +1,4 @@
 -- `decimal::write_signed` meets its contract: which prefix is written goes by the number's sign.
-use borrow.Author.Rules.{rules}
 use Prim.Native.Nat.{ℕ, ◌<◌}
 use mathlib.Core.Path.{◌≡◌, ap, ◌∙◌}
 use mathlib.Core.Bool.{true, false}

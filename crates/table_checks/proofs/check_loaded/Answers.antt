@@ -1,6 +1,5 @@
 -- `table_checks::check_loaded` meets its contract: the lengths come first.
 use mathlib.Core.Path.{sym, ◌∙◌}
-use borrow.Author.Rules.{rules}
 use Rattle.table_checks.specs.Checks.{loaded_check}
 use Rattle.table_checks.specs.Laws.Returns.{loaded-told}
 use Rattle.table_checks.proofs.check_loaded.Goals as goal

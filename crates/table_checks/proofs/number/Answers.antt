@@ -1,5 +1,4 @@
 -- `table_checks::number` meets its contract: each cause has its number.
-use borrow.Author.Rules.{rules}
 use Rattle.table_checks.specs.Refusal.{number_of}
 use Rattle.table_checks.proofs.number.Goals as goal
 

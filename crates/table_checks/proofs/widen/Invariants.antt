@@ -1,9 +1,8 @@
 -- `table_checks::widen` meets its contract: after k turns the first k rows stand over the first k fields.
 use Prim.Native.Nat.{◌-◌, ◌≤◌}
-use mathlib.Core.Path.{◌≡◌, refl}
-use borrow.Author.Rules.{rules}
+use mathlib.Core.Path.{◌≡◌}
 use lib.ListN.{length}
-use Rattle.arith.specs.Laws.Overwriting.{over, over-element, over-all}
+use Rattle.arith.specs.Laws.Overwriting.{over}
 use Rattle.table_checks.proofs.widen.Given as goal
 
 abbrev pub invariant-loop-k : goal.invariant-loop-k

@@ -18,7 +18,7 @@ refine_own-bound-requires c =
 pub returns-then-enough-bound : goal.returns-then-enough-bound
 returns-then-enough-bound c =
     let p = c.requires.ready_2 in
-    record { value = decided-above p.prepared.filled.table p.listed c.args.target.faults c.args.level c.args.claim c.args.rough (sym c.enough_for-worth.ensures ∙ c.in-At.is) c.refine_own-bound.ensures.settles (omega (arith, c.refine_own-bound.type-inv)) c.if-enough-bound.true; ready = c.refine_own-bound.ensures.ready }
+    record { value = decided-above p.prepared.filled.table p.listed c.args.target.faults c.args.level c.args.claim c.args.rough (sym c.enough_for-worth.ensures ∙ c.in-At.is) c.refine_own-bound.ensures.settles (omega (arith, c.refine_own-bound.type_inv)) c.if-enough-bound.true; ready = c.refine_own-bound.ensures.ready }
 
 pub returns-then-level-eq-LAST_LEVEL : goal.returns-then-level-eq-LAST_LEVEL
 returns-then-level-eq-LAST_LEVEL c =

@@ -32,7 +32,7 @@ refine_own-rough-requires c =
 
 -- what is found is the approximate bound
 rough : (c : After-refine_own-rough) → let a = c.args in c.refine_own-rough.result ≡ approximate_bound a.target.faults (table_of a.rows.now a.prepared.now) a.target.frame
-rough c = let p = c.requires in one-fixed p.prepared.filled.table p.listed _ (omega (arith, c.refine_own-rough.ensures.settles, c.refine_own-rough.type-inv))
+rough c = let p = c.requires in one-fixed p.prepared.filled.table p.listed _ (omega (arith, c.refine_own-rough.ensures.settles, c.refine_own-rough.type_inv))
 
 pub returns-then-is_met : goal.returns-then-is_met
 unfolding bound_for

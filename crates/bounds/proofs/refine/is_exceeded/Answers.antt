@@ -16,7 +16,7 @@ use Rattle.workload.specs.Laws.Fine.{in-table-fine}
 use Rattle.bounds.specs.Laws.Search.{own-group, settled-test}
 use Rattle.bounds.specs.Laws.Case.{own-again, refined-window}
 use Rattle.bounds.proofs.refine.is_exceeded.Goals as goal
-use Rattle.bounds.proofs.refine.is_exceeded.Goals.{In-Fixed-2, Start}
+use Rattle.bounds.proofs.refine.is_exceeded.Goals.{In-Fixed, Start}
 
 pub own_choice-own-requires : goal.own_choice-own-requires
 own_choice-own-requires c = let p = c.requires.ready_2 in in-table-fine _ p.prepared.filled.table p.listed
@@ -41,25 +41,28 @@ group : (s : Start) → (1 ≤ s.args.target.frame.group) × (s.args.target.fram
 group s = own-group s.requires.ready_2.prepared.filled.table s.requires.ready_2.listed
 
 -- the own group stands at an alignment
-fixed : (c : In-Fixed-2) → (a : ℕ) × (choice_of c.args.choices c.args.target.frame.group ≡ Fixed a)
+fixed : (c : In-Fixed) → (a : ℕ) × (choice_of c.args.choices c.args.target.frame.group ≡ Fixed a)
 fixed c = (c.in-Fixed.a, sym c.own_choice-own.ensures ∙ c.in-Fixed.is)
 
 -- which it takes once more
-again : (c : In-Fixed-2) → set c.args.choices (c.args.target.frame.group - 1) (Fixed c.in-Fixed.a) ≡ c.args.choices
-again c = own-again c.args.target.frame c.args.choices ((group c.before.before.before.before.before.before.before).0, omega (arith, (group c.before.before.before.before.before.before.before).1, long c.before.before.before.before.before.before.before)) (sym c.own_choice-own.ensures ∙ c.in-Fixed.is)
+again : (c : In-Fixed) → set c.args.choices (c.args.target.frame.group - 1) (Fixed c.in-Fixed.a) ≡ c.args.choices
+again c =
+    let n = own-group c.requires.ready_2.prepared.filled.table c.requires.ready_2.listed in
+    let many : length c.args.choices ≡ 16 = search rules in
+    own-again c.args.target.frame c.args.choices (n.0, omega (arith, n.1, many)) (sym c.own_choice-own.ensures ∙ c.in-Fixed.is)
 
 pub reach_of-reach-requires : goal.reach_of-reach-requires
 reach_of-reach-requires c =
     let p = c.requires in
-    record { ready_2 = p.ready_2; limits = tt; by_index = refined-window p.ready_2.prepared.filled.table p.ready_2.listed _ c.args.choices (long (goal.at.reach_of-reach-requires c).Start) p.refined_by p.frame_value (fixed (goal.at.reach_of-reach-requires c).In-Fixed-2) }
+    record { ready_2 = p.ready_2; limits = tt; by_index = refined-window p.ready_2.prepared.filled.table p.ready_2.listed _ c.args.choices (long (goal.at.reach_of-reach-requires c).Start) p.refined_by p.frame_value (fixed (goal.at.reach_of-reach-requires c).In-Fixed) }
 
 pub refine-requires : goal.refine-requires
 refine-requires c =
-    record { ready_2 = c.reach_of-reach.ensures.ready; le_group = group (goal.at.refine-requires c).Start; own_fixed = subst (OwnFixed c.args.target.frame) (sym (again (goal.at.refine-requires c).In-Fixed-2)) (fixed (goal.at.refine-requires c).In-Fixed-2); reaches = subst (λ (cs : List Choice). Reaches c.args.target.faults (table_of c.args.rows.now c.args.prepared.now) c.args.target.frame cs c.args.claim c.reach_of-reach.result) (sym (again (goal.at.refine-requires c).In-Fixed-2)) (c.reach_of-reach.ensures.by_index_2 c.args.claim) }
+    record { ready_2 = c.reach_of-reach.ensures.ready; le_group = group (goal.at.refine-requires c).Start; own_fixed = subst (OwnFixed c.args.target.frame) (sym (again (goal.at.refine-requires c).In-Fixed)) (fixed (goal.at.refine-requires c).In-Fixed); reaches = subst (λ (cs : List Choice). Reaches c.args.target.faults (table_of c.args.rows.now c.args.prepared.now) c.args.target.frame cs c.args.claim c.reach_of-reach.result) (sym (again (goal.at.refine-requires c).In-Fixed)) (c.reach_of-reach.ensures.by_index_2 c.args.claim) }
 
 pub shape_of-memory : goal.shape_of-memory
 shape_of-memory c = c.refine.ensures.ready.remembered.size ∙ sym c.requires.ready_2.remembered.size
 
 pub returns : goal.returns
 returns c =
-    record { value = settled-test c.args.claim _ _ c.refine.ensures.settles ∙ ap (λ (cs : List Choice). ltb c.args.claim (fixing_more c.args.target.faults (table_of c.args.rows.now c.args.prepared.now) c.args.target.frame 16 cs)) (again (goal.at.returns c).In-Fixed-2); ready = c.refine.ensures.ready }
+    record { value = settled-test c.args.claim _ _ c.refine.ensures.settles ∙ ap (λ (cs : List Choice). ltb c.args.claim (fixing_more c.args.target.faults (table_of c.args.rows.now c.args.prepared.now) c.args.target.frame 16 cs)) (again (goal.at.returns c).In-Fixed); ready = c.refine.ensures.ready }

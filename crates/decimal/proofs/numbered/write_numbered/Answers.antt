@@ -1,12 +1,11 @@
-use Prim.Native.Nat.{◌-◌, ◌*◌, ◌≤◌}
-use mathlib.Core.Path.{◌≡◌, refl, ◌∙◌}
+use Prim.Native.Nat.{◌*◌}
+use mathlib.Core.Path.{refl, ◌∙◌}
 use mathlib.Core.List.{append-nil}
 use native.Mathlib.Omega.{arith}
 use borrow.Author.Rules.{rules}
 use lib.ListN.{length, length-take, length-drop, drop_of_length-le}
-use Rattle.arith.specs.Laws.Overwriting.{over}
 use Rattle.arith.specs.Laws.Lines.{line-over, lines-over}
-use Rattle.decimal.specs.Numbered.{numbered_at, numbered_lines}
+use Rattle.decimal.specs.Numbered.{numbered_at}
 use Rattle.decimal.specs.Laws.{numbered-lines}
 use Rattle.decimal.proofs.numbered.write_numbered.Goals as goal
 

@@ -1,14 +1,9 @@
 -- After i turns the first i lines are written, and the rest is as it was.
 use Prim.Native.Nat.{◌-◌, ◌*◌, ◌≤◌}
-use mathlib.Core.Path.{◌≡◌, refl, ◌∙◌}
-use mathlib.Core.List.{append-nil}
-use native.Mathlib.Omega.{arith}
-use borrow.Author.Rules.{rules}
-use lib.ListN.{length, length-take, length-drop, drop_of_length-le}
+use mathlib.Core.Path.{◌≡◌}
+use lib.ListN.{length}
 use Rattle.arith.specs.Laws.Overwriting.{over}
-use Rattle.arith.specs.Laws.Lines.{line-over, lines-over}
-use Rattle.decimal.specs.Numbered.{numbered_at, numbered_lines}
-use Rattle.decimal.specs.Laws.{numbered-lines}
+use Rattle.decimal.specs.Numbered.{numbered_lines}
 use Rattle.decimal.proofs.numbered.write_numbered.Given as goal
 
 abbrev pub invariant-loop-i : goal.invariant-loop-i

@@ -10,12 +10,6 @@ use Rattle.log_check.proofs.files.check_table.Goals.{In-Done}
 table : (c : In-Done) → ReadRows c.args.table.now c.read-answer.new.rows c.in-Done.n
 table c = let r = c.read-answer in read-rows _ _ _ refl r.ensures.value _ _ r.ensures.rows_after c.in-Done.is
 
-pub slice_bounds-rows-end : goal.slice_bounds-rows-end
-slice_bounds-rows-end c = (table (goal.at.slice_bounds-rows-end c).In-Done).room
-
-pub slice_bounds-check_text-end : goal.slice_bounds-check_text-end
-slice_bounds-check_text-end c = (table (goal.at.slice_bounds-check_text-end c).In-Done).size
-
 pub check_text-requires : goal.check_text-requires
 check_text-requires c = (c.requires, (table (goal.at.check_text-requires c).In-Done).accepted)
 

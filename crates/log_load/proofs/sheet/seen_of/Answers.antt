@@ -10,9 +10,6 @@ use Rattle.log_load.specs.Steps.{no_line, with_line}
 use Rattle.log_load.specs.Theory.Sheet.{joined, seen_more, seen_start, seen_end}
 use Rattle.log_load.proofs.sheet.seen_of.Goals as goal
 
-pub loop-j-init : goal.loop-j-init
-loop-j-init c = (through-start _ _ _ _ (seen_start c.args.rows.now c.args.i (lines_of c.args.text.now)), search rules, search rules)
-
 pub loop-j-preserved : goal.loop-j-preserved
 loop-j-preserved c =
     let l = c.loop-j in

@@ -4,9 +4,6 @@ use borrow.Author.Rules.{rules}
 use Rattle.log_load.specs.Theory.Sheet.{first-written}
 use Rattle.log_load.proofs.sheet.write_first.Goals as goal
 
-pub shape_of-line : goal.shape_of-line
-shape_of-line c = simp length-set (search rules)
-
 pub returns : goal.returns
 returns c =
     let best = c.args.best in

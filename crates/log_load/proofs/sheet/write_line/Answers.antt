@@ -4,9 +4,6 @@ use borrow.Author.Rules.{rules}
 use Rattle.log_load.specs.Theory.Sheet.{row_written}
 use Rattle.log_load.proofs.sheet.write_line.Goals as goal
 
-pub shape_of-line : goal.shape_of-line
-shape_of-line c = simp length-set (search rules)
-
 pub returns : goal.returns
 returns c =
     row_written c.args.identifier c.args.seen c.args.line.now _ _ _ _ c.requires c.write.ensures c.write-2.ensures c.write-3.ensures c.write-4.ensures

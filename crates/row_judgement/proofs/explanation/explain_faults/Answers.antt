@@ -15,45 +15,37 @@ use Rattle.row_judgement.specs.Laws.Explain.{refused-beside, judged-beside, expl
 use Rattle.row_judgement.proofs.explanation.explain_faults.Goals as goal
 use Rattle.row_judgement.proofs.explanation.explain_faults.Goals.{In-Passed, Then-is_gap}
 
-abbrev start : tie.After-check-loaded → tie.Start
-start c = c.before.before
-
 -- the table passed
-passed : (c : In-Passed) → let s = start c.before.before in loaded_check s.args.lengths s.args.rows.now ≡ Passed
+passed : (c : In-Passed) → loaded_check c.args.lengths c.args.rows.now ≡ Passed
 passed c = sym c.check_loaded-checked.ensures.value ∙ c.in-Passed.is
 
 pub returns-then-rows-row : goal.returns-then-rows-row
 unfolding judge_faults judge_faults_checked
 returns-then-rows-row c =
-    let s = start (goal.at.returns-then-rows-row c).After-check_loaded-checked in
-    let answer = explained-faults-told s.args.lengths s.args.rows.now s.args.row s.args.gap (c.turned_back-then-rows-row.ensures ∙ refused-beside (Apart s.args.gap) s.args.lengths s.args.rows.now s.args.row _ (rw (passed (goal.at.returns-then-rows-row c).In-Passed, le-leb _ _ c.if-rows-row.true))) in record { value = answer.0; never_late = answer.1.0; in_numbers = answer.1.1 }
+    let answer = explained-faults-told c.args.lengths c.args.rows.now c.args.row c.args.gap (c.turned_back-then-rows-row.ensures ∙ refused-beside (Apart c.args.gap) c.args.lengths c.args.rows.now c.args.row _ (rw (passed (goal.at.returns-then-rows-row c).In-Passed, le-leb _ _ c.if-rows-row.true))) in record { value = answer.0; never_late = answer.1.0; in_numbers = answer.1.1 }
 
 -- the gap is one
-gap : (c : Then-is_gap) → is_gap (start c.before.before.before.before.before).args.gap ≡ true
+gap : (c : Then-is_gap) → is_gap c.args.gap ≡ true
 gap c = sym c.is_gap.ensures ∙ c.if-is_gap.true
 
 pub overflow_cast-ticks : goal.overflow_cast-ticks
-overflow_cast-ticks c = omega (arith, gap_within (start (goal.at.overflow_cast-ticks c).After-check_loaded-checked).args.gap (gap c))
+overflow_cast-ticks c = omega (arith, gap_within c.args.gap (gap c))
 
 pub explain_row-requires : goal.explain_row-requires
 explain_row-requires c =
-    let s = start (goal.at.explain_row-requires c).After-check_loaded-checked in
-    record { loadable = loaded-both s.args.lengths s.args.rows.now (passed (goal.at.explain_row-requires c).In-Passed); i_in_bounds = row_inside s.args.lengths s.args.rows.now c.if-rows-row.false; fine_faults = gap-fine s.args.gap (gap c) }
+    record { loadable = loaded-both c.args.lengths c.args.rows.now (passed (goal.at.explain_row-requires c).In-Passed); i_in_bounds = row_inside c.args.lengths c.args.rows.now c.if-rows-row.false; fine_faults = gap-fine c.args.gap (gap c) }
 
 pub returns-then-is_gap : goal.returns-then-is_gap
 unfolding judge_faults judge_faults_checked
 returns-then-is_gap c =
-    let s = start (goal.at.returns-then-is_gap c).After-check_loaded-checked in
-    let answer = explained-faults-told s.args.lengths s.args.rows.now s.args.row s.args.gap (c.explain_row.ensures ∙ judged-beside (Apart s.args.gap) s.args.lengths s.args.rows.now s.args.row _ (rw (passed (goal.at.returns-then-is_gap c).In-Passed, lt-leb _ _ c.if-rows-row.false, gap (goal.at.returns-then-is_gap c).Then-is_gap))) in record { value = answer.0; never_late = answer.1.0; in_numbers = answer.1.1 }
+    let answer = explained-faults-told c.args.lengths c.args.rows.now c.args.row c.args.gap (c.explain_row.ensures ∙ judged-beside (Apart c.args.gap) c.args.lengths c.args.rows.now c.args.row _ (rw (passed (goal.at.returns-then-is_gap c).In-Passed, lt-leb _ _ c.if-rows-row.false, gap (goal.at.returns-then-is_gap c).Then-is_gap))) in record { value = answer.0; never_late = answer.1.0; in_numbers = answer.1.1 }
 
 pub returns-in-Failed : goal.returns-in-Failed
 unfolding judge_faults judge_faults_checked
 returns-in-Failed c =
-    let s = start (goal.at.returns-in-Failed c).After-check_loaded-checked in
-    let answer = explained-faults-told s.args.lengths s.args.rows.now s.args.row s.args.gap (c.turned_back.ensures ∙ refused-beside (Apart s.args.gap) s.args.lengths s.args.rows.now s.args.row _ (rw (sym c.check_loaded-checked.ensures.value ∙ c.in-Failed.is, c.of_table.ensures))) in record { value = answer.0; never_late = answer.1.0; in_numbers = answer.1.1 }
+    let answer = explained-faults-told c.args.lengths c.args.rows.now c.args.row c.args.gap (c.turned_back.ensures ∙ refused-beside (Apart c.args.gap) c.args.lengths c.args.rows.now c.args.row _ (rw (sym c.check_loaded-checked.ensures.value ∙ c.in-Failed.is, c.of_table.ensures))) in record { value = answer.0; never_late = answer.1.0; in_numbers = answer.1.1 }
 
 pub returns-else-is_gap : goal.returns-else-is_gap
 unfolding judge_faults judge_faults_checked
 returns-else-is_gap c =
-    let s = start (goal.at.returns-else-is_gap c).After-check_loaded-checked in
-    let answer = explained-faults-told s.args.lengths s.args.rows.now s.args.row s.args.gap (c.turned_back-in-Passed.ensures ∙ refused-beside (Apart s.args.gap) s.args.lengths s.args.rows.now s.args.row _ (rw (passed (goal.at.returns-else-is_gap c).In-Passed, lt-leb _ _ c.if-rows-row.false, sym c.is_gap.ensures ∙ c.if-is_gap.false))) in record { value = answer.0; never_late = answer.1.0; in_numbers = answer.1.1 }
+    let answer = explained-faults-told c.args.lengths c.args.rows.now c.args.row c.args.gap (c.turned_back-in-Passed.ensures ∙ refused-beside (Apart c.args.gap) c.args.lengths c.args.rows.now c.args.row _ (rw (passed (goal.at.returns-else-is_gap c).In-Passed, lt-leb _ _ c.if-rows-row.false, sym c.is_gap.ensures ∙ c.if-is_gap.false))) in record { value = answer.0; never_late = answer.1.0; in_numbers = answer.1.1 }

@@ -14,6 +14,3 @@ loop-j-init c = (refl, search rules)
 pub loop-j-preserved : goal.loop-j-preserved
 unfolding starts_drawn
 loop-j-preserved c = let l = c.loop-j in (c.draw_start-d.ensures ∙ rw (l.invariant.0, add-one l.j), search rules)
-
-pub returns : goal.returns
-returns c = let l = c.loop-j in let z : l.j ≡ 16 = omega (arith, l.invariant.1, c.loop-j-test.false) in l.invariant.0 ∙ ap (starts_drawn (frames_of c.args.lengths c.args.rows.now) c.args.seed) z

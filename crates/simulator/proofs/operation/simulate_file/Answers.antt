@@ -12,12 +12,6 @@ read c =
     let both = c.read-answer.ensures in
     read-rows _ _ _ refl both.value _ _ both.rows_after c.in-Done.is
 
-pub slice_bounds-rows-end : goal.slice_bounds-rows-end
-slice_bounds-rows-end c = (read (goal.at.slice_bounds-rows-end c).In-Done).room
-
-pub slice_bounds-simulate_accepted-end : goal.slice_bounds-simulate_accepted-end
-slice_bounds-simulate_accepted-end c = (read (goal.at.slice_bounds-simulate_accepted-end c).In-Done).size
-
 pub simulate_accepted-requires : goal.simulate_accepted-requires
 simulate_accepted-requires c =
     let table = read (goal.at.simulate_accepted-requires c).In-Done in

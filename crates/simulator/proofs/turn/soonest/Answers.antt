@@ -13,6 +13,3 @@ loop-i-init c = (refl, search rules, search rules)
 
 pub loop-i-preserved : goal.loop-i-preserved
 loop-i-preserved c = let l = c.loop-i in let key = due_of c.args.due in (c.sooner-k.ensures.value ∙ rw l.invariant.0 (sym (lowest-more key l.i)), search rules, search rules)
-
-pub returns : goal.returns
-returns c = let l = c.loop-i in let z : l.i ≡ c.args.n = omega (arith, l.invariant.1, c.loop-i-test.false) in record { value = l.invariant.0 ∙ ap (lowest_of (due_of c.args.due)) z; small = search rules }

@@ -1,9 +1,8 @@
-use Prim.Native.Nat.{◌-◌, ◌≤◌, ◌<◌}
+use Prim.Native.Nat.{◌-◌}
 use native.Mathlib.Omega.{arith}
 use borrow.Author.Rules.{rules}
-use Rattle.bus_model.specs.Theory.Hyperperiod.{hyper_of}
 use Rattle.table_checks.specs.Steps.{Periods}
-use Rattle.table_checks.proofs.ChecksLaws.{Rows, rows_all, hyper-start, hyper-row, hyper-most}
+use Rattle.table_checks.proofs.ChecksLaws.{rows_all, hyper-start, hyper-row, hyper-most}
 use Rattle.table_checks.proofs.checks.bounded_hyperperiod.Goals as goal
 
 pub loop-i-init : goal.loop-i-init

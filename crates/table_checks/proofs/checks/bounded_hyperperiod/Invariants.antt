@@ -1,10 +1,7 @@
 -- `table_checks::checks::bounded_hyperperiod` meets its contract: the invariant has the hyperperiod of the rows read, which no row lowers, so one that is too great stays so.
-use Prim.Native.Nat.{◌-◌, ◌≤◌, ◌<◌}
-use native.Mathlib.Omega.{arith}
-use borrow.Author.Rules.{rules}
+use Prim.Native.Nat.{◌≤◌, ◌<◌}
 use Rattle.bus_model.specs.Theory.Hyperperiod.{hyper_of}
-use Rattle.table_checks.specs.Steps.{Periods}
-use Rattle.table_checks.proofs.ChecksLaws.{Rows, rows_all, hyper-start, hyper-row, hyper-most}
+use Rattle.table_checks.proofs.ChecksLaws.{Rows}
 use Rattle.table_checks.proofs.checks.bounded_hyperperiod.Given as goal
 
 abbrev pub invariant-loop-i : goal.invariant-loop-i

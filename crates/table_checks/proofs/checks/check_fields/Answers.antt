@@ -1,6 +1,5 @@
 -- `table_checks::checks::check_fields` meets its contract: the size is checked first, and a table whose size is right is short.
 use mathlib.Core.Path.{sym, ◌∙◌}
-use borrow.Author.Rules.{rules}
 use Rattle.table_checks.specs.Checks.{rows_check}
 use Rattle.table_checks.specs.Laws.Sizes.{rows-size}
 use Rattle.table_checks.specs.Laws.Returns.{rows_told}

@@ -1,8 +1,6 @@
-use Prim.Native.Nat.{◌-◌, ◌≤◌}
-use mathlib.Core.Path.{◌≡◌, refl, ◌∙◌}
+use mathlib.Core.Path.{refl, ◌∙◌}
 use borrow.Author.Rules.{rules}
-use Rattle.table_checks.specs.Columns.{columns}
-use Rattle.table_checks.specs.Checks.{first_of, column_check, columns_check}
+use Rattle.table_checks.specs.Checks.{columns_check}
 use Rattle.table_checks.specs.Laws.First.{first-stop, first-go, first-end}
 use Rattle.table_checks.proofs.checks.columns.Goals as goal
 

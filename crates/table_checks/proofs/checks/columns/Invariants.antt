@@ -1,10 +1,8 @@
 -- `table_checks::checks::columns` meets its contract: the invariant says that the columns left decide.
 use Prim.Native.Nat.{◌-◌, ◌≤◌}
-use mathlib.Core.Path.{◌≡◌, refl, ◌∙◌}
-use borrow.Author.Rules.{rules}
+use mathlib.Core.Path.{◌≡◌}
 use Rattle.table_checks.specs.Columns.{columns}
 use Rattle.table_checks.specs.Checks.{first_of, column_check, columns_check}
-use Rattle.table_checks.specs.Laws.First.{first-stop, first-go, first-end}
 use Rattle.table_checks.proofs.checks.columns.Given as goal
 
 abbrev pub invariant-loop-j : goal.invariant-loop-j

@@ -1,6 +1,5 @@
 -- `table_checks::checks::frame_releases` meets its contract: only frames of the group count.
 use borrow.Author.Tests.{eq-eqb, ne_eqb}
-use borrow.Author.Rules.{rules}
 use Rattle.table_checks.proofs.checks.frame_releases.Goals as goal
 
 pub returns-then-frame_group-group : goal.returns-then-frame_group-group

@@ -1,6 +1,5 @@
 -- `table_checks::checks::group` meets its contract: a bounded hyperperiod within its limit is the hyperperiod.
 use mathlib.Core.Path.{◌∙◌}
-use borrow.Author.Rules.{rules}
 use Rattle.table_checks.proofs.ChecksLaws.{group-long, group-many, group-passes}
 use Rattle.table_checks.proofs.checks.group.Goals as goal
 

@@ -1,10 +1,8 @@
-use Prim.Native.Nat.{◌-◌, ◌*◌, ◌/◌, ◌≤◌}
+use Prim.Native.Nat.{◌-◌}
 use native.Mathlib.Omega.{arith}
-use lib.ListN.{length}
 use borrow.Author.Rules.{rules}
-use Rattle.table_checks.specs.Columns.{columns}
 use Rattle.table_checks.specs.Steps.{Periods}
-use Rattle.table_checks.proofs.ChecksLaws.{Rows, rows_all, releases_of, releases-none, releases-more}
+use Rattle.table_checks.proofs.ChecksLaws.{rows_all, releases-none, releases-more}
 use Rattle.table_checks.proofs.checks.group_releases.Goals as goal
 
 pub loop-i-init : goal.loop-i-init

@@ -1,11 +1,8 @@
 -- `table_checks::checks::group_releases` meets its contract: the invariant has the sum over the rows read.
 use Prim.Native.Nat.{◌-◌, ◌*◌, ◌/◌, ◌≤◌}
-use native.Mathlib.Omega.{arith}
 use lib.ListN.{length}
-use borrow.Author.Rules.{rules}
 use Rattle.table_checks.specs.Columns.{columns}
-use Rattle.table_checks.specs.Steps.{Periods}
-use Rattle.table_checks.proofs.ChecksLaws.{Rows, rows_all, releases_of, releases-none, releases-more}
+use Rattle.table_checks.proofs.ChecksLaws.{Rows, releases_of}
 use Rattle.table_checks.proofs.checks.group_releases.Given as goal
 
 abbrev pub invariant-loop-i : goal.invariant-loop-i

@@ -1,9 +1,7 @@
-use Prim.Native.Nat.{◌-◌, ◌≤◌}
-use mathlib.Core.Path.{◌≡◌, refl, ◌∙◌}
+use mathlib.Core.Path.{refl, ◌∙◌}
 use native.Mathlib.Omega.{arith}
 use borrow.Author.Rules.{rules}
-use Rattle.table_checks.specs.Frames.{unmeasured}
-use Rattle.table_checks.specs.Checks.{first_of, group_check, groups_check}
+use Rattle.table_checks.specs.Checks.{groups_check}
 use Rattle.table_checks.specs.Laws.First.{first-stop, first-go, first-end}
 use Rattle.table_checks.proofs.checks.groups.Goals as goal
 

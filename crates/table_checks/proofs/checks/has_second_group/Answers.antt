@@ -1,10 +1,8 @@
-use Prim.Native.Nat.{◌-◌, ◌≤◌}
-use mathlib.Core.Path.{◌≡◌, ◌∙◌}
+use mathlib.Core.Path.{◌∙◌}
 use native.Mathlib.Nat.{sub-zero}
 use borrow.Author.Rules.{rules}
-use Rattle.arith.specs.Lists.{exists, range}
 use Rattle.arith.specs.Laws.Members.{exists-stop, exists-go, exists-end}
-use Rattle.table_checks.specs.Checks.{is_other_group, has_second_group}
+use Rattle.table_checks.specs.Checks.{has_second_group}
 use Rattle.table_checks.proofs.checks.has_second_group.Goals as goal
 
 pub loop-earlier-init : goal.loop-earlier-init

@@ -1,10 +1,7 @@
 -- `table_checks::checks::has_second_group` meets its contract: the invariant says that the lines left decide.
 use Prim.Native.Nat.{◌-◌, ◌≤◌}
-use mathlib.Core.Path.{◌≡◌, ◌∙◌}
-use native.Mathlib.Nat.{sub-zero}
-use borrow.Author.Rules.{rules}
+use mathlib.Core.Path.{◌≡◌}
 use Rattle.arith.specs.Lists.{exists, range}
-use Rattle.arith.specs.Laws.Members.{exists-stop, exists-go, exists-end}
 use Rattle.table_checks.specs.Checks.{is_other_group, has_second_group}
 use Rattle.table_checks.proofs.checks.has_second_group.Given as goal
 

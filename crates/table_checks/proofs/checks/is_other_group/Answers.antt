@@ -1,6 +1,5 @@
 -- `table_checks::checks::is_other_group` meets its contract: the groups are compared where the nodes are the same.
 use borrow.Author.Tests.{eq-eqb, ne_eqb}
-use borrow.Author.Rules.{rules}
 use Rattle.table_checks.specs.Checks.{is_other_group}
 use Rattle.table_checks.proofs.checks.is_other_group.Goals as goal
 

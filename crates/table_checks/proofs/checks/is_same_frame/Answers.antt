@@ -1,6 +1,5 @@
 -- `table_checks::checks::is_same_frame` meets its contract: both numbers are compared.
 use borrow.Author.Tests.{eq-eqb, ne_eqb}
-use borrow.Author.Rules.{rules}
 use Rattle.table_checks.specs.Checks.{is_same_frame}
 use Rattle.table_checks.proofs.checks.is_same_frame.Goals as goal
 

@@ -4,7 +4,6 @@ use mathlib.Core.Bool.{false}
 use Prim.Native.Nat.{◌<◌}
 use native.Mathlib.Omega.{arith}
 use lib.ListN.{get_or-eq_default}
-use borrow.Author.Rules.{rules}
 use Rattle.arith.specs.Laws.Below.{each_below}
 use Rattle.table_checks.specs.Columns.{limits, columns}
 use Rattle.table_checks.proofs.checks.is_within.Goals as goal

@@ -1,6 +1,5 @@
 -- `table_checks::checks::line` meets its contract: a cause against the columns comes first.
 use mathlib.Core.Path.{sym, ◌∙◌}
-use borrow.Author.Rules.{rules}
 use Rattle.table_checks.specs.Checks.{line_check}
 use Rattle.table_checks.proofs.checks.line.Goals as goal
 

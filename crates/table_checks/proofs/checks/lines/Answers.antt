@@ -1,10 +1,7 @@
-use Prim.Native.Nat.{◌-◌, ◌/◌, ◌≤◌}
-use mathlib.Core.Path.{◌≡◌, ◌∙◌}
+use mathlib.Core.Path.{◌∙◌}
 use native.Mathlib.Nat.{sub-zero}
-use lib.ListN.{length}
 use borrow.Author.Rules.{rules}
-use Rattle.table_checks.specs.Columns.{columns}
-use Rattle.table_checks.specs.Checks.{first_of, line_check, lines_check}
+use Rattle.table_checks.specs.Checks.{lines_check}
 use Rattle.table_checks.specs.Laws.First.{first-stop, first-go, first-end}
 use Rattle.table_checks.proofs.checks.lines.Goals as goal
 

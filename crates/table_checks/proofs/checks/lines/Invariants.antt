@@ -1,12 +1,9 @@
 -- `table_checks::checks::lines` meets its contract: the invariant says that the lines left decide.
 use Prim.Native.Nat.{◌-◌, ◌/◌, ◌≤◌}
-use mathlib.Core.Path.{◌≡◌, ◌∙◌}
-use native.Mathlib.Nat.{sub-zero}
+use mathlib.Core.Path.{◌≡◌}
 use lib.ListN.{length}
-use borrow.Author.Rules.{rules}
 use Rattle.table_checks.specs.Columns.{columns}
 use Rattle.table_checks.specs.Checks.{first_of, line_check, lines_check}
-use Rattle.table_checks.specs.Laws.First.{first-stop, first-go, first-end}
 use Rattle.table_checks.proofs.checks.lines.Given as goal
 
 abbrev pub invariant-loop-i : goal.invariant-loop-i

@@ -1,6 +1,5 @@
 -- `table_checks::checks::rows_size` meets its contract: each test that fails leads to the same cause.
 use borrow.Author.Tests.{eq-eqb, ne_eqb, lt-ltb, le-ltb}
-use borrow.Author.Rules.{rules}
 use Rattle.table_checks.specs.Checks.{rows_size_check}
 use Rattle.table_checks.proofs.checks.rows_size.Goals as goal
 

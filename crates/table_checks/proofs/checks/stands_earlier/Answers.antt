@@ -1,10 +1,8 @@
-use Prim.Native.Nat.{◌-◌, ◌≤◌}
-use mathlib.Core.Path.{◌≡◌, ◌∙◌}
+use mathlib.Core.Path.{◌∙◌}
 use native.Mathlib.Nat.{sub-zero}
 use borrow.Author.Rules.{rules}
-use Rattle.arith.specs.Lists.{exists, range}
 use Rattle.arith.specs.Laws.Members.{exists-stop, exists-go, exists-end}
-use Rattle.table_checks.specs.Checks.{is_same_frame, stands_earlier}
+use Rattle.table_checks.specs.Checks.{stands_earlier}
 use Rattle.table_checks.proofs.checks.stands_earlier.Goals as goal
 
 pub loop-m-init : goal.loop-m-init

@@ -1,7 +1,6 @@
 -- `table_checks::frames::priority` meets its contract: the definition makes the same test.
 use borrow.Author.Tests.{eq-eqb, ne_eqb}
 use Rattle.table_checks.specs.Frames.{priority_of}
-use borrow.Author.Rules.{rules}
 use Rattle.table_checks.proofs.frames.priority.Goals as goal
 
 pub returns-then-kind-eq11 : goal.returns-then-kind-eq11

@@ -1,9 +1,7 @@
-use Prim.Native.Nat.{◌-◌, ◌≤◌}
-use mathlib.Core.Path.{◌≡◌, refl, ◌∙◌}
+use mathlib.Core.Path.{refl, ◌∙◌}
 use borrow.Author.Rules.{rules}
-use Rattle.arith.specs.Lists.{exists, range}
 use Rattle.arith.specs.Laws.Members.{exists-stop, exists-go, exists-end}
-use Rattle.table_checks.specs.Checks.{is_outside, breaks_limits}
+use Rattle.table_checks.specs.Checks.{breaks_limits}
 use Rattle.table_checks.proofs.lengths.breaks_limits.Goals as goal
 
 pub loop-s-init : goal.loop-s-init

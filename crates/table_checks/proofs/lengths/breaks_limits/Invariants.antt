@@ -1,9 +1,7 @@
 -- `table_checks::lengths::breaks_limits` meets its contract: the invariant says that the numbers left decide.
 use Prim.Native.Nat.{◌-◌, ◌≤◌}
-use mathlib.Core.Path.{◌≡◌, refl, ◌∙◌}
-use borrow.Author.Rules.{rules}
+use mathlib.Core.Path.{◌≡◌}
 use Rattle.arith.specs.Lists.{exists, range}
-use Rattle.arith.specs.Laws.Members.{exists-stop, exists-go, exists-end}
 use Rattle.table_checks.specs.Checks.{is_outside, breaks_limits}
 use Rattle.table_checks.proofs.lengths.breaks_limits.Given as goal
 

@@ -1,5 +1,4 @@
 -- `table_checks::lengths::is_length` meets its contract: the second test counts where the first holds.
-use borrow.Author.Rules.{rules}
 use Rattle.table_checks.specs.Columns.{is_length}
 use Rattle.table_checks.proofs.lengths.is_length.Goals as goal
 

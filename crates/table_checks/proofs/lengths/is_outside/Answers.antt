@@ -4,7 +4,6 @@ use mathlib.Core.Bool.{not}
 use Rattle.table_checks.specs.Columns.{is_length}
 use Rattle.table_checks.specs.Frames.{length_at}
 use Rattle.table_checks.specs.Checks.{is_outside}
-use borrow.Author.Rules.{rules}
 use Rattle.table_checks.proofs.lengths.is_outside.Goals as goal
 
 pub returns : goal.returns

@@ -1,0 +1,156 @@
+use Rattle.std.proofs.Common.{◌≡◌, ℕ, suc, ◌-◌, ◌+◌, ◌≤◌, ◌<◌, min, max, List, length, set, refl, sym, ap, subst, ◌∙◌, arith, rules}
+use mathlib.Core.List.{Memᴰ as Mem}
+use Rattle.arith.specs.Lists.{greatest}
+use Rattle.arith.specs.Laws.Walks.{walk-less}
+use Rattle.bus_model.specs.declared.Choice.{Choice}
+use Rattle.bus_model.specs.declared.Choice.TheVariants.{Fixed}
+use Rattle.bus_model.specs.Bounds.{alignments, or_empty}
+use Rattle.bus_model.specs.Theory.OpenGroups.{fixing_more}
+use Rattle.bus_model.specs.Theory.Turns.{first_turn, turn-le}
+use Rattle.workload.specs.Prepared.{table_of}
+use Rattle.response_time.specs.Load.{OwnFixed, Reaches}
+use Rattle.response_time.specs.Laws.Within.{reach-more, reach-none}
+use Rattle.bounds.specs.Search.{Settles}
+use Rattle.bounds.specs.Laws.Search.{Best, best-first, best-more, best-end, best-over, best-above, open-group, open_more, open-end, open_none, open-pruned, next-own, next-reach}
+use Rattle.bounds.proofs.refine.+refine.Goals as goal
+use Rattle.bounds.proofs.refine.+refine.Goals.{After-with_choice-choices, In-At, After-or_zero-a, Else-enough-more}
+
+-- there are as many choices as groups
+long : (t : ℕ) (c : After-with_choice-choices t) → length c.with_choice-choices.result ≡ 16
+long t c = search rules
+
+-- the scenario is what is asked for
+own : (t : ℕ) (c : After-with_choice-choices t) → OwnFixed c.args.target.frame c.with_choice-choices.result
+own t c = subst (OwnFixed c.args.target.frame) (sym c.with_choice-choices.ensures) c.requires.own_fixed
+
+known : (t : ℕ) (c : After-with_choice-choices t) → let x = c.args in let fs = table_of x.rows.now x.prepared.now in let k = x.target.frame in
+    Reaches x.target.faults fs k c.with_choice-choices.result x.known.best x.known.reach
+known t c =
+    let x = c.args in
+    subst (λ (cs : List Choice). Reaches x.target.faults (table_of x.rows.now x.prepared.now) x.target.frame cs x.known.best x.known.reach) (sym c.with_choice-choices.ensures) c.requires.reaches
+
+told : (t : ℕ) (c : After-with_choice-choices t) (r : ℕ) → let x = c.args in let fs = table_of x.rows.now x.prepared.now in let k = x.target.frame in
+    Settles x.enough (max x.known.best (fixing_more x.target.faults fs k x.left c.with_choice-choices.result)) r → Settles x.enough (max x.known.best (fixing_more x.target.faults fs k x.left (set x.coarser (x.fixing.group - 1) (Fixed x.fixing.alignment)))) r
+told t c r found =
+    let x = c.args in
+    subst (λ (cs : List Choice). Settles x.enough (max x.known.best (fixing_more x.target.faults (table_of x.rows.now x.prepared.now) x.target.frame x.left cs)) r) c.with_choice-choices.ensures found
+
+pub returns-then-left-eq0-clause-settles : goal.returns-then-left-eq0-clause-settles
+returns-then-left-eq0-clause-settles t c =
+    let p = c.requires.ready_2 in
+    let w = (goal.at.returns-then-left-eq0-clause-settles t c).After-with_choice-choices in
+    told t w _ (ap (min (suc c.args.enough)) (c.max_with_scenario.ensures.value ∙ ap (max c.args.known.best) (sym (rw c.if-left-eq0.true (open-end p.prepared.filled.table p.listed c.with_choice-choices.result (long t w) _)))))
+
+pub returns-in_default-clause-settles : goal.returns-in_default-clause-settles
+returns-in_default-clause-settles t c =
+    let p = c.requires.ready_2 in
+    let w = (goal.at.returns-in_default-clause-settles t c).After-with_choice-choices in
+    told t w _ (ap (min (suc c.args.enough)) (c.max_with_scenario-in_default.ensures.value ∙ ap (max c.args.known.best) (sym (open_none p.prepared.filled.table p.listed c.with_choice-choices.result (long t w) _ c.args.left (sym c.next_open-next.ensures ∙ c.in_default.is)))))
+
+-- the next group is one of the groups,
+group : (t : ℕ) (c : In-At t) → (1 ≤ c.in-At.j) × (c.in-At.j ≤ 16)
+group t c =
+    let p = c.requires.ready_2 in
+    let many : length c.with_choice-choices.result ≡ 16 = search rules in
+    open-group p.prepared.filled.table p.listed c.with_choice-choices.result many (sym c.next_open-next.ensures ∙ c.in-At.is)
+
+-- and one group less is left
+fewer : (t : ℕ) (c : In-At t) → suc (c.args.left - 1) ≡ c.args.left
+fewer t c = omega arith
+
+-- the greatest over its alignments is that with one group more
+whole : (t : ℕ) (c : In-At t) → let x = c.args in let fs = table_of x.rows.now x.prepared.now in let k = x.target.frame in
+    greatest (λ b. fixing_more x.target.faults fs k (x.left - 1) (set c.with_choice-choices.result (c.in-At.j - 1) (Fixed b))) (or_empty (first_turn fs k c.in-At.j)) ≡ fixing_more x.target.faults fs k x.left c.with_choice-choices.result
+whole t c =
+    let p = c.requires.ready_2 in
+    let many : length c.with_choice-choices.result ≡ 16 = search rules in
+    rw (fewer t c) at (open_more p.prepared.filled.table p.listed c.with_choice-choices.result many c.args.target.faults (c.args.left - 1) (sym c.next_open-next.ensures ∙ c.in-At.is))
+
+-- what the search knows it knows with one of the group's alignments
+deeper : (t : ℕ) (c : In-At t) {a most reach : ℕ} → let x = c.args in let fs = table_of x.rows.now x.prepared.now in let k = x.target.frame in let cs = set c.with_choice-choices.result (c.in-At.j - 1) (Fixed a) in
+    OwnFixed k c.with_choice-choices.result → Mem a (or_empty (alignments fs k c.in-At.j)) → Reaches x.target.faults fs k c.with_choice-choices.result most reach → OwnFixed k cs × Reaches x.target.faults fs k cs most reach
+deeper t c fixed listed left =
+    let p = c.requires.ready_2 in
+    let table = p.prepared.filled.table in
+    let next = sym c.next_open-next.ensures ∙ c.in-At.is in
+    let many : length c.with_choice-choices.result ≡ 16 = search rules in
+    (next-own table p.listed c.with_choice-choices.result many next listed refl fixed, next-reach table p.listed c.with_choice-choices.result many next listed refl fixed left)
+
+pub next_of-requires-clause-le_group : goal.next_of-requires-clause-le_group
+next_of-requires-clause-le_group t c = let n = group t c in (n.0, n.1, omega arith)
+
+-- the walk stands at its first alignment
+first : (t : ℕ) (c : After-or_zero-a t) → let x = c.args in let fs = table_of x.rows.now x.prepared.now in let k = x.target.frame in
+    Best fs k c.in-At.j (λ b. fixing_more x.target.faults fs k (x.left - 1) (set c.with_choice-choices.result (c.in-At.j - 1) (Fixed b))) x.known.best x.known.best c.or_zero-a.result
+first t c = best-first _ _ _ _ c.requires.ready_2.prepared.filled.table.valid c.next_of.result c.next_of.ensures c.or_zero-a.ensures
+
+pub is_last-asked-requires-clause-le_group : goal.is_last-asked-requires-clause-le_group
+is_last-asked-requires-clause-le_group t c =
+    let n = group t (goal.at.is_last-asked-requires-clause-le_group t c).In-At in
+    (n.0, n.1, (first t c).walk.inside)
+
+pub loop-rest-init : goal.loop-rest-init
+loop-rest-init t c =
+    (first t (goal.at.loop-rest-init t c).After-or_zero-a, omega arith, known t (goal.at.loop-rest-init t c).After-with_choice-choices, c.requires.ready_2)
+
+pub reach_now-rest-requires-clause-ready_2 : goal.reach_now-rest-requires-clause-ready_2
+reach_now-rest-requires-clause-ready_2 t c = c.loop-rest.invariant.3
+
+pub reach_now-rest-requires-clause-own_fixed : goal.reach_now-rest-requires-clause-own_fixed
+reach_now-rest-requires-clause-own_fixed t c = own t (goal.at.reach_now-rest-requires-clause-own_fixed t c).After-with_choice-choices
+
+pub reach_now-rest-requires-clause-reaches : goal.reach_now-rest-requires-clause-reaches
+reach_now-rest-requires-clause-reaches t c = c.loop-rest.invariant.2
+
+pub returns-then-rest-eq0-clause-settles : goal.returns-then-rest-eq0-clause-settles
+returns-then-rest-eq0-clause-settles t c =
+    let p = c.requires.ready_2 in
+    let w = (goal.at.returns-then-rest-eq0-clause-settles t c).After-with_choice-choices in
+    let none = reach-none _ _ _ _ (rw c.if-rest-eq0.true at c.reach_now-rest.ensures.reaches_2) in
+    let pruned = open-pruned p.prepared.filled.table p.listed c.with_choice-choices.result (long t w) (own t w) (known t w) c.args.left in
+    told t w _ (ap (min (suc c.args.enough)) (best-over _ _ _ _ c.loop-rest.invariant.0 c.loop-rest.invariant.1 (whole t (goal.at.returns-then-rest-eq0-clause-settles t c).In-At) (omega (arith, none, pruned))))
+
+pub refine-more-requires : goal.refine-more-requires
+refine-more-requires t c =
+    let w = (goal.at.refine-more-requires t c).After-with_choice-choices in
+    let i = (goal.at.refine-more-requires t c).In-At in
+    let (fixed, left) = deeper t i (own t w) c.loop-rest.invariant.0.listed c.reach_now-rest.ensures.reaches_2 in
+    (omega (arith, c.decreases, fewer t i), (c.reach_now-rest.ensures.ready, (group t i, (fixed, left))))
+
+pub returns-then-enough-more-clause-settles : goal.returns-then-enough-more-clause-settles
+returns-then-enough-more-clause-settles t c =
+    told t (goal.at.returns-then-enough-more-clause-settles t c).After-with_choice-choices _
+    (best-above _ _ _ _ c.loop-rest.invariant.0 (whole t (goal.at.returns-then-enough-more-clause-settles t c).In-At) c.refine-more.ensures.settles c.if-enough-more.true)
+
+-- what is not above `enough` is the greatest
+exact : (t : ℕ) (c : Else-enough-more t) → let x = c.args in
+    c.refine-more.result ≡ max c.loop-rest.most (fixing_more x.target.faults (table_of x.rows.now x.prepared.now) x.target.frame (x.left - 1) (set c.with_choice-choices.result (c.in-At.j - 1) (Fixed c.loop-rest.a)))
+exact t c = omega (arith, c.refine-more.ensures.settles, c.if-enough-more.false)
+
+pub overflow_add-a : goal.overflow_add-a
+overflow_add-a t c =
+    let n = group t (goal.at.overflow_add-a t c).In-At in
+    let table = c.requires.ready_2.prepared.filled.table in
+    omega (arith, c.loop-rest.invariant.0.walk.inside, table.hyper _ n.0 n.1, turn-le table.valid c.args.target.frame c.in-At.j)
+
+pub next_of-found-requires-clause-le_group : goal.next_of-found-requires-clause-le_group
+next_of-found-requires-clause-le_group t c =
+    let n = group t (goal.at.next_of-found-requires-clause-le_group t c).In-At in
+    (n.0, n.1, omega (arith, c.loop-rest.invariant.0.walk.inside))
+
+pub returns-in_default-found-clause-settles : goal.returns-in_default-found-clause-settles
+returns-in_default-found-clause-settles t c =
+    told t (goal.at.returns-in_default-found-clause-settles t c).After-with_choice-choices _ (ap (min (suc c.args.enough)) (best-end _ _ _ _ c.loop-rest.invariant.0 (exact t (goal.at.returns-in_default-found-clause-settles t c).Else-enough-more) (sym c.next_of-found.ensures ∙ c.in_default-found.is)
+      ∙ ap (max c.args.known.best) (whole t (goal.at.returns-in_default-found-clause-settles t c).In-At)))
+
+pub loop-rest-smaller : goal.loop-rest-smaller
+loop-rest-smaller t c = walk-less _ _ _ _ _ c.loop-rest.invariant.0.walk (sym c.next_of-found.ensures ∙ c.in-At-found.is)
+
+pub loop-rest-preserved : goal.loop-rest-preserved
+loop-rest-preserved t c =
+    let is = exact t (goal.at.loop-rest-preserved t c).Else-enough-more in (
+      best-more _ _ _ _ c.loop-rest.invariant.0 is c.requires.ready_2.prepared.filled.table.valid (sym c.next_of-found.ensures ∙ c.in-At-found.is),
+      omega (arith, c.loop-rest.invariant.1, is),
+      reach-more (omega (arith, is)) c.reach_now-rest.ensures.reaches_2,
+      c.refine-more.ensures.ready,
+    )
