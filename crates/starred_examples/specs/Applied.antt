@@ -9,10 +9,10 @@ use Rattle.bus_model.specs.Bus.{Transmission, Schedule, Finished, MeetsClaim}
 use Rattle.bus_model.specs.Judgement.{certifies}
 use Rattle.bus_model.specs.Valid.{Valid, Early}
 use Rattle.bus_model.specs.Worst.{RanksLast, for_group, Longest, Responds}
-use Rattle.bus_model.specs.Theory.Existence.{longest-schedule}
-use Rattle.bus_model.specs.Theory.Reached.{last-reached, last-least}
-use Rattle.bus_model.specs.Theory.LastRow.{last-row, early-of}
-use Rattle.bus_model.specs.Examples.Late.{frame-64-late, frame-64-due}
+use Rattle.bus_model.proofs.Theory.Existence.{longest-schedule}
+use Rattle.bus_model.proofs.Theory.Reached.{last-reached, last-least}
+use Rattle.bus_model.proofs.Theory.LastRow.{last-row, early-of}
+use Rattle.bus_model.proofs.Examples.Late.{frame-64-late, frame-64-due}
 use Rattle.bus_model.specs.declared.Faults.TheVariants.{Never}
 use Rattle.table_checks.specs.Frames.{standard_lengths, frames_of}
 use Rattle.table_checks.specs.Checks.{Accepted}

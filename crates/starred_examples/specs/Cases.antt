@@ -7,7 +7,7 @@ use Rattle.bus_model.specs.Frame.{row}
 use Rattle.bus_model.specs.Pattern.{of_group, pattern_releases}
 use Rattle.bus_model.specs.Bounds.{approximate_bound, precise_bound, scenario_count}
 use Rattle.bus_model.specs.Judgement.{too_many_scenarios, judge, verdict}
-use Rattle.bus_model.specs.Theory.Overload.{overloaded-judged}
+use Rattle.bus_model.proofs.Theory.Overload.{overloaded-judged}
 use Rattle.bus_model.specs.declared.Faults.TheVariants.{Never}
 use Rattle.table_checks.specs.Frames.{standard_lengths, frames_of}
 use Rattle.table_checks.specs.Refusal.{check_returns}

@@ -1,7 +1,7 @@
 -- What computing an example unfolds, in one name: a proof that says `unfolding everything` sees through the checks, the frames,
 -- the bounds and the judgement.
 use Rattle.std.specs.Prelude.{ℕ}
-use Rattle.bus_model.specs.Examples.Compute.{everything as model}
+use Rattle.bus_model.proofs.Examples.Compute.{everything as model}
 use Rattle.table_checks.specs.Columns.{between, is_length, is_identifier}
 use Rattle.table_checks.specs.Frames.{priority_of, largest_length, frame_at, frames_of}
 use Rattle.table_checks.specs.Refusal.{number_of, check_returns}

@@ -15,7 +15,8 @@ use Rattle.arith.specs.Laws.Walks.{Down, down-start, down-more, down-end}
 use Rattle.bus_model.specs.declared.Frame.{Frame}
 use Rattle.bus_model.specs.Frame.{no_frame, row}
 use Rattle.bus_model.specs.Pattern.{of_group, hyperperiod, pattern_releases}
-use Rattle.bus_model.specs.Theory.Hyperperiod.{hyper_of, join_of, hyper-more, hyper-le}
+use Rattle.bus_model.specs.Theory.Hyperperiod.{hyper_of}
+use Rattle.bus_model.proofs.Theory.Hyperperiod.{join_of, hyper-more, hyper-le}
 use Rattle.table_checks.specs.declared.Cause.TheVariants.{Hyperperiod, Releases}
 use Rattle.table_checks.specs.declared.Checked.TheVariants.{Passed}
 use Rattle.table_checks.specs.Columns.{field, columns, group_column, period_column}

@@ -11,7 +11,7 @@ use Rattle.arith.specs.declared.Found.TheVariants.{At}
 use Rattle.arith.specs.Laws.Least.{least-within}
 use Rattle.arith.specs.Laws.Walks.{keep-next, keep-found, keep-end, walk_start, walk_more, walk-less, walk_end, greatest-more, length_more}
 use Rattle.bus_model.specs.Bounds.{work_at, or_empty}
-use Rattle.bus_model.specs.Theory.Alignment.{or-empty}
+use Rattle.bus_model.proofs.Theory.Alignment.{or-empty}
 use Rattle.workload.specs.Prepared.{frames_in, table_of, is_instant, instants_in}
 use Rattle.alignment_walk.specs.Steps.{extra_demand}
 use Rattle.alignment_walk.specs.Laws.Parts.{ended_at, ended-none}

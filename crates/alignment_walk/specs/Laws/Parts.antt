@@ -17,8 +17,8 @@ use Rattle.arith.specs.declared.Found.TheVariants.{At, Nothing}
 use Rattle.bus_model.specs.declared.Frame.{Frame}
 use Rattle.bus_model.specs.Frame.{row}
 use Rattle.bus_model.specs.Bounds.{phase, is_released_at, distance, or_empty}
-use Rattle.bus_model.specs.Theory.Frames.{phase-fits}
-use Rattle.bus_model.specs.Theory.Alignment.{released-at, released-turn, distance-lt, distance-reaches}
+use Rattle.bus_model.proofs.Theory.Frames.{phase-fits}
+use Rattle.bus_model.proofs.Theory.Alignment.{released-at, released-turn, distance-lt, distance-reaches}
 use Rattle.workload.specs.Prepared.{Fine, FinePart, frames_in, table_of, is_instant, or_end}
 use Rattle.workload.specs.Laws.Fine.{of-fine}
 use Rattle.alignment_walk.specs.Steps.{next_release, wait_from}

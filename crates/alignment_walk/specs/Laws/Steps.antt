@@ -17,7 +17,7 @@ use Rattle.arith.specs.Laws.Releases.{counted, count-le, next-after}
 use Rattle.bus_model.specs.declared.Frame.{Frame}
 use Rattle.bus_model.specs.Frame.{row}
 use Rattle.bus_model.specs.Bounds.{phase, is_released_at, distance, demand, work_at}
-use Rattle.bus_model.specs.Theory.Alignment.{distance-lt}
+use Rattle.bus_model.proofs.Theory.Alignment.{distance-lt}
 use Rattle.workload.specs.Prepared.{Fine, FinePart, frames_in, table_of, is_instant}
 use Rattle.alignment_walk.specs.Steps.{next_release, wait_from, rest_of, whole_demand, extra_demand, NotesOf, Notes, Noted}
 use Rattle.workload.specs.Laws.Fine.{of-fine, part-listed}

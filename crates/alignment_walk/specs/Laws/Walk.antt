@@ -16,8 +16,9 @@ use Rattle.bus_model.specs.declared.Frame.{Frame}
 use Rattle.bus_model.specs.Valid.{Valid}
 use Rattle.bus_model.specs.Pattern.{of_group, hyperperiod}
 use Rattle.bus_model.specs.Bounds.{groups, ahead, alignments, or_empty, scenario_count}
-use Rattle.bus_model.specs.Examples.Compute.{everything}
-use Rattle.bus_model.specs.Theory.Turns.{turn, first_turn, turned-alignment}
+use Rattle.bus_model.proofs.Examples.Compute.{everything}
+use Rattle.bus_model.specs.Theory.Turns.{turn}
+use Rattle.bus_model.proofs.Theory.Turns.{first_turn, turned-alignment}
 use Rattle.workload.specs.Prepared.{is_instant, instants_in}
 use Rattle.alignment_walk.specs.Walk.{step, on_from, visits_from, visits, Rising}
 use Rattle.alignment_walk.specs.Laws.Parts.{length-or-empty}

@@ -18,15 +18,17 @@ use Rattle.bus_model.specs.Valid.{ValidFrame, Valid}
 use Rattle.bus_model.specs.Bounds.{groups, alignments, or_empty, choice_of, busy_window}
 use Rattle.bus_model.specs.Judgement.{lacks_window}
 use Rattle.bus_model.specs.Case.{shown, exceeding_instance, case_in, first_among, first_case}
-use Rattle.bus_model.specs.Theory.Frames.{group-listed}
+use Rattle.bus_model.proofs.Theory.Frames.{group-listed}
 use Rattle.bus_model.specs.Theory.Work.{RefinedBy}
-use Rattle.bus_model.specs.Theory.Judged.{has-windows}
+use Rattle.bus_model.proofs.Theory.Judged.{has-windows}
 use Rattle.bus_model.specs.Theory.Visits.{is_alignment}
 use Rattle.bus_model.specs.Theory.Refine.{free}
-use Rattle.bus_model.specs.Theory.OpenGroups.{fixing_more, free-refined, more-refined, more-window}
+use Rattle.bus_model.specs.Theory.OpenGroups.{fixing_more}
+use Rattle.bus_model.proofs.Theory.OpenGroups.{free-refined, more-refined, more-window}
 use Rattle.bus_model.specs.Theory.Turns.{turn}
-use Rattle.bus_model.specs.Theory.Cases.{in-at, in-none}
-use Rattle.bus_model.specs.Theory.FirstCase.{completions, prefix-start, prefix-more, case-start, case-last, Trying, try-first, try-take, try-last, try-next}
+use Rattle.bus_model.proofs.Theory.Cases.{in-at, in-none}
+use Rattle.bus_model.specs.Theory.FirstCase.{completions}
+use Rattle.bus_model.proofs.Theory.FirstCase.{prefix-start, prefix-more, case-start, case-last, Trying, try-first, try-take, try-last, try-next}
 use Rattle.workload.specs.Prepared.{FineTable, InTable}
 use Rattle.response_time.specs.Load.{OwnFixed}
 use Rattle.bounds.specs.Case.{LeadsTo, case_by}

@@ -30,17 +30,20 @@ use Rattle.bus_model.specs.Valid.{ValidFrame, Valid}
 use Rattle.bus_model.specs.Bounds.{groups, phase, alignments, or_empty, choice_of, own_group, scenarios, busy_window, scenario_response, approximate_bound}
 use Rattle.bus_model.specs.Levels.{level_bound}
 use Rattle.bus_model.specs.Judgement.{lacks_window, too_many_scenarios, deepest_level}
-use Rattle.bus_model.specs.Theory.Frames.{group-listed, self-ahead}
-use Rattle.bus_model.specs.Theory.Alignment.{phase-aligned, or-empty}
+use Rattle.bus_model.proofs.Theory.Frames.{group-listed, self-ahead}
+use Rattle.bus_model.proofs.Theory.Alignment.{phase-aligned, or-empty}
 use Rattle.bus_model.specs.Theory.Work.{RefinedBy}
-use Rattle.bus_model.specs.Theory.Response.{window-refine, own-distance}
-use Rattle.bus_model.specs.Theory.Levels.{last_level, level-last, deepest-last, deepest-before}
-use Rattle.bus_model.specs.Theory.Judged.{has-windows}
+use Rattle.bus_model.proofs.Theory.Response.{window-refine, own-distance}
+use Rattle.bus_model.proofs.Theory.Levels.{last_level, level-last, deepest-last, deepest-before}
+use Rattle.bus_model.proofs.Theory.Judged.{has-windows}
 use Rattle.bus_model.specs.Theory.Visits.{is_alignment}
-use Rattle.bus_model.specs.Theory.Refine.{free, set_same, own-scenarios, own-kept, refines-group}
-use Rattle.bus_model.specs.Theory.OpenGroups.{next_open, fixing_more, next-open, free_open, free-refined, more-refined, more-end, more-none, more-step, more_turn, more-pruned, more-window, approximate-more}
-use Rattle.bus_model.specs.Theory.LevelSearch.{level-found}
-use Rattle.bus_model.specs.Theory.Turns.{turn, first_turn, first-aligned, turned, turned-alignment, window-alike, alike-turn, visit-first, found-listed, first-listed}
+use Rattle.bus_model.specs.Theory.Refine.{free}
+use Rattle.bus_model.proofs.Theory.Refine.{set_same, own-scenarios, own-kept, refines-group}
+use Rattle.bus_model.specs.Theory.OpenGroups.{next_open, fixing_more}
+use Rattle.bus_model.proofs.Theory.OpenGroups.{next-open, free_open, free-refined, more-refined, more-end, more-none, more-step, more_turn, more-pruned, more-window, approximate-more}
+use Rattle.bus_model.proofs.Theory.LevelSearch.{level-found}
+use Rattle.bus_model.specs.Theory.Turns.{turn}
+use Rattle.bus_model.proofs.Theory.Turns.{first_turn, first-aligned, turned, turned-alignment, window-alike, alike-turn, visit-first, found-listed, first-listed}
 use Rattle.workload.specs.Prepared.{FineTable, frames_in, hyper_in, part_of, table_of, Prepared, InTable}
 use Rattle.alignment_walk.specs.Walk.{visits}
 use Rattle.alignment_walk.specs.Laws.Walk.{visits-factor}

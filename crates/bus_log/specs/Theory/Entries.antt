@@ -17,7 +17,7 @@ use Rattle.arith.specs.Laws.Least.{least_at, least-finds}
 use Rattle.bus_model.specs.Frame.{row}
 use Rattle.bus_model.specs.Release.{release}
 use Rattle.bus_model.specs.Bus.{Transmission, one_more, Waiting, Idle, Next}
-use Rattle.bus_model.specs.Theory.Uncut.{PlainRuns, never-plain}
+use Rattle.bus_model.proofs.Theory.Uncut.{PlainRuns, never-plain}
 use Rattle.arith.specs.declared.Found.{Found}
 use Rattle.arith.specs.declared.Found.TheVariants.{Nothing}
 use Rattle.bus_model.specs.declared.Frame.{Frame}

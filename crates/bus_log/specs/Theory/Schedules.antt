@@ -6,7 +6,7 @@ use native.Mathlib.Omega.{arith}
 use Rattle.bus_model.specs.Frame.{row}
 use Rattle.bus_model.specs.Release.{release}
 use Rattle.bus_model.specs.Bus.{Transmission, one_more, Idle, Schedule}
-use Rattle.bus_model.specs.Theory.Uncut.{PlainRuns, never-plain}
+use Rattle.bus_model.proofs.Theory.Uncut.{PlainRuns, never-plain}
 use Rattle.bus_model.specs.declared.Frame.{Frame}
 use Rattle.bus_model.specs.declared.Faults.TheVariants.{Never}
 use Rattle.table_checks.specs.Columns.{field, identifier_column, kind_column}

@@ -7,8 +7,8 @@ use Rattle.std.proofs.Common.{sym, ◌∙◌, arith}
 use mathlib.Core.List.{List, [], ◌++◌, map}
 use Rattle.bus_model.specs.Frame.{row}
 use Rattle.bus_model.specs.Bus.{Transmission, Schedule}
-use Rattle.bus_model.specs.Theory.Alike.{early}
-use Rattle.bus_model.specs.Theory.Offsets.{judge_with, offset_of}
+use Rattle.bus_model.proofs.Theory.Alike.{early}
+use Rattle.bus_model.proofs.Theory.Offsets.{judge_with, offset_of}
 use Rattle.bus_model.specs.declared.Faults.TheVariants.{Never}
 use Rattle.table_checks.specs.declared.Checked.{Checked}
 use Rattle.table_checks.specs.declared.Checked.TheVariants.{Passed, Failed}

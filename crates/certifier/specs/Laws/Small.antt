@@ -6,7 +6,7 @@ use Rattle.bus_model.specs.declared.Outcome.{Outcome}
 use Rattle.bus_model.specs.declared.Outcome.TheVariants.{CertifiedApproximate, CertifiedPrecise, ClaimTooSmall, CertifiedLevel, Undecided, NoWindow}
 use Rattle.bus_model.specs.Bounds.{window_limit}
 use Rattle.bus_model.specs.Judgement.{bound_used, margin_of, judge}
-use Rattle.bus_model.specs.Theory.Judged.{judged-le-limit}
+use Rattle.bus_model.proofs.Theory.Judged.{judged-le-limit}
 use Rattle.bus_model.specs.declared.Faults.TheVariants.{Never, Apart}
 use Rattle.table_checks.specs.Laws.Accepted.{accepted-limits, accepted-valid}
 use Rattle.row_judgement.specs.Judge.{claim_of, judge_row, judge_faults}

@@ -21,7 +21,7 @@ use Rattle.bus_model.specs.Pattern.{of_group}
 use Rattle.bus_model.specs.Valid.{Valid}
 use Rattle.bus_model.specs.Bounds.{is_ahead, ahead, alignments, or_empty, distance, demand, work_at, group_work}
 use Rattle.bus_model.specs.Theory.Turns.{turn}
-use Rattle.bus_model.specs.Theory.Stairs.{stair, most-turns}
+use Rattle.bus_model.proofs.Theory.Stairs.{stair, most-turns}
 use Rattle.workload.specs.Prepared.{Fine, FineTable, table_of, cycle_in, Prepared}
 use Rattle.greatest_work.specs.Memory.{unit, packed, group_in, low_in, high_in, work_in, is_of, widened, greatest_work, Holds, Remembered, Told}
 use Rattle.workload.specs.Laws.Fine.{member-fine}

@@ -17,7 +17,7 @@ use Rattle.arith.specs.Laws.Walks.{Down, down-start, down-more}
 use Rattle.bus_model.specs.declared.Frame.{Frame}
 use Rattle.bus_model.specs.Frame.{row}
 use Rattle.bus_model.specs.Pattern.{of_group, hyperperiod}
-use Rattle.bus_model.specs.Theory.Frames.{group-pos}
+use Rattle.bus_model.proofs.Theory.Frames.{group-pos}
 use Rattle.table_checks.specs.Columns.{field, columns, node_column, group_column, kind_column, payload_column}
 use Rattle.table_checks.specs.Frames.{frame_at, frames_of}
 use Rattle.table_checks.specs.Checks.{Loadable, Accepted}

@@ -9,7 +9,7 @@ use Rattle.arith.specs.Lists.{sum}
 use Rattle.bus_model.specs.Frame.{row}
 use Rattle.bus_model.specs.Release.{release}
 use Rattle.bus_model.specs.Bus.{Transmission, one_more, Waiting}
-use Rattle.bus_model.specs.Theory.Uncut.{PlainRuns, never-plain}
+use Rattle.bus_model.proofs.Theory.Uncut.{PlainRuns, never-plain}
 use Rattle.bus_model.specs.declared.Frame.{Frame}
 use Rattle.bus_log.specs.declared.Line.{Line}
 use Rattle.bus_log.specs.Log.{ShowsAll, last_end, IsBeginning, AcceptedLog}

@@ -24,12 +24,13 @@ use Rattle.bus_model.specs.declared.Choice.{Choice}
 use Rattle.bus_model.specs.declared.Choice.TheVariants.{Fixed}
 use Rattle.bus_model.specs.Valid.{Valid}
 use Rattle.bus_model.specs.Bounds.{window_limit, ahead, better, blocking, distance, choice_of, demand, work, fault_load, window_load, busy_window, delay_load, queueing_delay, own_distance, instance_response, response_time}
-use Rattle.bus_model.specs.Theory.Frames.{better-ahead}
-use Rattle.bus_model.specs.Theory.Work.{RefinedBy, work-mono, fault-mono, work-refine, work-own}
+use Rattle.bus_model.proofs.Theory.Frames.{better-ahead}
+use Rattle.bus_model.specs.Theory.Work.{RefinedBy}
+use Rattle.bus_model.proofs.Theory.Work.{work-mono, fault-mono, work-refine, work-own}
 use Rattle.bus_model.specs.Case.{exceeding_instance}
-use Rattle.bus_model.specs.Theory.Cases.{exceeding-is, exceeding-none}
-use Rattle.bus_model.specs.Theory.Response.{window-at, own-distance, delay-at, delay-within, response-at}
-use Rattle.bus_model.specs.Theory.Iteration.{delay-next}
+use Rattle.bus_model.proofs.Theory.Cases.{exceeding-is, exceeding-none}
+use Rattle.bus_model.proofs.Theory.Response.{window-at, own-distance, delay-at, delay-within, response-at}
+use Rattle.bus_model.proofs.Theory.Iteration.{delay-next}
 use Rattle.workload.specs.declared.Search.{Search}
 use Rattle.workload.specs.declared.Search.TheVariants.{Window, Instance}
 use Rattle.workload.specs.declared.Target.{Target}

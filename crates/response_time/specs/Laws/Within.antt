@@ -15,7 +15,7 @@ use Rattle.bus_model.specs.declared.Choice.{Choice}
 use Rattle.bus_model.specs.Bounds.{window_limit, blocking, busy_window, delay_load, own_distance, instance_response, response_time, scenario_response}
 use Rattle.bus_model.specs.Valid.{Valid}
 use Rattle.bus_model.specs.Theory.Work.{RefinedBy}
-use Rattle.bus_model.specs.Theory.Response.{response-at, delay-found}
+use Rattle.bus_model.proofs.Theory.Response.{response-at, delay-found}
 use Rattle.workload.specs.declared.Search.TheVariants.{Instance}
 use Rattle.workload.specs.declared.Target.{Target}
 use Rattle.workload.specs.Prepared.{FineTable, InTable}

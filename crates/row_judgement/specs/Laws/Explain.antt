@@ -13,7 +13,7 @@ use Rattle.bus_model.specs.Bus.{MeetsClaim}
 use Rattle.bus_model.specs.Bounds.{blocking}
 use Rattle.bus_model.specs.Judgement.{lacks_window, outcome_of, verdict, judge}
 use Rattle.bus_model.specs.Case.{no_case, first_case, case_of}
-use Rattle.bus_model.specs.Theory.Cases.{Exists, small-just-with-case, case-of-small, case-of-other}
+use Rattle.bus_model.proofs.Theory.Cases.{Exists, small-just-with-case, case-of-small, case-of-other}
 use Rattle.table_checks.specs.Columns.{columns}
 use Rattle.table_checks.specs.Frames.{frames_of}
 use Rattle.table_checks.specs.Checks.{Loadable, Accepted}

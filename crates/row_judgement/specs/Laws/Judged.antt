@@ -15,7 +15,7 @@ use Rattle.bus_model.specs.Bus.{MeetsClaim}
 use Rattle.bus_model.specs.Bounds.{approximate_bound, precise_bound}
 use Rattle.bus_model.specs.Levels.{level_bound}
 use Rattle.bus_model.specs.Judgement.{lacks_window, too_many_scenarios, deepest_level, precise_outcome, crowded_outcome, refined_outcome, windowed_outcome, outcome_of, bound_used, margin_of, judge, MarginSign}
-use Rattle.bus_model.specs.Theory.Judged.{certified-meets, margin-sign, certified-meets-under}
+use Rattle.bus_model.proofs.Theory.Judged.{certified-meets, margin-sign, certified-meets-under}
 use Rattle.bus_model.specs.Valid.{ValidFaults}
 use Rattle.table_checks.specs.declared.Checked.{Checked}
 use Rattle.table_checks.specs.declared.Checked.TheVariants.{Passed, Failed}

@@ -13,8 +13,8 @@ use Rattle.bus_model.specs.Bus.{Transmission, Schedule}
 use Rattle.bus_model.specs.Valid.{Early}
 use Rattle.bus_model.specs.Bounds.{every_group}
 use Rattle.bus_model.specs.Judgement.{too_many_scenarios, judge}
-use Rattle.bus_model.specs.Theory.Alike.{early}
-use Rattle.bus_model.specs.Theory.Offsets.{bound_with, lacks_window_with, too_many_with, judge_with, offset_of, bound-kept, lacks-kept, count_kept, judge-kept, schedules-kept}
+use Rattle.bus_model.proofs.Theory.Alike.{early}
+use Rattle.bus_model.proofs.Theory.Offsets.{bound_with, lacks_window_with, too_many_with, judge_with, offset_of, bound-kept, lacks-kept, count_kept, judge-kept, schedules-kept}
 use Rattle.table_checks.specs.declared.Checked.{Checked}
 use Rattle.table_checks.specs.declared.Checked.TheVariants.{Passed, Failed}
 use Rattle.table_checks.specs.Columns.{columns}

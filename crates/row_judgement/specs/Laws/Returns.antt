@@ -6,7 +6,7 @@ use Rattle.bus_model.specs.declared.Judgement.{Judgement}
 use Rattle.bus_model.specs.Frame.{row}
 use Rattle.bus_model.specs.Bus.{MeetsClaim}
 use Rattle.bus_model.specs.Judgement.{judge, MarginSign}
-use Rattle.bus_model.specs.Theory.Finding.{Whole, judge-whole, judgement_by, judgement-back, judge-finds}
+use Rattle.bus_model.proofs.Theory.Finding.{Whole, judge-whole, judgement_by, judgement-back, judge-finds}
 use Rattle.bus_model.specs.declared.Faults.TheVariants.{Never, Apart}
 use Rattle.table_checks.specs.declared.Checked.{Checked}
 use Rattle.table_checks.specs.declared.Checked.TheVariants.{Passed, Failed}

@@ -11,7 +11,7 @@ use Rattle.arith.specs.Laws.Tests.{by-test}
 use Rattle.arith.specs.Laws.Members.{length-range, get_d-table}
 use Rattle.bus_model.specs.Frame.{row}
 use Rattle.bus_model.specs.Pattern.{of_group, hyperperiod}
-use Rattle.bus_model.specs.Theory.Hyperperiod.{common-none, hyper-le}
+use Rattle.bus_model.proofs.Theory.Hyperperiod.{common-none, hyper-le}
 use Rattle.table_checks.specs.Frames.{frames_of}
 use Rattle.table_checks.specs.Checks.{Loadable, Accepted}
 use Rattle.table_checks.specs.Laws.Accepted.{length-frames, no_row, accepted-pattern, accepted-valid}

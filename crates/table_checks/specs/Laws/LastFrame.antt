@@ -9,8 +9,8 @@ use Rattle.bus_model.specs.Bus.{MeetsClaim}
 use Rattle.bus_model.specs.Bounds.{precise_bound}
 use Rattle.bus_model.specs.Judgement.{verdict, judge}
 use Rattle.bus_model.specs.Worst.{RanksLast, last_row, for_group, worst_starts, worst_instance, Responds}
-use Rattle.bus_model.specs.Theory.Reached.{last-reached, last-least}
-use Rattle.bus_model.specs.Theory.LastRow.{last-row}
+use Rattle.bus_model.proofs.Theory.Reached.{last-reached, last-least}
+use Rattle.bus_model.proofs.Theory.LastRow.{last-row}
 use Rattle.table_checks.specs.Columns.{columns}
 use Rattle.table_checks.specs.Frames.{frames_of}
 use Rattle.table_checks.specs.Checks.{Loadable, Accepted}

@@ -7,8 +7,8 @@ use Rattle.std.proofs.lemmas.Simd.{map-map}
 use Rattle.arith.specs.Lists.{range}
 use Rattle.arith.specs.Laws.Members.{map_same, of_range}
 use Rattle.bus_model.specs.declared.Frame.{Frame}
-use Rattle.bus_model.specs.Theory.Alike.{recast, KeepsOrder, keeps-rising}
-use Rattle.bus_model.specs.Theory.Answers.{SameAnswers, ranked-answers, answers-through}
+use Rattle.bus_model.proofs.Theory.Alike.{recast, KeepsOrder, keeps-rising}
+use Rattle.bus_model.proofs.Theory.Answers.{SameAnswers, ranked-answers, answers-through}
 use Rattle.table_checks.specs.declared.Checked.{Checked}
 use Rattle.table_checks.specs.Columns.{field, columns, identifier_column, kind_column}
 use Rattle.table_checks.specs.Frames.{priority_of, frame_at, frames_of}

@@ -28,7 +28,8 @@ use Rattle.bus_model.specs.Frame.{no_frame, row}
 use Rattle.bus_model.specs.Pattern.{of_group, hyperperiod}
 use Rattle.bus_model.specs.Bounds.{is_ahead, is_below, ahead, below, blocking, alignments, choice_of, group_work, fault_time}
 use Rattle.bus_model.specs.Theory.Visits.{is_alignment}
-use Rattle.bus_model.specs.Theory.Turns.{turn, first_turn, turn-pos, turn-le, group-work-turn}
+use Rattle.bus_model.specs.Theory.Turns.{turn}
+use Rattle.bus_model.proofs.Theory.Turns.{first_turn, turn-pos, turn-le, group-work-turn}
 use Rattle.table_checks.specs.Frames.{frames_of}
 use Rattle.workload.specs.Prepared.{Fine, FineTable, frames_in, is_instant, instants_in, first_in, count_in, cycle_in, hyper_in, part_of, table_by, table_of, ByGroup, Prepared, InTable}
 use Rattle.workload.specs.Laws.Fine.{member-fine, in-table-fine}

@@ -27,7 +27,7 @@ use Rattle.bus_model.specs.declared.Choice.TheVariants.{Fixed, Any}
 use Rattle.bus_model.specs.Frame.{no_frame, row}
 use Rattle.bus_model.specs.Pattern.{of_group}
 use Rattle.bus_model.specs.Bounds.{groups, ahead, better, alignments, choice_of, demand, work_at, group_work, work}
-use Rattle.bus_model.specs.Theory.Frames.{of-group}
+use Rattle.bus_model.proofs.Theory.Frames.{of-group}
 use Rattle.workload.specs.declared.Search.{Search}
 use Rattle.workload.specs.declared.Search.TheVariants.{Window, Instance}
 use Rattle.workload.specs.declared.Target.{Target}

@@ -23,11 +23,11 @@ use Rattle.bus_model.specs.Judgement.{lacks_window, too_many_scenarios, verdict,
 use Rattle.bus_model.specs.Case.{first_case}
 use Rattle.bus_model.specs.Worst.{last_row, all_early, worst_case, for_group, worst_starts, worst_instance, Responds}
 use Rattle.bus_model.specs.Valid.{Valid}
-use Rattle.bus_model.specs.Theory.Frames.{group-listed}
-use Rattle.bus_model.specs.Theory.Alignment.{aligned-instant}
-use Rattle.bus_model.specs.Theory.Judged.{by-outcome}
-use Rattle.bus_model.specs.Theory.Reached.{bound_some, worst-number, worst-alignment, last-reached}
-use Rattle.bus_model.specs.Theory.LastRow.{early-of}
+use Rattle.bus_model.proofs.Theory.Frames.{group-listed}
+use Rattle.bus_model.proofs.Theory.Alignment.{aligned-instant}
+use Rattle.bus_model.proofs.Theory.Judged.{by-outcome}
+use Rattle.bus_model.proofs.Theory.Reached.{bound_some, worst-number, worst-alignment, last-reached}
+use Rattle.bus_model.proofs.Theory.LastRow.{early-of}
 use Rattle.table_checks.specs.declared.Checked.{Checked}
 use Rattle.table_checks.specs.declared.Checked.TheVariants.{Passed, Failed}
 use Rattle.table_checks.specs.Columns.{columns}

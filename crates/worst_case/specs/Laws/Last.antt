@@ -11,7 +11,7 @@ use Rattle.bus_model.specs.declared.Frame.{Frame}
 use Rattle.bus_model.specs.Frame.{row}
 use Rattle.bus_model.specs.Valid.{Valid}
 use Rattle.bus_model.specs.Worst.{last_row, all_early}
-use Rattle.bus_model.specs.Theory.LastRow.{last-is, all-early, one-late}
+use Rattle.bus_model.proofs.Theory.LastRow.{last-is, all-early, one-late}
 use Rattle.worst_case.specs.Steps.{later_of, LastOf}
 
 module _ (fs : List Frame) where

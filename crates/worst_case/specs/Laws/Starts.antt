@@ -9,7 +9,7 @@ use Rattle.arith.specs.Laws.Releases.{count-le}
 use Rattle.arith.specs.Laws.Overwriting.{over, over-element, over-all}
 use Rattle.bus_model.specs.declared.Frame.{Frame}
 use Rattle.bus_model.specs.Worst.{meeting_tick, starts_of, instance_from}
-use Rattle.bus_model.specs.Theory.Reached.{start-at}
+use Rattle.bus_model.proofs.Theory.Reached.{start-at}
 
 module _ (als : List ℕ) where
   -- the greatest of the first i alignments, with which the rest makes up the whole

@@ -2,7 +2,7 @@
 use mathlib.Core.Path.{sym, ap, ◌∙◌}
 use native.Mathlib.Omega.{arith}
 use Rattle.arith.specs.Least.{is_none}
-use Rattle.bus_model.specs.Theory.Turns.{turn-le}
+use Rattle.bus_model.proofs.Theory.Turns.{turn-le}
 use Rattle.bounds.proofs.alignments.is_last.Goals as goal
 
 pub overflow_add-a : goal.overflow_add-a

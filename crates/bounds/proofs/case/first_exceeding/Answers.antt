@@ -6,7 +6,8 @@ use lib.Dec.{ltb}
 use lib.ListN.{set}
 use Rattle.bus_model.specs.declared.Choice.TheVariants.{Fixed}
 use Rattle.bus_model.specs.Theory.OpenGroups.{fixing_more}
-use Rattle.bus_model.specs.Theory.Turns.{turn, turn-le}
+use Rattle.bus_model.specs.Theory.Turns.{turn}
+use Rattle.bus_model.proofs.Theory.Turns.{turn-le}
 use Rattle.workload.specs.Prepared.{table_of}
 use Rattle.bounds.specs.Laws.Case.{tries-first, tries-inside, tries-refined, tries-take, tries-last, tries-next, tries-less}
 use Rattle.bounds.proofs.case.first_exceeding.Goals as goal

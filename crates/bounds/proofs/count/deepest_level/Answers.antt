@@ -5,7 +5,8 @@ use native.Mathlib.Numerals.{add-one}
 use lib.ListN.{length}
 use Rattle.bus_model.specs.Valid.{ValidFrame}
 use Rattle.bus_model.specs.Bounds.{alignments, or_empty}
-use Rattle.bus_model.specs.Theory.LevelSearch.{group_at, level-start, level-next, level-over, level_all}
+use Rattle.bus_model.specs.Theory.LevelSearch.{group_at}
+use Rattle.bus_model.proofs.Theory.LevelSearch.{level-start, level-next, level-over, level_all}
 use Rattle.workload.specs.Prepared.{table_of}
 use Rattle.workload.specs.Laws.Fine.{of-fine}
 use Rattle.bounds.proofs.count.deepest_level.Goals as goal

@@ -1,6 +1,6 @@
 -- The loop stands at a level that is the first or within the limit, and has its product.
 use Prim.Native.Nat.{◌-◌}
-use Rattle.bus_model.specs.Theory.LevelSearch.{AtLevel}
+use Rattle.bus_model.proofs.Theory.LevelSearch.{AtLevel}
 use Rattle.workload.specs.Prepared.{table_of}
 use Rattle.bounds.proofs.count.deepest_level.Given as goal
 

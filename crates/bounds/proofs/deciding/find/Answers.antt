@@ -4,7 +4,7 @@ use mathlib.Core.Bool.{false}
 use native.Mathlib.Omega.{arith}
 use Rattle.bus_model.specs.Bounds.{approximate_bound}
 use Rattle.bus_model.specs.Judgement.{lacks_window}
-use Rattle.bus_model.specs.Theory.Levels.{deepest-le}
+use Rattle.bus_model.proofs.Theory.Levels.{deepest-le}
 use Rattle.workload.specs.Prepared.{table_of}
 use Rattle.workload.specs.Laws.Fine.{in-table-fine}
 use Rattle.bounds.specs.Find.{bound_for}

@@ -8,7 +8,7 @@ use Rattle.bus_model.specs.declared.Choice.{Choice}
 use Rattle.bus_model.specs.declared.Choice.TheVariants.{Fixed}
 use Rattle.bus_model.specs.Bounds.{alignments, or_empty, scenario_response}
 use Rattle.bus_model.specs.Theory.OpenGroups.{fixing_more}
-use Rattle.bus_model.specs.Theory.Turns.{first_turn, turn-le}
+use Rattle.bus_model.proofs.Theory.Turns.{first_turn, turn-le}
 use Rattle.workload.specs.Prepared.{table_of}
 use Rattle.response_time.specs.Load.{OwnFixed, Reaches}
 use Rattle.response_time.specs.Laws.Within.{reach-more, reach-none}

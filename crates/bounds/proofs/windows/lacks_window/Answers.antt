@@ -2,7 +2,7 @@ use Prim.Native.Nat.{◌≤◌}
 use mathlib.Core.Path.{sym, ◌∙◌}
 use native.Mathlib.Omega.{arith}
 use Rattle.arith.specs.Laws.Walks.{walk-less}
-use Rattle.bus_model.specs.Theory.Turns.{turn-le}
+use Rattle.bus_model.proofs.Theory.Turns.{turn-le}
 use Rattle.bounds.specs.Laws.Search.{own-group, lacks-none, missing-first, missing-here, missing-more, missing-end}
 use Rattle.bounds.proofs.windows.lacks_window.Goals as goal
 use Rattle.bounds.proofs.windows.lacks_window.Goals.{Start}

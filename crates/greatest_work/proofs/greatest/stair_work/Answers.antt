@@ -4,7 +4,7 @@ use native.Mathlib.Omega.{arith}
 use borrow.Author.Rules.{rules}
 use Rattle.bus_model.specs.declared.Choice.TheVariants.{Any}
 use Rattle.bus_model.specs.Bounds.{group_work}
-use Rattle.bus_model.specs.Theory.Turns.{first-aligned}
+use Rattle.bus_model.proofs.Theory.Turns.{first-aligned}
 use Rattle.workload.specs.Laws.Fine.{group-fine}
 use Rattle.workload.specs.Laws.Groups.{cycle-small, cycle-pos, read-group, read-alignments}
 use Rattle.greatest_work.specs.Laws.Memory.{told_is, put-guess}

@@ -3,7 +3,7 @@ use Prim.Native.Nat.{◌+◌}
 use mathlib.Core.Path.{◌∙◌}
 use native.Mathlib.Omega.{arith}
 use Rattle.arith.specs.Least.{or_zero}
-use Rattle.bus_model.specs.Theory.Turns.{first-listed}
+use Rattle.bus_model.proofs.Theory.Turns.{first-listed}
 use Rattle.workload.specs.Laws.Fine.{group-fine}
 use Rattle.workload.specs.Laws.Groups.{cycle-small, read-search}
 use Rattle.greatest_work.proofs.guesses.guess.Goals as goal

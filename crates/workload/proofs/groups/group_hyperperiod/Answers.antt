@@ -3,7 +3,8 @@ use Rattle.arith.specs.Laws.Walks.{Down, down-end}
 use Rattle.bus_model.specs.declared.Frame.{Frame}
 use Rattle.bus_model.specs.Frame.{row}
 use Rattle.bus_model.specs.Pattern.{of_group}
-use Rattle.bus_model.specs.Theory.Hyperperiod.{hyper_of, common-none, hyper-more, hyper-le}
+use Rattle.bus_model.specs.Theory.Hyperperiod.{hyper_of}
+use Rattle.bus_model.proofs.Theory.Hyperperiod.{common-none, hyper-more, hyper-le}
 use Rattle.table_checks.specs.Frames.{frames_of}
 use Rattle.table_checks.specs.Laws.Accepted.{length-frames}
 use Rattle.workload.specs.Prepared.{FineTable}
