@@ -1,4 +1,4 @@
--- The walk along a group's alignments: which instants it visits. That these are the group's, each once, is in laws/Walk.
+-- The walk along a group's alignments: which instants it visits. That these are the group's, each once, is in Laws/Walk.
 use Rattle.std.specs.Prelude.{ℕ, zero, suc, ◌+◌, ◌-◌, ◌<◌}
 use mathlib.Core.List.{List, [], ◌∷◌, Memᴰ as Mem}
 use Rattle.arith.specs.Least.{least}

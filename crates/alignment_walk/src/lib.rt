@@ -200,7 +200,7 @@ pub fn best_alignment(rows: &[u32], prepared: &[u32], part: &[u32], end: u32, n:
 }
 
 // How many alignments the walk visits, an empty one counting 1: with the hyperperiod as the end, the group's factor in the number of scenarios
-// (`visits-factor`, laws/Walk).
+// (`visits-factor`, Laws/Walk).
 pub fn count_alignments(rows: &[u32], prepared: &[u32], part: &[u32], end: u32) -> u32
     requires fine_part { FinePart rows.now prepared.now part.now }
     requires end_bound { end ≤ 1000000 }

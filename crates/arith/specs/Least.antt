@@ -1,5 +1,5 @@
 -- The search for the least number that passes a test.
--- Its laws are in laws/Least.antt.
+-- Its laws are in Laws/Least.antt.
 use Rattle.std.specs.Prelude.{ℕ, zero, suc, Bool, true, false}
 use Rattle.arith.specs.declared.Found.{Found}
 use Rattle.arith.specs.declared.Found.TheVariants.{At, Nothing}

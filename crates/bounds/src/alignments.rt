@@ -45,8 +45,8 @@ pub fn next_open(k: Frame, choices: [Choice; 16]) -> Found
     Found::Nothing
 }
 
-// The first alignment of a group at or after a tick, in its first cycle: nothing new comes after it (`visits-again`, alignment_walk laws/Walk; `more_turn`,
-// bus_model theory/OpenGroups).
+// The first alignment of a group at or after a tick, in its first cycle: nothing new comes after it (`visits-again`, alignment_walk Laws/Walk; `more_turn`,
+// bus_model Theory/OpenGroups).
 pub fn next_of(rows: &[u32], prepared: &[u32], target: Target, group: usize, after: u32) -> Found
     requires prepared { Prepared rows.now prepared.now target.frame }
     requires le_group { (1 ≤ group) × (group ≤ 16) × (after ≤ turn (table_of rows.now prepared.now) target.frame group) }

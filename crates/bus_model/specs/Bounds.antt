@@ -150,11 +150,11 @@ module _ (faults : Faults) where
   delay_load fs k cs q w = blocking fs k + q * k.length + work fs k (better fs k) cs (suc w) + fault_load faults fs k (w + k.length)
 
   -- "start" of instance q of k: the least w, 0 or more, whose load is at most w; each instance of a window has one below the limit
-  -- (theory/Response.antt, delay-within)
+  -- (Theory/Response.antt, delay-within)
   unfoldable pub queueing_delay : List Frame → Frame → List Choice → ℕ → Found
   queueing_delay fs k cs q = least (λ w. leb (delay_load fs k cs q w) w) window_limit 0
 
-  -- "response" of instance q of k: w + C of k - d - q×p, which is never cut at 0 (theory/Response.antt, response-whole)
+  -- "response" of instance q of k: w + C of k - d - q×p, which is never cut at 0 (Theory/Response.antt, response-whole)
   unfoldable pub instance_response : List Frame → Frame → List Choice → ℕ → ℕ
   instance_response fs k cs q = or_zero (queueing_delay fs k cs q) + k.length - (own_distance k cs + q * k.period)
 

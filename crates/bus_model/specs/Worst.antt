@@ -1,5 +1,5 @@
 -- The last frame's worst case (document 02, request 14): the starts, the lengths and the instance with which its precise
--- bound is its response time. theory/Reached.antt proves that it is.
+-- bound is its response time. Theory/Reached.antt proves that it is.
 use Rattle.std.specs.Prelude.{ℕ, ◌+◌, ◌-◌, ◌≤◌, ◌<◌, ◌≡◌, Bool, leb, length, get_or}
 use mathlib.Core.List.{List, map, Memᴰ as Mem}
 use Rattle.arith.specs.Lists.{greatest}

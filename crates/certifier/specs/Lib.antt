@@ -1,4 +1,4 @@
--- The numbers and the listing that are answered; below `laws` what is proved of them.
+-- The numbers and the listing that are answered; in proofs/Laws what is proved of them.
 pub mod Listing
 pub mod Encode
 pub mod FrameEntry
@@ -10,4 +10,3 @@ pub mod LogEntry
 pub mod Steps
 pub mod SimulateEntry
 pub mod Reply
-pub mod Laws

@@ -1,4 +1,4 @@
--- The command's arguments and its line; below `laws` what is proved of them.
+-- The command's arguments and its line; below `Laws` what is proved of them.
 pub mod Command
 pub mod Steps
 pub mod Cases

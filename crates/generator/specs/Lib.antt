@@ -1,3 +1,3 @@
--- What the generator draws; below `laws` what is proved of it.
+-- What the generator draws; below `Laws` what is proved of it.
 pub mod Draw
 pub mod Laws

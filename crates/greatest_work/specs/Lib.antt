@@ -1,4 +1,3 @@
 -- What the code of this crate works with. The greatest work is defined in bus_model.
 pub mod Memory
 pub mod Ready
-pub mod Laws

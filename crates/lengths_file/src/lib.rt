@@ -9,7 +9,7 @@ ghost use Rattle.table_checks.specs.Refusal.{check_returns};
 ghost use Rattle.table_checks.specs.Checks.{lengths_check};
 ghost use Rattle.table_checks.specs.Returns.{lengths_returns};
 ghost use Rattle.frame_table.specs.Table.{answer_for, area_after, answer_returns, returns_for};
-ghost use Rattle.lengths_file.specs.Lengths.{lengths_file_returns, loaded as loadedFrom, text_of};
+ghost use Rattle.lengths_file.specs.Lengths.{lengths_file_returns, loaded as loaded_from, text_of};
 
 use frame_table::{Answer, no_room};
 pub use input::{check_size, lengths_end};
@@ -40,7 +40,7 @@ pub fn lengths_of(loaded: Loaded) -> [[u32; 9]; 2]
 
 // Reads lengths.
 pub fn read(file: &[u8]) -> Loaded
-    ensures value { result ≡ loadedFrom file.now }
+    ensures value { result ≡ loaded_from file.now }
     ensures in_numbers { check_returns result.checked ≡ lengths_file_returns file.now }
 {
     if text::is_text(file) {

@@ -1,4 +1,4 @@
--- What checking a log answers, and what the answer says; below `laws` what is proved of it.
+-- What checking a log answers, and what the answer says; below `Laws` what is proved of it.
 pub mod Refusal
 pub mod Check
 pub mod Verdict

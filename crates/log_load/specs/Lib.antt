@@ -1,4 +1,4 @@
--- The busiest stretch of a log, and the sheet of its rows; below `theory` what is proved of them.
+-- The busiest stretch of a log, and the sheet of its rows; below `Theory` what is proved of them.
 pub mod Busy
 pub mod Sheet
 pub mod Refusal

@@ -1,4 +1,4 @@
--- The answers as they are made of the bound that decides: they are those of Judge and of bus_model's Judgement (laws/Judged).
+-- The answers as they are made of the bound that decides: they are those of Judge and of bus_model's Judgement (Laws/Judged).
 use Rattle.std.specs.Prelude.{ℕ, cond, leb, pos, ◌-ℤ◌}
 use Rattle.bus_model.specs.declared.Outcome.{Outcome}
 use Rattle.bus_model.specs.declared.Outcome.TheVariants.{CertifiedApproximate, CertifiedPrecise, ClaimTooSmall, CertifiedLevel, Undecided, NoWindow}

@@ -1,4 +1,4 @@
--- What judging a row and computing its precise bound answer; below `laws` what is proved of it.
+-- What judging a row and computing its precise bound answer; below `Laws` what is proved of it.
 pub mod Refusal
 pub mod Judge
 pub mod Decide

@@ -16,8 +16,8 @@ use Rattle.bus_model.proofs.Examples.Late.{frame-64-late, frame-64-due}
 use Rattle.bus_model.specs.declared.Faults.TheVariants.{Never}
 use Rattle.table_checks.specs.Frames.{standard_lengths, frames_of}
 use Rattle.table_checks.specs.Checks.{Accepted}
-use Rattle.table_checks.specs.Laws.Lengths.{standard-loadable}
-use Rattle.table_checks.specs.Laws.Accepted.{accepted-valid}
+use Rattle.table_checks.proofs.Laws.Lengths.{standard-loadable}
+use Rattle.table_checks.proofs.Laws.Accepted.{accepted-valid}
 use Rattle.row_judgement.specs.declared.Judged.TheVariants.{Verdict}
 use Rattle.row_judgement.specs.Judge.{judge_checked, judge_row, certified}
 use Rattle.row_judgement.specs.Laws.Judged.{judged-meets}

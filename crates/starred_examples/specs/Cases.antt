@@ -12,9 +12,9 @@ use Rattle.bus_model.specs.declared.Faults.TheVariants.{Never}
 use Rattle.table_checks.specs.Frames.{standard_lengths, frames_of}
 use Rattle.table_checks.specs.Refusal.{check_returns}
 use Rattle.table_checks.specs.Checks.{rows_check}
-use Rattle.table_checks.specs.Laws.Lengths.{standard-loadable}
-use Rattle.table_checks.specs.Laws.Accepted.{accepted-valid}
-use Rattle.table_checks.specs.Laws.Offsets.{column_check_with, columns_check_with, line_check_with, lines_check_with, table_check_with, rows_check_with, former_limit}
+use Rattle.table_checks.proofs.Laws.Lengths.{standard-loadable}
+use Rattle.table_checks.proofs.Laws.Accepted.{accepted-valid}
+use Rattle.table_checks.proofs.Laws.Offsets.{column_check_with, columns_check_with, line_check_with, lines_check_with, table_check_with, rows_check_with, former_limit}
 use Rattle.starred_examples.specs.Compute.{everything}
 
 -- ---- the tables, row by row
@@ -55,7 +55,7 @@ pub data Case : Type 0 where
   approximate : (rows : List ℕ) (i bound : ℕ) → Case
   precise : (rows : List ℕ) (i bound : ℕ) → Case
   judged : (rows : List ℕ) (i claim number bound : ℕ) (margin : ℤ) → Case
-  count : (rows : List ℕ) (i scenarios : ℕ) (tooMany : Bool) → Case
+  count : (rows : List ℕ) (i scenarios : ℕ) (too_many : Bool) → Case
   releases : (rows : List ℕ) (j many : ℕ) → Case
   checked : (rows : List ℕ) (number place : ℕ) → Case
 

@@ -1,7 +1,7 @@
 -- Groups (document 02, request 6): document 01's whole case with a group equal to each node, and two arms that start from one pulse: in
 -- one group their frames never meet, and both claims are certified; where each starts by itself they meet, and the second is too small.
 use Rattle.std.specs.Prelude.{ℕ, ◌≡◌, refl, List, [], ◌∷◌, pos, negsuc}
-use Rattle.table_checks.specs.Laws.Ungrouped.{widened}
+use Rattle.table_checks.proofs.Laws.Ungrouped.{widened}
 use Rattle.starred_examples.specs.Compute.{everything}
 use Rattle.starred_examples.specs.Cases.{listing, Case, judged, checked, Holds, AllHold, numbers}
 

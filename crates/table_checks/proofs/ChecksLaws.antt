@@ -24,7 +24,7 @@ use Rattle.table_checks.specs.Frames.{frame_at, unmeasured}
 use Rattle.table_checks.specs.Refusal.{failed}
 use Rattle.table_checks.specs.Checks.{group_check}
 use Rattle.table_checks.specs.Steps.{Periods}
-use Rattle.table_checks.specs.Laws.Accepted.{length-frames, frame_row}
+use Rattle.table_checks.proofs.Laws.Accepted.{length-frames, frame_row}
 
 -- ---- the frames of a table, as a loop goes down through its rows
 

@@ -7,7 +7,7 @@ use Rattle.table_checks.specs.Columns.{field, columns, group_column, identifier_
 
 -- "Rank" (document 02, 5): the top 11 of a long identifier's 29 bits are compared with a short identifier, and the smaller goes first;
 -- on a tie the short frame does; among frames of one kind the smaller identifier. As one number, the smaller first: a short frame
--- stands just before the first long one that has its identifier as the top 11 bits (laws/Rank).
+-- stands just before the first long one that has its identifier as the top 11 bits (Laws/Rank).
 unfoldable pub priority_of : ℕ → ℕ → ℕ
 priority_of kind identifier = cond (eqb kind 11) (2 ^ 19 * identifier) (2 * identifier + 1)
 

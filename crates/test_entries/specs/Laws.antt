@@ -7,15 +7,15 @@ use Rattle.arith.specs.Laws.Members.{length-range, get_d-table}
 use Rattle.arith.specs.Laws.Lines.{length-lines}
 use Rattle.table_checks.specs.Columns.{columns}
 use Rattle.table_checks.specs.Checks.{lengths_check, rows_check}
-use Rattle.table_checks.specs.Laws.Accepted.{accepted-size}
+use Rattle.table_checks.proofs.Laws.Accepted.{accepted-size}
 use Rattle.frame_table.specs.Text.{fields_of, text_of}
 use Rattle.frame_table.specs.Table.{read_check, answer_for}
 use Rattle.frame_table.specs.Laws.Layout.{table-lines}
 use Rattle.frame_table.specs.Laws.RoundTrip.{text-read}
 use Rattle.lengths_file.specs.Lengths.{text_of as lengths_text_of}
-use Rattle.lengths_file.specs.Laws.Layout.{length-text}
+use Rattle.lengths_file.proofs.Laws.Layout.{length-text}
 use Rattle.certifier.specs.Steps.{Countable}
-use Rattle.certifier.specs.Laws.Answers.{countable}
+use Rattle.certifier.proofs.Laws.Answers.{countable}
 use Rattle.test_entries.specs.Lengths.{line_from}
 use Rattle.test_entries.specs.Encode.{read_answer, write_answer}
 

@@ -2,4 +2,3 @@
 pub mod Prepared
 pub mod Faults
 pub mod Placed
-pub mod Laws

@@ -1,4 +1,4 @@
--- What the operation that finds the last frame's worst case answers; below `laws` what is proved of it.
+-- What the operation that finds the last frame's worst case answers; below `Laws` what is proved of it.
 pub mod Answer
 pub mod Steps
 pub mod Laws

@@ -1,3 +1,3 @@
--- What the command prints; below `laws` what is proved of it.
+-- What the command prints; below `Laws` what is proved of it.
 pub mod Command
 pub mod Laws

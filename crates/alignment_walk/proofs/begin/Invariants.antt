@@ -2,9 +2,9 @@
 use Prim.Native.Nat.{◌-◌}
 use lib.ListN.{length}
 use Rattle.workload.specs.Prepared.{table_of}
-use Rattle.workload.specs.Laws.Fine.{SumTo}
+use Rattle.workload.proofs.Laws.Fine.{SumTo}
 use Rattle.alignment_walk.specs.Steps.{wait_from, whole_demand}
-use Rattle.alignment_walk.specs.Laws.Steps.{NotedTo, NotesTo}
+use Rattle.alignment_walk.proofs.Laws.Steps.{NotedTo, NotesTo}
 use Rattle.alignment_walk.proofs.begin.Given as goal
 
 abbrev pub invariant-loop-i : goal.invariant-loop-i

@@ -14,9 +14,9 @@ use Rattle.bus_model.specs.Bounds.{work_at, or_empty}
 use Rattle.bus_model.proofs.Theory.Alignment.{or-empty}
 use Rattle.workload.specs.Prepared.{frames_in, table_of, is_instant, instants_in}
 use Rattle.alignment_walk.specs.Steps.{extra_demand}
-use Rattle.alignment_walk.specs.Laws.Parts.{ended_at, ended-none}
-use Rattle.alignment_walk.specs.Laws.Steps.{noted-next, phase-late, work-split}
-use Rattle.alignment_walk.specs.Laws.Walk.{visits-are}
+use Rattle.alignment_walk.proofs.Laws.Parts.{ended_at, ended-none}
+use Rattle.alignment_walk.proofs.Laws.Steps.{noted-next, phase-late, work-split}
+use Rattle.alignment_walk.proofs.Laws.Walk.{visits-are}
 use Rattle.alignment_walk.proofs.best_alignment.Goals as goal
 use Rattle.alignment_walk.proofs.best_alignment.Goals.{After-visit-v, Else-end-a, Joined-work-visited, else-work-visited, then-work-visited}
 

@@ -2,7 +2,7 @@
 use Prim.Native.Nat.{◌-◌}
 use lib.ListN.{length}
 use Rattle.workload.specs.Prepared.{table_of}
-use Rattle.alignment_walk.specs.Laws.Parts.{FirstTo}
+use Rattle.alignment_walk.proofs.Laws.Parts.{FirstTo}
 use Rattle.alignment_walk.proofs.next_alignment.Given as goal
 
 abbrev pub invariant-loop-i : goal.invariant-loop-i

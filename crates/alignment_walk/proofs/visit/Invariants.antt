@@ -2,10 +2,10 @@
 use Prim.Native.Nat.{◌+◌, ◌-◌, ◌≤◌}
 use lib.ListN.{length}
 use Rattle.workload.specs.Prepared.{table_of}
-use Rattle.workload.specs.Laws.Fine.{SumTo}
+use Rattle.workload.proofs.Laws.Fine.{SumTo}
 use Rattle.alignment_walk.specs.Steps.{wait_from, extra_demand}
-use Rattle.alignment_walk.specs.Laws.Parts.{FirstTo}
-use Rattle.alignment_walk.specs.Laws.Steps.{NotedTo, NotedFrom}
+use Rattle.alignment_walk.proofs.Laws.Parts.{FirstTo}
+use Rattle.alignment_walk.proofs.Laws.Steps.{NotedTo, NotedFrom}
 use Rattle.alignment_walk.proofs.visit.Given as goal
 
 abbrev pub invariant-loop-i : goal.invariant-loop-i

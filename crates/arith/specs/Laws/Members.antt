@@ -1,5 +1,5 @@
 -- What belongs to a selection, a range, a combination; the places of a list; an element of least value; a range as a loop goes through it.
--- Membership is the library's `List-as-Memᴰ`, here `Mem`.
+-- Membership is the library's `Memᴰ`, here `Mem`.
 use Prim.Native.Nat.{ℕ, zero, suc, ◌+◌, ◌-◌, ◌≤◌, ◌<◌}
 use Rattle.std.specs.Prelude.{◌≡◌, Bool, ◌||◌, ◌&&◌, ◌⊎◌, eqb, get_or, take, drop}
 use Rattle.std.proofs.Math.Path.{refl, ap}

@@ -46,7 +46,7 @@ use Rattle.bus_model.specs.Theory.Turns.{turn}
 use Rattle.bus_model.proofs.Theory.Turns.{first_turn, first-aligned, turned, turned-alignment, window-alike, alike-turn, visit-first, found-listed, first-listed}
 use Rattle.workload.specs.Prepared.{FineTable, frames_in, hyper_in, part_of, table_of, Prepared, InTable}
 use Rattle.alignment_walk.specs.Walk.{visits}
-use Rattle.alignment_walk.specs.Laws.Walk.{visits-factor}
+use Rattle.alignment_walk.proofs.Laws.Walk.{visits-factor}
 use Rattle.response_time.specs.Load.{OwnFixed, WindowWithin, Reaches}
 use Rattle.response_time.specs.Laws.Searches.{window-small}
 use Rattle.response_time.specs.Laws.Within.{reach-finer}
@@ -162,12 +162,12 @@ module _ (fs : List Frame) (k : Frame) (j : ℕ) (f : ℕ → ℕ) where
 -- ---- windows of the approximate bound
 
 -- k's own group at alignment a, all others open
-abbrev pub field_own : Frame → ℕ → List Choice
-field_own k a = set free (k.group - 1) (Fixed a)
+abbrev pub own_at : Frame → ℕ → List Choice
+own_at k a = set free (k.group - 1) (Fixed a)
 
 -- whether there is no window then
 abbrev pub is_missing : Faults → List Frame → Frame → ℕ → Bool
-is_missing faults fs k a = is_none (busy_window faults fs k (field_own k a))
+is_missing faults fs k a = is_none (busy_window faults fs k (own_at k a))
 
 -- Of the alignments from a on one lacks a window, if one does at all.
 pub record Missing (faults : Faults) (fs : List Frame) (k : Frame) (a : ℕ) : Type 0 where
@@ -198,7 +198,7 @@ module _ {fs : List Frame} (valid : Valid fs) {n : ℕ} (inside : n < length fs)
       (λ t.
       let (cs, m, u) = of-exists _ (scenarios fs f (own_group f)) t in
       let (a, l, e) = (own-scenarios fs self).0 m in
-      let same = window-alike fs f (field_own f (a % turn fs f f.group)) (field_own f a) (alike-turn valid inside free refl f.group (group-listed self) a) faults in
+      let same = window-alike fs f (own_at f (a % turn fs f f.group)) (own_at f a) (alike-turn valid inside free refl f.group (group-listed self) a) faults in
       exists-mem (is_missing faults fs f) {x = a % turn fs f f.group} (turned valid f f.group l) (rw same (rw e at u)))
 
   row-free : (faults : Faults) {l : ℕ} → busy_window faults fs f free ≡ At l → lacks_window faults fs f ≡ false
@@ -243,11 +243,11 @@ module _ {fs : List Frame} (accepted : FineTable fs) {k : Frame} (table : InTabl
 
   module _ {faults : Faults} {a : ℕ} (m : Missing faults fs k a) where
     -- stops where one lacks,
-    pub missing-here : busy_window faults fs k (field_own k a) ≡ Nothing → true ≡ lacks_window faults fs k
+    pub missing-here : busy_window faults fs k (own_at k a) ≡ Nothing → true ≡ lacks_window faults fs k
     unfolding exists is_none
     missing-here none = rw none at m.walk.is
 
-    module _ {l : ℕ} (has : busy_window faults fs k (field_own k a) ≡ At l) where
+    module _ {l : ℕ} (has : busy_window faults fs k (own_at k a) ≡ At l) where
       goes_by : (xs : List ℕ) → (false || exists (is_missing faults fs k) (a ∷ xs)) ≡ (false || exists (is_missing faults fs k) xs)
       unfolding exists is_none
       goes_by xs = rw has

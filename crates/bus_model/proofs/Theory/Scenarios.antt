@@ -149,7 +149,6 @@ chosen-fixed fixes α j l t = scenario-choice (chosen fixes α) j l ∙ is-fixed
 
 -- Every group that the one fixes the other fixes too.
 infix 20 ◌⊆◌
-
 abbrev pub ◌⊆◌ : (ℕ → Bool) → (ℕ → Bool) → Type 0
 fixes ⊆ fixes' = (j : ℕ) → T (fixes j) → T (fixes' j)
 

@@ -2,7 +2,7 @@
 use borrow.Author.Rules.{rules}
 use Rattle.table_checks.specs.Columns.{field, identifier_column}
 use Rattle.frame_table.specs.Text.{fields_of}
-use Rattle.lengths_file.specs.Laws.Input.{ReadLengths, lengths_read, lengths-refused}
+use Rattle.lengths_file.proofs.Laws.Input.{ReadLengths, lengths_read, lengths-refused}
 use Rattle.certifier.specs.ExplainEntry.{explain_file, explain_read}
 use Rattle.explain_command.specs.Command.{text_for}
 use Rattle.explain_command.specs.Laws.Text.{text-turned}

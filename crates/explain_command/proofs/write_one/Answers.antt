@@ -4,7 +4,7 @@ use borrow.Author.Rules.{rules}
 use Rattle.table_checks.specs.declared.Checked.TheVariants.{Passed}
 use Rattle.frame_table.specs.Laws.Areas.{area-short, area-written}
 use Rattle.certifier.specs.Listing.{listing_line}
-use Rattle.certifier.specs.Laws.Listing.{length-line}
+use Rattle.certifier.proofs.Laws.Listing.{length-line}
 use Rattle.arith.specs.Laws.Overwriting.{begun-none, begun-part}
 use Rattle.explain_command.proofs.write_one.Goals as goal
 

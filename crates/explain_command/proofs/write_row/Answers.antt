@@ -5,7 +5,7 @@ use native.Mathlib.Omega.{arith}
 use borrow.Author.Rules.{rules}
 use lib.ListN.{length}
 use Rattle.table_checks.specs.Columns.{columns, most_numbers}
-use Rattle.table_checks.specs.Laws.Accepted.{accepted-size}
+use Rattle.table_checks.proofs.Laws.Accepted.{accepted-size}
 use Rattle.row_judgement.specs.declared.Explained.{Explained}
 use Rattle.row_judgement.specs.Explain.{explain_row}
 use Rattle.explain_command.specs.Laws.Text.{text-refused, text-judged, judged-inside}

@@ -17,7 +17,7 @@ use Rattle.row_judgement.specs.Refusal.{number_of}
 use Rattle.row_judgement.specs.Judge.{judge_row}
 use Rattle.row_judgement.specs.Laws.Judged.{by-judged}
 use Rattle.certifier.specs.Listing.{listing_line, refusal_line}
-use Rattle.certifier.specs.Laws.Listing.{length-line}
+use Rattle.certifier.proofs.Laws.Listing.{length-line}
 use Rattle.explain_command.specs.Command.{instance_width, instance_line, case_text, text_of}
 use Rattle.explain_command.specs.Laws.Lines.{length-instance}
 

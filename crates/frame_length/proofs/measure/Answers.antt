@@ -5,8 +5,8 @@ use mathlib.Core.Path.{◌≡◌, ap, sym, ◌∙◌}
 use borrow.Author.Tests.{le-leb}
 use Rattle.table_checks.specs.Columns.{is_identifier}
 use Rattle.frame_length.specs.FrameLength.{stuffed_part, frame_length, is_data_frame, frame_returns, measured_returns}
-use Rattle.frame_length.specs.Laws.Lengths.{refused-long}
-use Rattle.frame_length.specs.Laws.Sending.{sent-whole}
+use Rattle.frame_length.proofs.Laws.Lengths.{refused-long}
+use Rattle.frame_length.proofs.Laws.Sending.{sent-whole}
 use Rattle.frame_length.proofs.measure.Goals as goal
 
 pub returns-then-payload-gt-MOST_BYTES : goal.returns-then-payload-gt-MOST_BYTES

@@ -3,7 +3,7 @@ use borrow.Author.Tests.{eq-eqb, ne_eqb}
 use mathlib.Core.Path.{◌∙◌}
 use native.Mathlib.Omega.{arith}
 use Rattle.frame_length.specs.DataFrame.{arbitration}
-use Rattle.frame_length.specs.Laws.Sending.{sent-base, sent-extended}
+use Rattle.frame_length.proofs.Laws.Sending.{sent-base, sent-extended}
 use Rattle.frame_length.proofs.send_arbitration.Goals as goal
 
 pub returns-then-kind-eq11 : goal.returns-then-kind-eq11

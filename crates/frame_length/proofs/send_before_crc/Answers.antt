@@ -1,6 +1,6 @@
 -- `frame_length::send_before_crc` meets its contract: one field after the other.
 use mathlib.Core.Path.{◌∙◌}
-use Rattle.frame_length.specs.Laws.Sending.{sent-before}
+use Rattle.frame_length.proofs.Laws.Sending.{sent-before}
 use Rattle.frame_length.proofs.send_before_crc.Goals as goal
 
 pub returns : goal.returns

@@ -4,7 +4,7 @@ use native.Mathlib.Omega.{arith}
 use Rattle.frame_length.specs.declared.Sent.{Sent}
 use Rattle.frame_length.specs.DataFrame.{bit, bits}
 use Rattle.frame_length.specs.Steps.{send_bit, send_all}
-use Rattle.frame_length.specs.Laws.Sending.{bits-more}
+use Rattle.frame_length.proofs.Laws.Sending.{bits-more}
 use Rattle.frame_length.proofs.send_bits.Goals as goal
 
 turn : (s r : Sent) (j n : ℕ) → 0 < j → r ≡ send_bit s (bit n (j - 1)) → send_all r (bits (j - 1) n) ≡ send_all s (bits j n)

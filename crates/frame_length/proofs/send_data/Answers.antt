@@ -6,7 +6,7 @@ use lib.ListN.{length, get_or, drop, drop_of_length-le}
 use Rattle.frame_length.specs.declared.Sent.{Sent}
 use Rattle.frame_length.specs.DataFrame.{bits, data_field}
 use Rattle.frame_length.specs.Steps.{send_all}
-use Rattle.frame_length.specs.Laws.Sending.{send-append, data-more}
+use Rattle.frame_length.proofs.Laws.Sending.{send-append, data-more}
 use Rattle.frame_length.proofs.send_data.Goals as goal
 
 turn : (xs : List ℕ) (i : ℕ) (s r : Sent) → i < length xs → r ≡ send_all s (bits 8 (get_or xs i 0))

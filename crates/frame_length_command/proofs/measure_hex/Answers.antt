@@ -7,7 +7,7 @@ use native.Mathlib.Omega.{arith}
 use lib.ListN.{length, take, length-take}
 use lib.Seq.{take_at}
 use Rattle.frame_length.specs.FrameLength.{frame_returns}
-use Rattle.frame_length.specs.Laws.Lengths.{refused-long}
+use Rattle.frame_length.proofs.Laws.Lengths.{refused-long}
 use Rattle.frame_length_command.specs.Command.{payload_of}
 use Rattle.frame_length_command.specs.Laws.Digits.{length-payload}
 use Rattle.frame_length_command.proofs.measure_hex.Goals as goal

@@ -9,7 +9,7 @@ use Rattle.table_checks.specs.declared.Checked.{Checked}
 use Rattle.table_checks.specs.declared.Checked.TheVariants.{Passed}
 use Rattle.table_checks.specs.Columns.{most_lines, line_length}
 use Rattle.table_checks.specs.Checks.{file_size_check, table_check, rows_check}
-use Rattle.table_checks.specs.Laws.Sizes.{file-size, sized-check}
+use Rattle.table_checks.proofs.Laws.Sizes.{file-size, sized-check}
 use Rattle.frame_table.specs.declared.Answer.{Answer}
 use Rattle.frame_table.specs.Text.{fields_of}
 use Rattle.frame_table.specs.Table.{answer_for, area_after}

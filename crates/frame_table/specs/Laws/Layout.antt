@@ -16,7 +16,7 @@ use Rattle.decimal.specs.Laws.{length-write}
 use Rattle.table_checks.specs.Columns.{field, width_of, start_of, feed_at, line_length, columns}
 use Rattle.table_checks.specs.declared.Checked.TheVariants.{Passed}
 use Rattle.table_checks.specs.Checks.{file_size_check}
-use Rattle.table_checks.specs.Laws.Sizes.{RowsSize, file-size}
+use Rattle.table_checks.proofs.Laws.Sizes.{RowsSize, file-size}
 use Rattle.frame_table.specs.Text.{field_at, fields_from, fields_of, columns_from, line_of, lines_from, text_of}
 
 -- ---- a column

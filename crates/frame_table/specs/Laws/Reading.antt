@@ -6,7 +6,7 @@ use Rattle.table_checks.specs.declared.Checked.{Checked}
 use Rattle.table_checks.specs.declared.Checked.TheVariants.{Passed, Failed}
 use Rattle.table_checks.specs.Columns.{most_numbers}
 use Rattle.table_checks.specs.Checks.{Accepted}
-use Rattle.table_checks.specs.Laws.Accepted.{accepted-size}
+use Rattle.table_checks.proofs.Laws.Accepted.{accepted-size}
 use Rattle.frame_table.specs.declared.Answer.{Answer}
 use Rattle.frame_table.specs.declared.Answer.TheVariants.{Done, Refused}
 use Rattle.frame_table.specs.Text.{fields_of}

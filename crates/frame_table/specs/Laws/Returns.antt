@@ -5,7 +5,7 @@ use Rattle.arith.specs.Laws.Tests.{cond_map}
 use Rattle.table_checks.specs.declared.Checked.{Checked}
 use Rattle.table_checks.specs.declared.Checked.TheVariants.{Passed, Failed}
 use Rattle.table_checks.specs.Refusal.{number_of, check_returns}
-use Rattle.table_checks.specs.Laws.Returns.{number-some, cause_of, cause-back}
+use Rattle.table_checks.proofs.Laws.Returns.{number-some, cause_of, cause-back}
 use Rattle.frame_table.specs.declared.Answer.{Answer}
 use Rattle.frame_table.specs.declared.Answer.TheVariants.{Done, Refused}
 use Rattle.frame_table.specs.Table.{answer_for, area_after, Answered, answer_returns, returns_for}

@@ -18,9 +18,9 @@ use Rattle.decimal.specs.Laws.{read-write, write_read}
 use Rattle.table_checks.specs.declared.Checked.TheVariants.{Passed}
 use Rattle.table_checks.specs.Columns.{field, width_of, start_of, columns, feed_at, line_length}
 use Rattle.table_checks.specs.Checks.{unterminated, table_check, rows_check}
-use Rattle.table_checks.specs.Laws.First.{first-passed}
-use Rattle.table_checks.specs.Laws.Limits.{Limits, greatest_in, field-most, field-small, lines-each}
-use Rattle.table_checks.specs.Laws.Sizes.{FileSize, file-size, file-sized, rows-size, sized-check}
+use Rattle.table_checks.proofs.Laws.First.{first-passed}
+use Rattle.table_checks.proofs.Laws.Limits.{Limits, greatest_in, field-most, field-small, lines-each}
+use Rattle.table_checks.proofs.Laws.Sizes.{FileSize, file-size, file-sized, rows-size, sized-check}
 use Rattle.frame_table.specs.Text.{field_of, column_at, terminated, field_at, fields_from, fields_of, lines_from, text_of}
 use Rattle.frame_table.specs.Table.{read_check}
 use Rattle.frame_table.specs.Laws.Storable.{storable}

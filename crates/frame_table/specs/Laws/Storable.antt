@@ -5,8 +5,8 @@ use Rattle.table_checks.specs.declared.Checked.{Checked}
 use Rattle.table_checks.specs.declared.Checked.TheVariants.{Passed, Failed}
 use Rattle.table_checks.specs.Columns.{columns}
 use Rattle.table_checks.specs.Checks.{table_check}
-use Rattle.table_checks.specs.Laws.First.{first-passed}
-use Rattle.table_checks.specs.Laws.Limits.{field-small, lines-each}
+use Rattle.table_checks.proofs.Laws.First.{first-passed}
+use Rattle.table_checks.proofs.Laws.Limits.{field-small, lines-each}
 use Rattle.frame_table.specs.Steps.{Storable}
 
 pub storable : (t : List ℕ) → length t % columns ≡ 0 → (c : Checked) → c ≡ table_check t → Storable c t

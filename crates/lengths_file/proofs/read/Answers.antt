@@ -3,7 +3,7 @@ use mathlib.Core.Path.{◌≡◌, sym, ◌∙◌}
 use mathlib.Core.Bool.{true}
 use native.Mathlib.Omega.{arith}
 use Rattle.lengths_file.specs.Lengths.{is_text, loaded}
-use Rattle.lengths_file.specs.Laws.Reading.{text-size, loaded-told}
+use Rattle.lengths_file.proofs.Laws.Reading.{text-size, loaded-told}
 use Rattle.lengths_file.proofs.read.Goals as goal
 use Rattle.lengths_file.proofs.read.Goals.{Then-is_text}
 

@@ -4,10 +4,10 @@ use Rattle.table_checks.specs.declared.Checked.TheVariants.{Passed}
 use Rattle.table_checks.specs.Checks.{lengths_check}
 use Rattle.frame_table.specs.declared.Answer.TheVariants.{Refused}
 use Rattle.lengths_file.specs.Lengths.{text_of}
-use Rattle.table_checks.specs.Laws.Returns.{lengths-returned}
+use Rattle.table_checks.proofs.Laws.Returns.{lengths-returned}
 use Rattle.frame_table.specs.Laws.Returns.{answer-told}
 use Rattle.frame_table.specs.Laws.Areas.{area-refused, area-short, area-written}
-use Rattle.lengths_file.specs.Laws.Layout.{length-text}
+use Rattle.lengths_file.proofs.Laws.Layout.{length-text}
 use Rattle.lengths_file.proofs.write.Goals as goal
 use Rattle.lengths_file.proofs.write.Goals.{In-Passed}
 

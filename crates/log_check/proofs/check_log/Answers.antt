@@ -1,6 +1,6 @@
 -- `log_check::check_log` meets its contract: each answer is that of the definition.
 use mathlib.Core.Path.{sym, ◌∙◌}
-use Rattle.table_checks.specs.Laws.Accepted.{loaded-both}
+use Rattle.table_checks.proofs.Laws.Accepted.{loaded-both}
 use Rattle.log_check.specs.Check.{checked_answer}
 use Rattle.log_check.specs.Laws.Answer.{told}
 use Rattle.log_check.proofs.check_log.Goals as goal

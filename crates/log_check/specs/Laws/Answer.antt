@@ -8,16 +8,16 @@ use Rattle.table_checks.specs.declared.Checked.{Checked}
 use Rattle.table_checks.specs.declared.Checked.TheVariants.{Passed}
 use Rattle.table_checks.specs.Checks.{Loadable, Accepted, loaded_check}
 use Rattle.table_checks.specs.Returns.{loaded_returns}
-use Rattle.table_checks.specs.Laws.First.{first-passed}
-use Rattle.table_checks.specs.Laws.Accepted.{loaded-both}
-use Rattle.table_checks.specs.Laws.Returns.{loaded-returned}
+use Rattle.table_checks.proofs.Laws.First.{first-passed}
+use Rattle.table_checks.proofs.Laws.Accepted.{loaded-both}
+use Rattle.table_checks.proofs.Laws.Returns.{loaded-returned}
 use Rattle.frame_table.specs.Text.{fields_of}
 use Rattle.frame_table.specs.Table.{read_check}
 use Rattle.frame_table.specs.Laws.RoundTrip.{text-read}
 use Rattle.lengths_file.specs.Lengths.{lengths_file_check, lengths_of}
 use Rattle.lengths_file.specs.Input.{input_check}
-use Rattle.lengths_file.specs.Laws.Reading.{loaded-lengths}
-use Rattle.lengths_file.specs.Laws.Input.{input-returned}
+use Rattle.lengths_file.proofs.Laws.Reading.{loaded-lengths}
+use Rattle.lengths_file.proofs.Laws.Input.{input-returned}
 use Rattle.log_check.specs.declared.LogChecked.{LogChecked}
 use Rattle.log_check.specs.Check.{checked_answer, log_answer, files_answer}
 use Rattle.log_check.specs.Verdict.{Says, SaysOf}

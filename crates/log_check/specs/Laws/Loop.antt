@@ -12,7 +12,7 @@ use Rattle.bus_log.specs.declared.Entry.{Entry}
 use Rattle.bus_log.specs.declared.Progress.{Progress}
 use Rattle.bus_log.specs.declared.Followed.{Followed}
 use Rattle.bus_log.specs.Follow.{entry_of, begin, follow_line, follow, follow_log}
-use Rattle.bus_log.specs.Theory.Lines.{line-goes, line-stops}
+use Rattle.bus_log.proofs.Theory.Lines.{line-goes, line-stops}
 use Rattle.log_reader.specs.Text.{line_at}
 use Rattle.log_check.specs.Check.{is_missized, is_broken, first_broken, lines_of}
 

@@ -22,8 +22,8 @@ use Rattle.bus_log.specs.declared.Line.{Line}
 use Rattle.bus_log.specs.declared.Followed.{Followed}
 use Rattle.bus_log.specs.Log.{shown_starts}
 use Rattle.bus_log.specs.Follow.{follow_log, start_shown}
-use Rattle.bus_log.specs.Theory.Step.{of_T}
-use Rattle.bus_log.specs.Theory.Table.{followed-shortest, followed-shown, shown-known}
+use Rattle.bus_log.proofs.Theory.Step.{of_T}
+use Rattle.bus_log.proofs.Theory.Table.{followed-shortest, followed-shown, shown-known}
 use Rattle.log_reader.specs.declared.LineRead.{LineRead}
 use Rattle.log_reader.specs.declared.LineRead.TheVariants.{Read, Broken, End}
 use Rattle.log_reader.specs.Text.{Stands, line_at, read_at}

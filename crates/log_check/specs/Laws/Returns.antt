@@ -10,7 +10,7 @@ use Rattle.table_checks.specs.Frames.{frames_of}
 use Rattle.table_checks.specs.Refusal.{Returned, returned, check_returns}
 use Rattle.table_checks.specs.declared.Checked.{Checked}
 use Rattle.table_checks.specs.declared.Checked.TheVariants.{Passed, Failed}
-use Rattle.table_checks.specs.Laws.Returns.{number-some as table-number-some, number-settles as table-number-settles, number-range}
+use Rattle.table_checks.proofs.Laws.Returns.{number-some as table-number-some, number-settles as table-number-settles, number-range}
 use Rattle.bus_log.specs.Follow.{follow_log}
 use Rattle.log_check.specs.declared.Refusal.{Refusal}
 use Rattle.log_check.specs.declared.Outcome.{Outcome}

@@ -6,8 +6,8 @@ use Rattle.arith.specs.Laws.Members.{of-keep, length-keep}
 use Rattle.arith.specs.Laws.Sums.{sum_bound, greatest-le}
 use Rattle.table_checks.specs.Columns.{field, columns, identifier_column}
 use Rattle.table_checks.specs.Checks.{Accepted}
-use Rattle.table_checks.specs.Laws.Accepted.{accepted-limits}
-use Rattle.table_checks.specs.Laws.Limits.{identified-max}
+use Rattle.table_checks.proofs.Laws.Accepted.{accepted-limits}
+use Rattle.table_checks.proofs.Laws.Limits.{identified-max}
 use Rattle.bus_log.specs.declared.Line.{Line}
 use Rattle.bus_log.specs.Log.{is_named, last_end}
 use Rattle.log_check.specs.Check.{lines_of}

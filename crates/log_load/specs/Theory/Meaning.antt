@@ -8,8 +8,8 @@ use Rattle.table_checks.specs.Frames.{frames_of}
 use Rattle.table_checks.specs.Checks.{Accepted}
 use Rattle.table_checks.specs.declared.Checked.{Checked}
 use Rattle.table_checks.specs.declared.Checked.TheVariants.{Passed}
-use Rattle.table_checks.specs.Laws.First.{first-passed}
-use Rattle.table_checks.specs.Laws.Accepted.{accepted-size}
+use Rattle.table_checks.proofs.Laws.First.{first-passed}
+use Rattle.table_checks.proofs.Laws.Accepted.{accepted-size}
 use Rattle.frame_table.specs.Text.{fields_of}
 use Rattle.frame_table.specs.Table.{read_check}
 use Rattle.frame_table.specs.Laws.RoundTrip.{text-read}

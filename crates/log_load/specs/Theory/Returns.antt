@@ -4,9 +4,9 @@ use Rattle.std.proofs.Common.{sym, ap, ◌∙◌, arith}
 use borrow.Author.Tests.{ne_eqb}
 use Rattle.arith.specs.Laws.Tests.{by-test}
 use Rattle.table_checks.specs.declared.Cause.TheVariants.{OutputArea}
-use Rattle.table_checks.specs.Refusal.{number_of as tableNumberOf, returned}
+use Rattle.table_checks.specs.Refusal.{number_of as table_number_of, returned}
 use Rattle.table_checks.specs.Returns.{first_returned}
-use Rattle.table_checks.specs.Laws.Returns.{number-range, cause_of as tableCauseOf, cause-back as table-cause-back}
+use Rattle.table_checks.proofs.Laws.Returns.{number-range, cause_of as table_cause_of, cause-back as table-cause-back}
 use Rattle.frame_table.specs.Table.{Answered, returns_for}
 use Rattle.bus_log.specs.declared.Line.{Line}
 use Rattle.bus_log.specs.Log.{last_end}
@@ -14,7 +14,7 @@ use Rattle.log_check.specs.declared.Cause.TheVariants.{Table, Notation, Contradi
 use Rattle.log_check.specs.declared.Outcome.{Outcome}
 use Rattle.log_check.specs.declared.Outcome.TheVariants.{Accepted, Refused as LogRefused}
 use Rattle.log_check.specs.declared.LogChecked.{LogChecked}
-use Rattle.log_check.specs.Refusal.{number_of as logNumberOf}
+use Rattle.log_check.specs.Refusal.{number_of as log_number_of}
 use Rattle.log_check.specs.Returns.{LogReturned, outcome_returns, log_returns}
 use Rattle.log_check.specs.Laws.Returns.{number-some}
 use Rattle.log_load.specs.declared.Cause.{Cause}
@@ -31,11 +31,11 @@ use Rattle.log_load.specs.Returns.{answer_returns, width_returns, returns_after}
 module _ (rows : List ℕ) (log : List Line) (w : ℕ) (old : List ℕ) where
   room-returned : answer_returns (cond (ltb (length old) (length (sheet_of rows log w))) (refused_at (Log (Table OutputArea)) 0) (Done (length (sheet_of rows log w))))
       ≡ returns_for (returned 0 0) (sheet_of rows log w) old
-  unfolding answer_returns returns_for number_of logNumberOf tableNumberOf
+  unfolding answer_returns returns_for number_of log_number_of table_number_of
   room-returned = by-test (ltb (length old) (length (sheet_of rows log w))) (λ t. rw t) (λ f. rw f)
 
   width-returned : answer_returns (width_answer rows log w old) ≡ returns_for (width_returns w (last_end log)) (sheet_of rows log w) old
-  unfolding answer_returns width_answer width_returns returns_for number_of logNumberOf
+  unfolding answer_returns width_answer width_returns returns_for number_of log_number_of
   width-returned = by-test (is_no_width w (last_end log)) (λ t. rw t) (λ f. rw f room-returned)
 
   outcome-returned : (outcome : Outcome)
@@ -51,15 +51,15 @@ cause_of : ℕ → Cause
 cause_of n =
     cond (eqb n 20) Width
     (cond (eqb n 18) (Log Notation)
-    (cond (eqb n 19) (Log Contradiction) (Log (Table (tableCauseOf n)))))
+    (cond (eqb n 19) (Log Contradiction) (Log (Table (table_cause_of n)))))
 
 cause-back : (cause : Cause) → cause_of (number_of cause) ≡ cause
-unfolding cause_of number_of logNumberOf
+unfolding cause_of number_of log_number_of
 cause-back Width = refl
 cause-back (Log Notation) = refl
 cause-back (Log Contradiction) = refl
 cause-back (Log (Table cause)) =
-    let n : ℕ = tableNumberOf cause in
+    let n : ℕ = table_number_of cause in
     let r = number-range cause in
     rw (ne_eqb n 20 (λ e. omega arith), ne_eqb n 18 (λ e. omega arith), ne_eqb n 19 (λ e. omega arith), table-cause-back cause)
 

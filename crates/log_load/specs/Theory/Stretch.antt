@@ -14,7 +14,7 @@ use Rattle.arith.specs.Laws.Tests.{by-test, and_both}
 use Rattle.arith.specs.Laws.Members.{exists-mem, of-exists}
 use Rattle.bus_log.specs.declared.Line.{Line}
 use Rattle.bus_log.specs.Log.{end_from, last_end}
-use Rattle.bus_log.specs.Theory.Step.{of_T}
+use Rattle.bus_log.proofs.Theory.Step.{of_T}
 use Rattle.log_load.specs.Busy.{holds, is_busy, busy_at, busy_in, Busiest}
 
 -- ---- a stretch that moves on by a tick

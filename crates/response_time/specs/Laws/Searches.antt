@@ -37,9 +37,9 @@ use Rattle.workload.specs.declared.Target.{Target}
 use Rattle.workload.specs.Prepared.{FineTable, InTable}
 use Rattle.workload.specs.Faults.{cost_of, faults_in, lead_of, FineTarget}
 use Rattle.workload.specs.Placed.{Placed, placed_frames, placed_out, placed_work, AllFixed, FinePlaced}
-use Rattle.workload.specs.Laws.Fine.{in-table-fine}
-use Rattle.workload.specs.Laws.Groups.{blocking-small}
-use Rattle.workload.specs.Laws.Placed.{placed-mono, placed-both, faults-work, better-exact, ahead-exact}
+use Rattle.workload.proofs.Laws.Fine.{in-table-fine}
+use Rattle.workload.proofs.Laws.Groups.{blocking-small}
+use Rattle.workload.proofs.Laws.Placed.{placed-mono, placed-both, faults-work, better-exact, ahead-exact}
 use Rattle.response_time.specs.Load.{load_of, frame_load, holds, OwnFixed, Asked, base_of, waits_of, shift_of, placed_holds}
 
 -- ---- the search for a number that holds its load, where loads do not fall

@@ -21,10 +21,10 @@ use Rattle.workload.specs.declared.Target.{Target}
 use Rattle.workload.specs.Prepared.{FineTable, InTable}
 use Rattle.workload.specs.Faults.{cost_of, lead_of, FineTarget}
 use Rattle.workload.specs.Placed.{Placed, placed_out}
-use Rattle.workload.specs.Laws.Placed.{better-above}
+use Rattle.workload.proofs.Laws.Placed.{better-above}
 use Rattle.response_time.specs.Load.{latest_start, base_of, waits_of, WindowWithin, Shows, ShowsPlaced, ShownWithin, Reaches}
 use Rattle.response_time.specs.Laws.Searches.{placed-load, load-finer}
-use Rattle.workload.specs.Laws.Fine.{in-table-fine}
+use Rattle.workload.proofs.Laws.Fine.{in-table-fine}
 
 -- From the latest start the response is not above `best`, and it is below the window's limit.
 pub latest-start-fits : (best length released : ℕ) {latest : ℕ} → latest_start best length released ≡ At latest → (latest + length ≤ best + released) × (latest < 1000000)

@@ -18,13 +18,13 @@ use Rattle.table_checks.specs.Columns.{columns}
 use Rattle.table_checks.specs.Frames.{frames_of}
 use Rattle.table_checks.specs.Checks.{Loadable, Accepted}
 use Rattle.table_checks.specs.Returns.{loaded_returns}
-use Rattle.table_checks.specs.Laws.Accepted.{accepted-valid}
+use Rattle.table_checks.proofs.Laws.Accepted.{accepted-valid}
 use Rattle.workload.specs.declared.Target.{Target}
 use Rattle.workload.specs.Prepared.{table_of, Prepared, InTable}
 use Rattle.workload.specs.Faults.{cost_of, FineFaults}
-use Rattle.workload.specs.Laws.Groups.{target-fine}
+use Rattle.workload.proofs.Laws.Groups.{target-fine}
 use Rattle.greatest_work.specs.Ready.{Ready}
-use Rattle.greatest_work.specs.Laws.Memory.{remembers-none}
+use Rattle.greatest_work.proofs.Laws.Memory.{remembers-none}
 use Rattle.arith.specs.declared.Found.TheVariants.{At}
 use Rattle.bounds.specs.declared.Bound.{Bound}
 use Rattle.bounds.specs.Find.{bound_for}

@@ -22,7 +22,7 @@ use Rattle.table_checks.specs.declared.Checked.TheVariants.{Passed, Failed}
 use Rattle.table_checks.specs.Columns.{columns, most_numbers, claim_column}
 use Rattle.table_checks.specs.Frames.{frames_of}
 use Rattle.table_checks.specs.Checks.{loaded_check, Loadable, Accepted}
-use Rattle.table_checks.specs.Laws.Accepted.{length-frames, loaded-both, accepted-size, accepted-valid}
+use Rattle.table_checks.proofs.Laws.Accepted.{length-frames, loaded-both, accepted-size, accepted-valid}
 use Rattle.workload.specs.Faults.{FineFaults}
 use Rattle.bounds.specs.Find.{bound_for}
 use Rattle.row_judgement.specs.declared.Refusal.{Refusal}

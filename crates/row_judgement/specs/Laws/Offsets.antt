@@ -20,8 +20,8 @@ use Rattle.table_checks.specs.declared.Checked.TheVariants.{Passed, Failed}
 use Rattle.table_checks.specs.Columns.{columns}
 use Rattle.table_checks.specs.Frames.{frames_of}
 use Rattle.table_checks.specs.Checks.{loaded_check}
-use Rattle.table_checks.specs.Laws.Accepted.{length-frames}
-use Rattle.table_checks.specs.Laws.Offsets.{loaded_check_with, former_limit, EarlyRows, early-frames, loaded-kept}
+use Rattle.table_checks.proofs.Laws.Accepted.{length-frames}
+use Rattle.table_checks.proofs.Laws.Offsets.{loaded_check_with, former_limit, EarlyRows, early-frames, loaded-kept}
 use Rattle.row_judgement.specs.declared.Cause.TheVariants.{NoSuchRow, NoWindow, TooManyScenarios}
 use Rattle.row_judgement.specs.declared.Judged.{Judged}
 use Rattle.row_judgement.specs.declared.Judged.TheVariants.{Verdict, NotJudged}

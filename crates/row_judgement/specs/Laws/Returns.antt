@@ -11,10 +11,10 @@ use Rattle.bus_model.specs.declared.Faults.TheVariants.{Never, Apart}
 use Rattle.table_checks.specs.declared.Checked.{Checked}
 use Rattle.table_checks.specs.declared.Checked.TheVariants.{Passed, Failed}
 use Rattle.table_checks.specs.Frames.{frames_of}
-use Rattle.table_checks.specs.Refusal.{number_of as tableNumberOf, check_returns}
+use Rattle.table_checks.specs.Refusal.{number_of as table_number_of, check_returns}
 use Rattle.table_checks.specs.Checks.{loaded_check}
 use Rattle.table_checks.specs.Returns.{loaded_returns}
-use Rattle.table_checks.specs.Laws.Returns.{number-range as table-number-range, number-some as table-number-some, cause_of as tableCauseOf, cause-back as table-cause-back, loaded-returned}
+use Rattle.table_checks.proofs.Laws.Returns.{number-range as table-number-range, number-some as table-number-some, cause_of as table_cause_of, cause-back as table-cause-back, loaded-returned}
 use Rattle.row_judgement.specs.declared.Cause.{Cause}
 use Rattle.row_judgement.specs.declared.Cause.TheVariants.{Table, NoSuchRow, NoWindow, TooManyScenarios, GapOutside}
 use Rattle.row_judgement.specs.declared.Refusal.{Refusal}
@@ -44,12 +44,12 @@ number-some cause e = let r = number-range cause in omega arith
 -- the cause with a number: the table's, or one of these
 cause_of : ℕ → Cause
 cause_of number =
-    cond (eqb (tableNumberOf (tableCauseOf number)) number) (Table (tableCauseOf number))
+    cond (eqb (table_number_of (table_cause_of number)) number) (Table (table_cause_of number))
     (cond (eqb number 9) NoSuchRow (cond (eqb number 11) NoWindow (cond (eqb number 12) TooManyScenarios GapOutside)))
 
 cause-back : (cause : Cause) → cause_of (number_of cause) ≡ cause
-unfolding cause_of number_of tableNumberOf tableCauseOf
-cause-back (Table cause) = rw (table-cause-back cause, eq-eqb (tableNumberOf cause) _ refl)
+unfolding cause_of number_of table_number_of table_cause_of
+cause-back (Table cause) = rw (table-cause-back cause, eq-eqb (table_number_of cause) _ refl)
 cause-back NoSuchRow = refl
 cause-back NoWindow = refl
 cause-back TooManyScenarios = refl

@@ -10,7 +10,7 @@ use Rattle.table_checks.specs.declared.Checked.{Checked}
 use Rattle.table_checks.specs.declared.Checked.TheVariants.{Passed, Failed}
 use Rattle.table_checks.specs.Columns.{claim_column}
 use Rattle.table_checks.specs.Checks.{first, lengths_check, loaded_check}
-use Rattle.table_checks.specs.Laws.Ungrouped.{plain_columns, plain_field, plain_frames, plain_check, widened, widened-field, rows-widened, widened-frames, widened-check}
+use Rattle.table_checks.proofs.Laws.Ungrouped.{plain_columns, plain_field, plain_frames, plain_check, widened, widened-field, rows-widened, widened-frames, widened-check}
 use Rattle.row_judgement.specs.declared.Cause.TheVariants.{NoSuchRow}
 use Rattle.row_judgement.specs.declared.Judged.{Judged}
 use Rattle.row_judgement.specs.declared.Judged.TheVariants.{Verdict, NotJudged}

@@ -6,7 +6,7 @@ use Rattle.arith.specs.Laws.Tests.{by-test}
 use Rattle.table_checks.specs.declared.Checked.{Checked}
 use Rattle.table_checks.specs.declared.Checked.TheVariants.{Passed, Failed}
 use Rattle.table_checks.specs.Columns.{between}
-use Rattle.table_checks.specs.Laws.Returns.{number-some}
+use Rattle.table_checks.proofs.Laws.Returns.{number-some}
 use Rattle.frame_table.specs.declared.Answer.{Answer}
 use Rattle.frame_table.specs.declared.Answer.TheVariants.{Done, Refused}
 use Rattle.frame_table.specs.Table.{Answered, answer_for, area_after, answer_returns}

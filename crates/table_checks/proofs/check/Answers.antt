@@ -8,8 +8,8 @@ use lib.ListN.{length, take, length-take}
 use lib.Seq.{take-append_seam}
 use Rattle.table_checks.specs.Columns.{most_numbers}
 use Rattle.table_checks.specs.Checks.{table_check, rows_check}
-use Rattle.table_checks.specs.Laws.Sizes.{rows-size}
-use Rattle.table_checks.specs.Laws.Returns.{rows_told}
+use Rattle.table_checks.proofs.Laws.Sizes.{rows-size}
+use Rattle.table_checks.proofs.Laws.Returns.{rows_told}
 use Rattle.table_checks.proofs.check.Goals as goal
 use Rattle.table_checks.proofs.check.Goals.{In-Passed}
 

@@ -1,7 +1,7 @@
 -- `table_checks::check_loaded` meets its contract: the lengths come first.
 use mathlib.Core.Path.{sym, ◌∙◌}
 use Rattle.table_checks.specs.Checks.{loaded_check}
-use Rattle.table_checks.specs.Laws.Returns.{loaded-told}
+use Rattle.table_checks.proofs.Laws.Returns.{loaded-told}
 use Rattle.table_checks.proofs.check_loaded.Goals as goal
 
 pub returns-in_default : goal.returns-in_default

@@ -8,7 +8,7 @@ use lib.ListN.{length, take, length-take}
 use lib.Seq.{take-append_seam}
 use Rattle.bus_model.specs.Theory.Hyperperiod.{hyper_of}
 use Rattle.table_checks.specs.Frames.{unmeasured}
-use Rattle.table_checks.specs.Laws.Accepted.{accepted-size, accepted-periods, accepted-pattern}
+use Rattle.table_checks.proofs.Laws.Accepted.{accepted-size, accepted-periods, accepted-pattern}
 use Rattle.table_checks.proofs.hyperperiod.Goals as goal
 use Rattle.table_checks.proofs.hyperperiod.Goals.{After-fields-3-1}
 

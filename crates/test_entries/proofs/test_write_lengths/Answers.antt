@@ -3,7 +3,7 @@ use mathlib.Core.Path.{sym, subst, ◌∙◌}
 use borrow.Author.Rules.{rules}
 use Rattle.arith.specs.Laws.Signed.{kept}
 use Rattle.certifier.specs.Steps.{Countable}
-use Rattle.certifier.specs.Laws.Answers.{named}
+use Rattle.certifier.proofs.Laws.Answers.{named}
 use Rattle.test_entries.specs.Laws.{lengths-countable}
 use Rattle.test_entries.proofs.test_write_lengths.Goals as goal
 

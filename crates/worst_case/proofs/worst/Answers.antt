@@ -2,7 +2,7 @@
 use mathlib.Core.Path.{◌≡◌, sym, ◌∙◌}
 use Rattle.table_checks.specs.Checks.{loaded_check}
 use Rattle.table_checks.specs.declared.Checked.TheVariants.{Passed}
-use Rattle.table_checks.specs.Laws.Accepted.{loaded-both}
+use Rattle.table_checks.proofs.Laws.Accepted.{loaded-both}
 use Rattle.row_judgement.specs.Judge.{judge_row, judge_checked}
 use Rattle.worst_case.specs.Answer.{worst_checked}
 use Rattle.worst_case.specs.Laws.Answer.{worst-told, worst-refused, worst-accepted}

@@ -1,5 +1,5 @@
 -- The last row, judged, with its worst case.
-use Rattle.workload.specs.Laws.Groups.{fine-never}
+use Rattle.workload.proofs.Laws.Groups.{fine-never}
 use Rattle.worst_case.specs.Answer.{judged_last}
 use Rattle.worst_case.proofs.worst_of_rows.Goals as goal
 

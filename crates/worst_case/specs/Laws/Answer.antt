@@ -34,8 +34,8 @@ use Rattle.table_checks.specs.Columns.{columns}
 use Rattle.table_checks.specs.Frames.{frame_at, frames_of}
 use Rattle.table_checks.specs.Checks.{loaded_check, Loadable, Accepted}
 use Rattle.table_checks.specs.Returns.{loaded_returns}
-use Rattle.table_checks.specs.Laws.Accepted.{length-frames, frame_row, loaded-both, accepted-limits, accepted-pattern, accepted-valid}
-use Rattle.table_checks.specs.Laws.LastFrame.{last-listed}
+use Rattle.table_checks.proofs.Laws.Accepted.{length-frames, frame_row, loaded-both, accepted-limits, accepted-pattern, accepted-valid}
+use Rattle.table_checks.proofs.Laws.LastFrame.{last-listed}
 use Rattle.bounds.specs.declared.Bound.{Bound}
 use Rattle.bounds.specs.declared.Bound.TheVariants.{NoWindow, Approximate, Level, TooMany, Precise}
 use Rattle.bounds.specs.Find.{bound_for}

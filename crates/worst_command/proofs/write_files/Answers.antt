@@ -2,7 +2,7 @@
 use mathlib.Core.Path.{refl}
 use borrow.Author.Rules.{rules}
 use Rattle.frame_table.specs.Laws.Areas.{area-refused}
-use Rattle.lengths_file.specs.Laws.Input.{ReadLengths, lengths_read, lengths-refused}
+use Rattle.lengths_file.proofs.Laws.Input.{ReadLengths, lengths_read, lengths-refused}
 use Rattle.worst_command.proofs.write_files.Goals as goal
 use Rattle.worst_command.proofs.write_files.Goals.{After-lengths_of}
 

@@ -4,7 +4,7 @@ use native.Mathlib.Omega.{arith}
 use borrow.Author.Rules.{rules}
 use lib.ListN.{length-take, length-drop}
 use Rattle.table_checks.specs.declared.Checked.TheVariants.{Passed}
-use Rattle.workload.specs.Laws.Groups.{fine-never}
+use Rattle.workload.proofs.Laws.Groups.{fine-never}
 use Rattle.frame_table.specs.Laws.Areas.{area-short, area-written}
 use Rattle.bus_model.specs.declared.Faults.TheVariants.{Never}
 use Rattle.certifier.specs.Listing.{line_of}

@@ -6,7 +6,7 @@ use borrow.Author.Rules.{rules}
 use lib.ListN.{length, length-take, length-drop}
 use Rattle.decimal.specs.Numbered.{numbered_lines}
 use Rattle.table_checks.specs.declared.Checked.TheVariants.{Passed}
-use Rattle.workload.specs.Laws.Groups.{fine-never}
+use Rattle.workload.proofs.Laws.Groups.{fine-never}
 use Rattle.frame_table.specs.Laws.Areas.{area-short, area-written}
 use Rattle.worst_command.specs.Laws.Text.{whole, length_whole, whole-written}
 use Rattle.worst_command.proofs.write_lines_of.Goals as goal

@@ -9,7 +9,7 @@ use Rattle.decimal.specs.Decimal.{write_column}
 use Rattle.decimal.specs.Numbered.{numbered_lines}
 use Rattle.decimal.specs.Laws.{length-write, length-numbered}
 use Rattle.certifier.specs.Listing.{line_of as row_line}
-use Rattle.certifier.specs.Laws.Listing.{listing-lines}
+use Rattle.certifier.proofs.Laws.Listing.{listing-lines}
 use Rattle.worst_case.specs.declared.WorstCase.{WorstCase}
 use Rattle.worst_command.specs.Command.{response_line, worst_text}
 

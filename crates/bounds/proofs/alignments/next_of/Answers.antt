@@ -6,8 +6,8 @@ use Rattle.arith.specs.Least.{least}
 use Rattle.bus_model.specs.Theory.Visits.{is_alignment}
 use Rattle.bus_model.specs.Theory.Turns.{turn}
 use Rattle.workload.specs.Prepared.{table_of}
-use Rattle.workload.specs.Laws.Fine.{group-fine}
-use Rattle.workload.specs.Laws.Groups.{cycle-small, read-cycle, read-search}
+use Rattle.workload.proofs.Laws.Fine.{group-fine}
+use Rattle.workload.proofs.Laws.Groups.{cycle-small, read-cycle, read-search}
 use Rattle.bounds.proofs.alignments.next_of.Goals as goal
 use Rattle.bounds.proofs.alignments.next_of.Goals.{Start}
 

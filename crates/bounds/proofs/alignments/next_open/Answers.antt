@@ -3,7 +3,7 @@ use mathlib.Core.Path.{◌≡◌, refl, sym, ap, ◌∙◌}
 use native.Mathlib.Omega.{arith}
 use Rattle.arith.specs.Laws.Least.{least-here, least-end, least_skip}
 use Rattle.bus_model.specs.Theory.OpenGroups.{is_any, is_open, next_open}
-use Rattle.workload.specs.Laws.Groups.{read-choice}
+use Rattle.workload.proofs.Laws.Groups.{read-choice}
 use Rattle.bounds.proofs.alignments.next_open.Goals as goal
 use Rattle.bounds.proofs.alignments.next_open.Goals.{After-is_open, After-is_open-in-loop-j}
 

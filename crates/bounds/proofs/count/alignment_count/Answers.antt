@@ -5,7 +5,7 @@ use native.Mathlib.Omega.{arith}
 use lib.ListN.{length}
 use Rattle.bus_model.specs.Bounds.{alignments, or_empty}
 use Rattle.workload.specs.Prepared.{table_of}
-use Rattle.workload.specs.Laws.Fine.{group-fine}
+use Rattle.workload.proofs.Laws.Fine.{group-fine}
 use Rattle.bounds.specs.Laws.Search.{counted}
 use Rattle.bounds.proofs.count.alignment_count.Goals as goal
 use Rattle.bounds.proofs.count.alignment_count.Goals.{Start}

@@ -8,7 +8,7 @@ use Rattle.bus_model.specs.Bounds.{alignments, or_empty}
 use Rattle.bus_model.specs.Theory.LevelSearch.{group_at}
 use Rattle.bus_model.proofs.Theory.LevelSearch.{level-start, level-next, level-over, level_all}
 use Rattle.workload.specs.Prepared.{table_of}
-use Rattle.workload.specs.Laws.Fine.{of-fine}
+use Rattle.workload.proofs.Laws.Fine.{of-fine}
 use Rattle.bounds.proofs.count.deepest_level.Goals as goal
 use Rattle.bounds.proofs.count.deepest_level.Goals.{After-cut_product-product-in-loop-level, Start}
 

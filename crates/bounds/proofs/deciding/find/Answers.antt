@@ -6,7 +6,7 @@ use Rattle.bus_model.specs.Bounds.{approximate_bound}
 use Rattle.bus_model.specs.Judgement.{lacks_window}
 use Rattle.bus_model.proofs.Theory.Levels.{deepest-le}
 use Rattle.workload.specs.Prepared.{table_of}
-use Rattle.workload.specs.Laws.Fine.{in-table-fine}
+use Rattle.workload.proofs.Laws.Fine.{in-table-fine}
 use Rattle.bounds.specs.Find.{bound_for}
 use Rattle.bounds.specs.Laws.Search.{found-limits, by-deepest, free-start, one-fixed}
 use Rattle.bounds.proofs.deciding.find.Goals as goal

@@ -12,7 +12,7 @@ use Rattle.bus_model.specs.declared.Choice.{Choice}
 use Rattle.bus_model.specs.declared.Choice.TheVariants.{Fixed}
 use Rattle.workload.specs.Prepared.{table_of}
 use Rattle.response_time.specs.Load.{OwnFixed, Reaches}
-use Rattle.workload.specs.Laws.Fine.{in-table-fine}
+use Rattle.workload.proofs.Laws.Fine.{in-table-fine}
 use Rattle.bounds.specs.Laws.Search.{own-group, settled-test}
 use Rattle.bounds.specs.Laws.Case.{own-again, refined-window}
 use Rattle.bounds.proofs.refine.is_exceeded.Goals as goal

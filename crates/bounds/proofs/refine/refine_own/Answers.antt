@@ -10,7 +10,7 @@ use Rattle.bus_model.specs.Bounds.{phase, or_empty}
 use Rattle.bus_model.specs.Theory.OpenGroups.{fixing_more}
 use Rattle.bus_model.proofs.Theory.Turns.{first_turn, turn-le}
 use Rattle.workload.specs.Prepared.{table_of}
-use Rattle.workload.specs.Laws.Fine.{in-table-fine}
+use Rattle.workload.proofs.Laws.Fine.{in-table-fine}
 use Rattle.bounds.specs.Laws.Search.{from_more, from-end, from-above, own-group, own_first, own-next, own-set, own-limits, own-window, open_more}
 use Rattle.bounds.proofs.refine.refine_own.Goals as goal
 use Rattle.bounds.proofs.refine.refine_own.Goals.{Else-enough-most, Start}

@@ -1,6 +1,6 @@
 -- `bus_log::follow::advance` meets its contract.
 use Prim.Native.Nat.{◌<◌}
-use Rattle.bus_log.specs.Theory.Table.{any-group}
+use Rattle.bus_log.proofs.Theory.Table.{any-group}
 use Rattle.bus_log.specs.Follow.{advance}
 use Rattle.bus_log.proofs.follow.advance.Goals as goal
 use Rattle.bus_log.proofs.follow.advance.Goals.{After-frame-own}

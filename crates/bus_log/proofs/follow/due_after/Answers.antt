@@ -1,7 +1,7 @@
 -- `bus_log::follow::due_after` meets its contract.
 use borrow.Author.Tests.{eq-eqb, ne_eqb}
 use Rattle.bus_log.specs.Follow.{due_after}
-use Rattle.bus_log.specs.Theory.Table.{any-group}
+use Rattle.bus_log.proofs.Theory.Table.{any-group}
 use Rattle.bus_log.proofs.follow.due_after.Goals as goal
 
 pub returns-then-i-e : goal.returns-then-i-e

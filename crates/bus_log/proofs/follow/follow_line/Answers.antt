@@ -1,7 +1,7 @@
 -- `bus_log::follow::follow_line` meets its contract.
 use mathlib.Core.Path.{sym, ◌∙◌}
 use Rattle.bus_log.specs.Follow.{follow_line}
-use Rattle.bus_log.specs.Theory.Lines.{allowed-frame}
+use Rattle.bus_log.proofs.Theory.Lines.{allowed-frame}
 use Rattle.bus_log.proofs.follow.follow_line.Goals as goal
 
 pub advance-requires : goal.advance-requires

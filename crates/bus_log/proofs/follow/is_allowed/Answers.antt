@@ -1,9 +1,9 @@
 -- `bus_log::follow::is_allowed` meets its contract: one test after the other.
 use borrow.Author.Tests.{lt-ltb, le-ltb}
 use native.Mathlib.Omega.{arith}
-use Rattle.table_checks.specs.Laws.Accepted.{length-frames}
+use Rattle.table_checks.proofs.Laws.Accepted.{length-frames}
 use Rattle.bus_log.specs.Follow.{is_allowed}
-use Rattle.bus_log.specs.Theory.Table.{few-lines, row-group}
+use Rattle.bus_log.proofs.Theory.Table.{few-lines, row-group}
 use Rattle.bus_log.proofs.follow.is_allowed.Goals as goal
 
 pub returns-then-rows-e : goal.returns-then-rows-e

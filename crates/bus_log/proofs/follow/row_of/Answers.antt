@@ -3,7 +3,7 @@ use mathlib.Core.Path.{◌∙◌}
 use native.Mathlib.Nat.{sub-zero}
 use Rattle.arith.specs.Laws.Least.{least-end}
 use Rattle.bus_log.specs.Log.{found_or, row_of}
-use Rattle.bus_log.specs.Theory.Search.{search-stop, search-go}
+use Rattle.bus_log.proofs.Theory.Search.{search-stop, search-go}
 use Rattle.bus_log.proofs.follow.row_of.Goals as goal
 
 pub loop-i-init : goal.loop-i-init

@@ -5,9 +5,9 @@ use native.Mathlib.Omega.{arith}
 use Rattle.arith.specs.Laws.Members.{exists-stop, exists-go, exists-end}
 use Rattle.bus_model.specs.Frame.{row}
 use Rattle.table_checks.specs.Frames.{frames_of}
-use Rattle.table_checks.specs.Laws.Accepted.{length-frames}
+use Rattle.table_checks.proofs.Laws.Accepted.{length-frames}
 use Rattle.bus_log.specs.Follow.{due_of, hinders, row_hinders}
-use Rattle.bus_log.specs.Theory.Table.{few-lines, any-group}
+use Rattle.bus_log.proofs.Theory.Table.{few-lines, any-group}
 use Rattle.bus_log.proofs.follow.some_hinders.Goals as goal
 use Rattle.bus_log.proofs.follow.some_hinders.Goals.{After-does_hinder}
 

@@ -3,7 +3,7 @@ use mathlib.Core.Path.{sym, subst, ◌∙◌}
 use borrow.Author.Rules.{rules}
 use Rattle.arith.specs.Laws.Signed.{kept}
 use Rattle.certifier.specs.Steps.{Countable}
-use Rattle.certifier.specs.Laws.Answers.{sheet-countable, named}
+use Rattle.certifier.proofs.Laws.Answers.{sheet-countable, named}
 use Rattle.certifier.proofs.encode.certifier_load_sheet.Goals as goal
 
 pub encode_answer-requires : goal.encode_answer-requires

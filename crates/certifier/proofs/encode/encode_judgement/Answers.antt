@@ -7,7 +7,7 @@ use mir.Val.{to_z, of_z}
 use mir.Syntax.{w64}
 use Rattle.arith.specs.Laws.Signed.{to_z_pos}
 use Rattle.bus_model.specs.declared.Judgement.{Judgement}
-use Rattle.certifier.specs.Laws.Encoding.{verdict-max, judgement-number}
+use Rattle.certifier.proofs.Laws.Encoding.{verdict-max, judgement-number}
 use Rattle.certifier.proofs.encode.encode_judgement.Goals as goal
 use Rattle.certifier.proofs.encode.encode_judgement.Goals.{After-shifted-low}
 

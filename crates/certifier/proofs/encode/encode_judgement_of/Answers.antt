@@ -4,7 +4,7 @@ use borrow.Author.Rules.{rules}
 use Rattle.arith.specs.Laws.Signed.{kept}
 use Rattle.certifier.specs.Encode.{encode_judged}
 use Rattle.certifier.specs.Steps.{Encodable}
-use Rattle.certifier.specs.Laws.Small.{judged-encodable}
+use Rattle.certifier.proofs.Laws.Small.{judged-encodable}
 use Rattle.certifier.proofs.encode.encode_judgement_of.Goals as goal
 
 pub encode_judged-requires : goal.encode_judged-requires

@@ -7,7 +7,7 @@ use Rattle.arith.specs.Laws.Signed.{kept}
 use Rattle.row_judgement.specs.Judge.{judge_row}
 use Rattle.certifier.specs.Encode.{judge_read, encode_judged, encode_refusal}
 use Rattle.certifier.specs.Steps.{Encodable}
-use Rattle.certifier.specs.Laws.Small.{judged-encodable}
+use Rattle.certifier.proofs.Laws.Small.{judged-encodable}
 use Rattle.frame_table.specs.Laws.Reading.{ReadRows, read-refused, read-rows}
 use Rattle.certifier.proofs.encode.judge_table.Goals as goal
 use Rattle.certifier.proofs.encode.judge_table.Goals.{In-Done}

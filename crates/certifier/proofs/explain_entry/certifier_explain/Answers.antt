@@ -2,9 +2,9 @@
 use mathlib.Core.Path.{◌∙◌}
 use borrow.Author.Rules.{rules}
 use Rattle.arith.specs.Laws.Signed.{kept}
-use Rattle.lengths_file.specs.Laws.Input.{ReadLengths, lengths_read, lengths-refused}
+use Rattle.lengths_file.proofs.Laws.Input.{ReadLengths, lengths_read, lengths-refused}
 use Rattle.certifier.specs.ExplainEntry.{explain_file, explain_read}
-use Rattle.certifier.specs.Laws.ExplainEntry.{shown-refused}
+use Rattle.certifier.proofs.Laws.ExplainEntry.{shown-refused}
 use Rattle.certifier.proofs.explain_entry.certifier_explain.Goals as goal
 use Rattle.certifier.proofs.explain_entry.certifier_explain.Goals.{After-lengths_of}
 

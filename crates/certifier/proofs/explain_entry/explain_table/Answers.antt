@@ -8,8 +8,8 @@ use Rattle.row_judgement.specs.declared.Explained.{Explained}
 use Rattle.row_judgement.specs.Explain.{explain_row}
 use Rattle.certifier.specs.ExplainEntry.{explain_read}
 use Rattle.certifier.specs.Steps.{Encodable}
-use Rattle.certifier.specs.Laws.Small.{judged-encodable}
-use Rattle.certifier.specs.Laws.ExplainEntry.{shown-refused}
+use Rattle.certifier.proofs.Laws.Small.{judged-encodable}
+use Rattle.certifier.proofs.Laws.ExplainEntry.{shown-refused}
 use Rattle.certifier.proofs.explain_entry.explain_table.Goals as goal
 use Rattle.certifier.proofs.explain_entry.explain_table.Goals.{In-Done}
 

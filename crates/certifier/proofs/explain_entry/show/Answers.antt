@@ -2,7 +2,7 @@
 use mathlib.Core.Path.{◌∙◌}
 use borrow.Author.Rules.{rules}
 use Rattle.arith.specs.Laws.Signed.{kept}
-use Rattle.certifier.specs.Laws.ExplainEntry.{shown-none, shown-short, shown-all}
+use Rattle.certifier.proofs.Laws.ExplainEntry.{shown-none, shown-short, shown-all}
 use Rattle.certifier.proofs.explain_entry.show.Goals as goal
 
 pub encode_judged-requires : goal.encode_judged-requires

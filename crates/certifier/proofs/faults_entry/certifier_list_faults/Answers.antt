@@ -4,7 +4,7 @@ use borrow.Author.Rules.{rules}
 use Rattle.arith.specs.Laws.Signed.{kept}
 use Rattle.certifier.specs.LogEntry.{encode_answered}
 use Rattle.certifier.specs.Steps.{CountableListing}
-use Rattle.certifier.specs.Laws.Answers.{faults-countable}
+use Rattle.certifier.proofs.Laws.Answers.{faults-countable}
 use Rattle.certifier.proofs.faults_entry.certifier_list_faults.Goals as goal
 
 pub encode_listed-requires : goal.encode_listed-requires

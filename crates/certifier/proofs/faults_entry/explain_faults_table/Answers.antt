@@ -8,8 +8,8 @@ use Rattle.row_judgement.specs.declared.Explained.{Explained}
 use Rattle.row_judgement.specs.Explain.{explain_faults}
 use Rattle.certifier.specs.FaultsEntry.{explain_faults_read}
 use Rattle.certifier.specs.Steps.{Encodable}
-use Rattle.certifier.specs.Laws.Small.{faults-encodable}
-use Rattle.certifier.specs.Laws.ExplainEntry.{shown-refused}
+use Rattle.certifier.proofs.Laws.Small.{faults-encodable}
+use Rattle.certifier.proofs.Laws.ExplainEntry.{shown-refused}
 use Rattle.certifier.proofs.faults_entry.explain_faults_table.Goals as goal
 use Rattle.certifier.proofs.faults_entry.explain_faults_table.Goals.{In-Done}
 

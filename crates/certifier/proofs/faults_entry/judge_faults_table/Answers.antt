@@ -8,7 +8,7 @@ use Rattle.row_judgement.specs.Judge.{judge_faults}
 use Rattle.certifier.specs.Encode.{encode_judged, encode_refusal}
 use Rattle.certifier.specs.FaultsEntry.{judge_faults_read}
 use Rattle.certifier.specs.Steps.{Encodable}
-use Rattle.certifier.specs.Laws.Small.{faults-encodable}
+use Rattle.certifier.proofs.Laws.Small.{faults-encodable}
 use Rattle.frame_table.specs.Laws.Reading.{ReadRows, read-refused, read-rows}
 use Rattle.certifier.proofs.faults_entry.judge_faults_table.Goals as goal
 use Rattle.certifier.proofs.faults_entry.judge_faults_table.Goals.{In-Done}

@@ -1,7 +1,7 @@
 -- `certifier::listing::list` meets its contract: lengths that are turned back are answered with their refusal, and with others the table is listed.
 use mathlib.Core.Path.{refl}
 use Rattle.frame_table.specs.Laws.Areas.{area-refused}
-use Rattle.lengths_file.specs.Laws.Input.{ReadLengths, lengths_read, lengths-refused, input-told}
+use Rattle.lengths_file.proofs.Laws.Input.{ReadLengths, lengths_read, lengths-refused, input-told}
 use borrow.Author.Rules.{rules}
 use Rattle.certifier.proofs.listing.list.Goals as goal
 use Rattle.certifier.proofs.listing.list.Goals.{After-lengths_of}

@@ -1,7 +1,7 @@
 -- `certifier::listing::list_input` meets its contract: the two parts that are listed are those of the input.
 use Prim.Native.Nat.{ℕ}
 use mathlib.Core.List.{List}
-use Rattle.lengths_file.specs.Laws.Input.{first_part, second-part}
+use Rattle.lengths_file.proofs.Laws.Input.{first_part, second-part}
 use borrow.Author.Rules.{rules}
 use Rattle.certifier.proofs.listing.list_input.Goals as goal
 

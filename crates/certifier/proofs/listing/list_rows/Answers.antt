@@ -5,7 +5,7 @@ use borrow.Author.Rules.{rules}
 use Rattle.table_checks.specs.declared.Checked.TheVariants.{Passed}
 use Rattle.frame_table.specs.Laws.Areas.{area-short, area-written}
 use Rattle.certifier.specs.Listing.{listing_of}
-use Rattle.certifier.specs.Laws.Listing.{length-listing}
+use Rattle.certifier.proofs.Laws.Listing.{length-listing}
 use Rattle.certifier.proofs.listing.list_rows.Goals as goal
 
 pub returns-then-out-lines : goal.returns-then-out-lines

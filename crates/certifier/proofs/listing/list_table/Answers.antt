@@ -3,7 +3,7 @@ use mathlib.Core.Path.{refl}
 use borrow.Author.Rules.{rules}
 use Rattle.frame_table.specs.Laws.Areas.{area-refused}
 use Rattle.frame_table.specs.Laws.Reading.{ReadRows, read-rows, read-refused}
-use Rattle.workload.specs.Laws.Groups.{fine-never}
+use Rattle.workload.proofs.Laws.Groups.{fine-never}
 use Rattle.certifier.proofs.listing.list_table.Goals as goal
 use Rattle.certifier.proofs.listing.list_table.Goals.{In-Done}
 

@@ -3,7 +3,7 @@ use borrow.Author.Rules.{rules}
 use lib.ListN.{length-set}
 use native.Mathlib.Omega.{arith}
 use Rattle.arith.specs.Laws.Signed.{kept}
-use Rattle.certifier.specs.Laws.Listing.{line-written}
+use Rattle.certifier.proofs.Laws.Listing.{line-written}
 use Rattle.certifier.proofs.listing.write_line.Goals as goal
 
 pub shape_of-line : goal.shape_of-line

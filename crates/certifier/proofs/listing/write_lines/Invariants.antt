@@ -7,7 +7,7 @@ use lib.ListN.{length, length-take, length-drop}
 use Rattle.arith.specs.Laws.Overwriting.{over}
 use Rattle.arith.specs.Laws.Lines.{line-over, lines-over}
 use Rattle.certifier.specs.Listing.{lines_from}
-use Rattle.certifier.specs.Laws.Listing.{listing-lines}
+use Rattle.certifier.proofs.Laws.Listing.{listing-lines}
 use Rattle.certifier.proofs.listing.write_lines.Given as goal
 
 abbrev pub invariant-loop-i : goal.invariant-loop-i

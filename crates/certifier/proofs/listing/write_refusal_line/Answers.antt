@@ -5,7 +5,7 @@ use lib.ListN.{length-set}
 use Rattle.table_checks.specs.declared.Checked.TheVariants.{Passed}
 use Rattle.frame_table.specs.Laws.Areas.{area-short, area-written}
 use Rattle.certifier.specs.Listing.{refusal_line}
-use Rattle.certifier.specs.Laws.Listing.{length-refusal, refusal-written}
+use Rattle.certifier.proofs.Laws.Listing.{length-refusal, refusal-written}
 use Rattle.certifier.proofs.listing.write_refusal_line.Goals as goal
 
 pub returns-then-out-lt-REFUSAL_LINE : goal.returns-then-out-lt-REFUSAL_LINE

@@ -2,7 +2,7 @@
 use mathlib.Core.Path.{ap, ◌∙◌}
 use native.Mathlib.Omega.{arith}
 use borrow.Author.Rules.{rules}
-use Rattle.table_checks.specs.Laws.Accepted.{length-frames}
+use Rattle.table_checks.proofs.Laws.Accepted.{length-frames}
 use Rattle.certifier.specs.Listing.{listing_line, line_of}
 use Rattle.certifier.proofs.listing.write_row.Goals as goal
 

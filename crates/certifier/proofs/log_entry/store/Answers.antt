@@ -2,7 +2,7 @@
 use borrow.Author.Rules.{rules}
 use mathlib.Core.Path.{◌∙◌}
 use Rattle.arith.specs.Laws.Signed.{kept}
-use Rattle.certifier.specs.Laws.LogEntry.{stored-not, stored-shown}
+use Rattle.certifier.proofs.Laws.LogEntry.{stored-not, stored-shown}
 use Rattle.certifier.proofs.log_entry.store.Goals as goal
 
 pub returns-in-Refused : goal.returns-in-Refused

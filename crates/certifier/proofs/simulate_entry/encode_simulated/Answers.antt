@@ -5,7 +5,7 @@ use Rattle.arith.specs.Laws.Signed.{kept}
 use Rattle.simulator.specs.Simulate.{simulated_returns}
 use Rattle.certifier.specs.LogEntry.{encode_answered}
 use Rattle.certifier.specs.SimulateEntry.{CountableLog}
-use Rattle.certifier.specs.Laws.SimulateEntry.{answer-encoded}
+use Rattle.certifier.proofs.Laws.SimulateEntry.{answer-encoded}
 use Rattle.certifier.proofs.simulate_entry.encode_simulated.Goals as goal
 
 pub encode_answer-requires : goal.encode_answer-requires

@@ -2,9 +2,9 @@
 use mathlib.Core.Path.{◌∙◌}
 use borrow.Author.Rules.{rules}
 use Rattle.arith.specs.Laws.Signed.{kept}
-use Rattle.lengths_file.specs.Laws.Input.{ReadLengths, lengths_read, lengths-refused}
+use Rattle.lengths_file.proofs.Laws.Input.{ReadLengths, lengths_read, lengths-refused}
 use Rattle.certifier.specs.WorstEntry.{worst_file, worst_read}
-use Rattle.certifier.specs.Laws.WorstEntry.{last-refused}
+use Rattle.certifier.proofs.Laws.WorstEntry.{last-refused}
 use Rattle.certifier.proofs.worst_entry.certifier_worst.Goals as goal
 use Rattle.certifier.proofs.worst_entry.certifier_worst.Goals.{After-lengths_of}
 

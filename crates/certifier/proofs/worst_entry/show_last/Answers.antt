@@ -2,7 +2,7 @@
 use mathlib.Core.Path.{◌∙◌}
 use borrow.Author.Rules.{rules}
 use Rattle.arith.specs.Laws.Signed.{kept}
-use Rattle.certifier.specs.Laws.WorstEntry.{last_none, last-short, last-all}
+use Rattle.certifier.proofs.Laws.WorstEntry.{last_none, last-short, last-all}
 use Rattle.certifier.proofs.worst_entry.show_last.Goals as goal
 
 pub encode_judged-requires : goal.encode_judged-requires

@@ -8,8 +8,8 @@ use Rattle.worst_case.specs.declared.LastFrame.{LastFrame}
 use Rattle.worst_case.specs.Answer.{worst_of}
 use Rattle.certifier.specs.WorstEntry.{worst_read}
 use Rattle.certifier.specs.Steps.{Encodable}
-use Rattle.certifier.specs.Laws.Small.{judged-encodable}
-use Rattle.certifier.specs.Laws.WorstEntry.{last-refused}
+use Rattle.certifier.proofs.Laws.Small.{judged-encodable}
+use Rattle.certifier.proofs.Laws.WorstEntry.{last-refused}
 use Rattle.certifier.proofs.worst_entry.worst_table.Goals as goal
 use Rattle.certifier.proofs.worst_entry.worst_table.Goals.{In-Done}
 

@@ -4,7 +4,7 @@ use mathlib.Core.List.{[], ◌∷◌, ◌++◌}
 use native.Mathlib.Omega.{arith}
 use borrow.Author.Rules.{rules}
 use lib.ListN.{length, length-append, length-set}
-use Rattle.certifier.specs.Laws.WorstEntry.{response-behind}
+use Rattle.certifier.proofs.Laws.WorstEntry.{response-behind}
 use Rattle.certifier.proofs.worst_entry.write_worst.Goals as goal
 use Rattle.certifier.proofs.worst_entry.write_worst.Goals.{Start}
 

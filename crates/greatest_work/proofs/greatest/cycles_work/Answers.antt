@@ -3,8 +3,8 @@ use Prim.Native.Nat.{◌*◌, ◌≤◌}
 use mathlib.Core.Path.{sym}
 use native.Mathlib.Omega.{arith}
 use native.Mathlib.Nat.{mul-le-mul, zero-mul}
-use Rattle.workload.specs.Laws.Fine.{group-fine}
-use Rattle.workload.specs.Laws.Groups.{cycle-small, read-frames, read-cycle}
+use Rattle.workload.proofs.Laws.Fine.{group-fine}
+use Rattle.workload.proofs.Laws.Groups.{cycle-small, read-frames, read-cycle}
 use Rattle.greatest_work.proofs.greatest.cycles_work.Goals as goal
 
 pub returns-then-cycles-eq0 : goal.returns-then-cycles-eq0

@@ -1,8 +1,8 @@
 -- By the choice: a fixed alignment has its work at once, and else it is the greatest that is remembered or looked for.
 use Rattle.bus_model.specs.declared.Choice.TheVariants.{Fixed}
 use Rattle.bus_model.specs.Bounds.{group_work}
-use Rattle.workload.specs.Laws.Fine.{group-fine}
-use Rattle.workload.specs.Laws.Groups.{read-group}
+use Rattle.workload.proofs.Laws.Fine.{group-fine}
+use Rattle.workload.proofs.Laws.Groups.{read-group}
 use Rattle.greatest_work.proofs.greatest.group_work.Goals as goal
 
 pub part_of-requires : goal.part_of-requires

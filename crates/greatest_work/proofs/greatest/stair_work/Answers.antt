@@ -5,9 +5,9 @@ use borrow.Author.Rules.{rules}
 use Rattle.bus_model.specs.declared.Choice.TheVariants.{Any}
 use Rattle.bus_model.specs.Bounds.{group_work}
 use Rattle.bus_model.proofs.Theory.Turns.{first-aligned}
-use Rattle.workload.specs.Laws.Fine.{group-fine}
-use Rattle.workload.specs.Laws.Groups.{cycle-small, cycle-pos, read-group, read-alignments}
-use Rattle.greatest_work.specs.Laws.Memory.{told_is, put-guess}
+use Rattle.workload.proofs.Laws.Fine.{group-fine}
+use Rattle.workload.proofs.Laws.Groups.{cycle-small, cycle-pos, read-group, read-alignments}
+use Rattle.greatest_work.proofs.Laws.Memory.{told_is, put-guess}
 use Rattle.greatest_work.proofs.greatest.stair_work.Goals as goal
 
 pub cycle_of-cycle-requires : goal.cycle_of-cycle-requires

@@ -7,7 +7,7 @@ use Rattle.arith.specs.Laws.Walks.{count-more, count-end, sum_more}
 use Rattle.bus_model.specs.Pattern.{of_group}
 use Rattle.bus_model.specs.Bounds.{work, ahead, alignments, choice_of, group_work}
 use Rattle.workload.specs.Prepared.{table_of}
-use Rattle.workload.specs.Laws.Groups.{read-choice}
+use Rattle.workload.proofs.Laws.Groups.{read-choice}
 use Rattle.greatest_work.proofs.greatest.whole_work.Goals as goal
 
 pub loop-j-init : goal.loop-j-init

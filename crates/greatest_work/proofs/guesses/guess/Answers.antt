@@ -4,8 +4,8 @@ use mathlib.Core.Path.{◌∙◌}
 use native.Mathlib.Omega.{arith}
 use Rattle.arith.specs.Least.{or_zero}
 use Rattle.bus_model.proofs.Theory.Turns.{first-listed}
-use Rattle.workload.specs.Laws.Fine.{group-fine}
-use Rattle.workload.specs.Laws.Groups.{cycle-small, read-search}
+use Rattle.workload.proofs.Laws.Fine.{group-fine}
+use Rattle.workload.proofs.Laws.Groups.{cycle-small, read-search}
 use Rattle.greatest_work.proofs.guesses.guess.Goals as goal
 
 pub bounds-memory-j : goal.bounds-memory-j

@@ -1,7 +1,7 @@
 -- The invariant has the choices of the groups done.
 use Prim.Native.Nat.{◌-◌}
 use Rattle.workload.specs.Prepared.{table_of}
-use Rattle.greatest_work.specs.Laws.Guesses.{AllowedTo}
+use Rattle.greatest_work.proofs.Laws.Guesses.{AllowedTo}
 use Rattle.greatest_work.proofs.guesses.guessed.Given as goal
 
 abbrev pub invariant-loop-j : goal.invariant-loop-j

@@ -3,7 +3,7 @@ use mathlib.Core.Path.{◌≡◌, sym, ◌∙◌}
 use native.Mathlib.Omega.{arith}
 use native.Mathlib.Nat.{le_refl}
 use lib.ListN.{get_or}
-use Rattle.greatest_work.specs.Laws.Memory.{holds-packed, holds-widened, put-stair}
+use Rattle.greatest_work.proofs.Laws.Memory.{holds-packed, holds-widened, put-stair}
 use Rattle.greatest_work.proofs.stairs.insert.Goals as goal
 
 pub returns-then-work-ge-UNIT : goal.returns-then-work-ge-UNIT

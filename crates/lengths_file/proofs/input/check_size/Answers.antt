@@ -5,8 +5,8 @@ use native.Mathlib.Omega.{arith}
 use Rattle.table_checks.specs.Checks.{file_size_check}
 use Rattle.lengths_file.specs.Lengths.{lengths_file_check}
 use Rattle.lengths_file.specs.Input.{lengths_part, size_check}
-use Rattle.lengths_file.specs.Laws.Reading.{loaded-checked}
-use Rattle.lengths_file.specs.Laws.Input.{first_part, size-told}
+use Rattle.lengths_file.proofs.Laws.Reading.{loaded-checked}
+use Rattle.lengths_file.proofs.Laws.Input.{first_part, size-told}
 use Rattle.lengths_file.proofs.input.check_size.Goals as goal
 use Rattle.lengths_file.proofs.input.check_size.Goals.{After-read-loaded}
 

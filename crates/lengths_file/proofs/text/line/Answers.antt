@@ -2,7 +2,7 @@ use mathlib.Core.Path.{refl, sym, ◌∙◌}
 use mathlib.Core.List.{append-nil}
 use borrow.Author.Rules.{rules}
 use Rattle.arith.specs.Laws.Overwriting.{over-element, over-all}
-use Rattle.lengths_file.specs.Laws.Reading.{length-numbers, number_at}
+use Rattle.lengths_file.proofs.Laws.Reading.{length-numbers, number_at}
 use Rattle.lengths_file.proofs.text.line.Goals as goal
 
 pub loop-s-init : goal.loop-s-init

@@ -2,7 +2,7 @@
 use mathlib.Core.Path.{sym, ap, ◌∙◌}
 use native.Mathlib.Omega.{arith}
 use Rattle.lengths_file.specs.Lengths.{number_in}
-use Rattle.lengths_file.specs.Laws.Reading.{column-below}
+use Rattle.lengths_file.proofs.Laws.Reading.{column-below}
 use Rattle.lengths_file.proofs.text.number.Goals as goal
 
 pub overflow_cast-result : goal.overflow_cast-result

@@ -9,7 +9,7 @@ use Rattle.arith.specs.Laws.Overwriting.{over-part, over-element, over-all}
 use Rattle.decimal.specs.Decimal.{write_column}
 use Rattle.table_checks.specs.Frames.{length_at}
 use Rattle.lengths_file.specs.Lengths.{column_text, line_text}
-use Rattle.lengths_file.specs.Laws.Layout.{length-line, line-column, line-feed}
+use Rattle.lengths_file.proofs.Laws.Layout.{length-line, line-column, line-feed}
 use Rattle.lengths_file.proofs.text.write_line.Goals as goal
 
 -- the number in its column

@@ -4,7 +4,7 @@ use borrow.Author.Rules.{rules}
 use lib.ListN.{length-take, length-drop}
 use Rattle.arith.specs.Laws.Lines.{line-over, lines-over}
 use Rattle.lengths_file.specs.Lengths.{text_of}
-use Rattle.lengths_file.specs.Laws.Layout.{lines}
+use Rattle.lengths_file.proofs.Laws.Layout.{lines}
 use Rattle.lengths_file.proofs.text.write_lines.Goals as goal
 
 pub loop-k-init : goal.loop-k-init

@@ -4,7 +4,7 @@ use mathlib.Core.Path.{◌≡◌}
 use lib.ListN.{length}
 use Rattle.arith.specs.Laws.Overwriting.{over}
 use Rattle.lengths_file.specs.Lengths.{line_text}
-use Rattle.lengths_file.specs.Laws.Layout.{joined}
+use Rattle.lengths_file.proofs.Laws.Layout.{joined}
 use Rattle.lengths_file.proofs.text.write_lines.Given as goal
 
 abbrev pub invariant-loop-k : goal.invariant-loop-k

@@ -1,5 +1,5 @@
 use borrow.Author.Rules.{rules}
-use Rattle.load_sheet.specs.Laws.Loads.{group-first, group-here, group-later, group-none}
+use Rattle.load_sheet.proofs.Laws.Loads.{group-first, group-here, group-later, group-none}
 use Rattle.load_sheet.proofs.loads.group_of.Goals as goal
 
 pub loop-i-init : goal.loop-i-init

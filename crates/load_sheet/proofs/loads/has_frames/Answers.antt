@@ -1,5 +1,5 @@
 use borrow.Author.Rules.{rules}
-use Rattle.load_sheet.specs.Laws.Loads.{decides-first, found_here, found-later, found_none}
+use Rattle.load_sheet.proofs.Laws.Loads.{decides-first, found_here, found-later, found_none}
 use Rattle.load_sheet.proofs.loads.has_frames.Goals as goal
 
 pub loop-i-init : goal.loop-i-init

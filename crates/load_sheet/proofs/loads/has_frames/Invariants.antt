@@ -2,7 +2,7 @@
 use Prim.Native.Nat.{◌-◌, ◌/◌, ◌≤◌}
 use lib.ListN.{length}
 use Rattle.table_checks.specs.Columns.{columns}
-use Rattle.load_sheet.specs.Laws.Loads.{Decides}
+use Rattle.load_sheet.proofs.Laws.Loads.{Decides}
 use Rattle.load_sheet.proofs.loads.has_frames.Given as goal
 
 abbrev pub invariant-loop-i : goal.invariant-loop-i

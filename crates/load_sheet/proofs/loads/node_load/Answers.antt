@@ -4,9 +4,9 @@ use mathlib.Core.Path.{◌≡◌, sym, ◌∙◌}
 use native.Mathlib.Omega.{arith}
 use Rattle.bus_model.specs.Pattern.{of_group, hyperperiod}
 use Rattle.table_checks.specs.Frames.{frames_of}
-use Rattle.table_checks.specs.Laws.Accepted.{hyper-same}
+use Rattle.table_checks.proofs.Laws.Accepted.{hyper-same}
 use Rattle.load_sheet.specs.Sheet.{group_of, node_load}
-use Rattle.load_sheet.specs.Laws.Loads.{group-limits, divisor-limits, load_is}
+use Rattle.load_sheet.proofs.Laws.Loads.{group-limits, divisor-limits, load_is}
 use Rattle.load_sheet.proofs.loads.node_load.Goals as goal
 use Rattle.load_sheet.proofs.loads.node_load.Goals.{After-hyperperiod-divisor}
 

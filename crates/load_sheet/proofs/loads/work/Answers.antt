@@ -5,9 +5,9 @@ use borrow.Author.Rules.{rules}
 use lib.ListN.{length}
 use Rattle.arith.specs.Laws.Walks.{down-end}
 use Rattle.table_checks.specs.Columns.{columns}
-use Rattle.table_checks.specs.Laws.Accepted.{frame_row, accepted-size}
+use Rattle.table_checks.proofs.Laws.Accepted.{frame_row, accepted-size}
 use Rattle.load_sheet.specs.Sheet.{node_frames, rows_of}
-use Rattle.load_sheet.specs.Laws.Loads.{frame-limits, work_none, work-more}
+use Rattle.load_sheet.proofs.Laws.Loads.{frame-limits, work_none, work-more}
 use Rattle.load_sheet.proofs.loads.work.Goals as goal
 
 pub loop-i-init : goal.loop-i-init

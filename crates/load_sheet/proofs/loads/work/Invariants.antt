@@ -4,7 +4,7 @@ use lib.ListN.{length}
 use Rattle.arith.specs.Lists.{range}
 use Rattle.arith.specs.Laws.Walks.{Down}
 use Rattle.table_checks.specs.Columns.{columns}
-use Rattle.load_sheet.specs.Laws.Loads.{work_of}
+use Rattle.load_sheet.proofs.Laws.Loads.{work_of}
 use Rattle.load_sheet.proofs.loads.work.Given as goal
 
 abbrev pub invariant-loop-i : goal.invariant-loop-i

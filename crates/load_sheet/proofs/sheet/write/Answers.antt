@@ -3,7 +3,7 @@ use mathlib.Core.Path.{refl}
 use Rattle.frame_table.specs.Laws.Areas.{area-refused}
 use Rattle.frame_table.specs.Text.{fields_of}
 use Rattle.lengths_file.specs.Lengths.{lengths_of}
-use Rattle.lengths_file.specs.Laws.Input.{ReadLengths, lengths_read, lengths-refused, input-told}
+use Rattle.lengths_file.proofs.Laws.Input.{ReadLengths, lengths_read, lengths-refused, input-told}
 use Rattle.load_sheet.specs.Sheet.{sheet_of}
 use Rattle.load_sheet.proofs.sheet.write.Goals as goal
 use Rattle.load_sheet.proofs.sheet.write.Goals.{After-lengths_of}

@@ -1,7 +1,7 @@
 -- `load_sheet::sheet::write_last` meets its contract: the two columns and the line feed fill the line.
 use borrow.Author.Rules.{rules}
 use lib.ListN.{length-set}
-use Rattle.load_sheet.specs.Laws.Lines.{last_written}
+use Rattle.load_sheet.proofs.Laws.Lines.{last_written}
 use Rattle.load_sheet.proofs.sheet.write_last.Goals as goal
 
 pub shape_of-line : goal.shape_of-line

@@ -1,7 +1,7 @@
 -- `load_sheet::sheet::write_line` meets its contract: the four columns and the line feed fill the line.
 use borrow.Author.Rules.{rules}
 use lib.ListN.{length-set}
-use Rattle.load_sheet.specs.Laws.Lines.{line-written}
+use Rattle.load_sheet.proofs.Laws.Lines.{line-written}
 use Rattle.load_sheet.proofs.sheet.write_line.Goals as goal
 
 pub shape_of-line : goal.shape_of-line

@@ -2,7 +2,7 @@ use mathlib.Core.Path.{refl}
 use native.Mathlib.Omega.{arith}
 use borrow.Author.Rules.{rules}
 use lib.ListN.{length-take, length-drop}
-use Rattle.load_sheet.specs.Laws.Lines.{written_none, written-more, written_all}
+use Rattle.load_sheet.proofs.Laws.Lines.{written_none, written-more, written_all}
 use Rattle.load_sheet.proofs.sheet.write_lines.Goals as goal
 
 pub loop-i-init : goal.loop-i-init

@@ -3,7 +3,7 @@ use Prim.Native.Nat.{◌-◌}
 use mathlib.Core.Path.{◌≡◌}
 use lib.ListN.{length}
 use Rattle.load_sheet.specs.Sheet.{node_load}
-use Rattle.load_sheet.specs.Laws.Lines.{Written}
+use Rattle.load_sheet.proofs.Laws.Lines.{Written}
 use Rattle.load_sheet.proofs.sheet.write_lines.Given as goal
 
 abbrev pub invariant-loop-i : goal.invariant-loop-i

@@ -5,7 +5,7 @@ use lib.ListN.{length}
 use Rattle.table_checks.specs.declared.Checked.TheVariants.{Passed}
 use Rattle.frame_table.specs.Laws.Areas.{area-short, area-written}
 use Rattle.load_sheet.specs.Sheet.{sheet_of}
-use Rattle.load_sheet.specs.Laws.Lines.{nodes-of, length-sheet, sheet-written}
+use Rattle.load_sheet.proofs.Laws.Lines.{nodes-of, length-sheet, sheet-written}
 use Rattle.load_sheet.proofs.sheet.write_rows.Goals as goal
 
 pub returns-then-out-end : goal.returns-then-out-end

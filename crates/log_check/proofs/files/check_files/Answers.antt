@@ -1,5 +1,5 @@
 -- `log_check::files::check_files` meets its contract: lengths that are turned back are answered with their refusal, and with others the table is read.
-use Rattle.lengths_file.specs.Laws.Input.{ReadLengths, lengths_read, lengths-refused}
+use Rattle.lengths_file.proofs.Laws.Input.{ReadLengths, lengths_read, lengths-refused}
 use Rattle.log_check.specs.Check.{checked_answer, files_answer}
 use Rattle.log_check.specs.Laws.Answer.{files-told}
 use Rattle.log_check.proofs.files.check_files.Goals as goal

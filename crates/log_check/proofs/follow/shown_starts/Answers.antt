@@ -2,7 +2,7 @@ use borrow.Author.Rules.{rules}
 use mathlib.Core.Path.{refl, ◌∙◌}
 use lib.ListN.{length-set}
 use Rattle.bus_log.specs.Follow.{start_shown}
-use Rattle.bus_log.specs.Theory.Filled.{fill_more, fill-all}
+use Rattle.bus_log.proofs.Theory.Filled.{fill_more, fill-all}
 use Rattle.log_check.specs.Laws.Loop.{by_place}
 use Rattle.log_check.proofs.follow.shown_starts.Goals as goal
 

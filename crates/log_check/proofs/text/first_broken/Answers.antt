@@ -2,7 +2,7 @@ use borrow.Author.Rules.{rules}
 use mathlib.Core.Path.{sym, ◌∙◌}
 use native.Mathlib.Nat.{sub-zero}
 use Rattle.arith.specs.Laws.Least.{least-end}
-use Rattle.bus_log.specs.Theory.Search.{search-stop, search-go}
+use Rattle.bus_log.proofs.Theory.Search.{search-stop, search-go}
 use Rattle.log_check.specs.Check.{first_broken}
 use Rattle.log_check.proofs.text.first_broken.Goals as goal
 

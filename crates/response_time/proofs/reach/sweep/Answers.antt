@@ -4,7 +4,7 @@ use native.Mathlib.Omega.{arith}
 use native.Mathlib.Nat.{sub-zero, le-mul_of_pos_right}
 use borrow.Author.Rules.{rules}
 use Rattle.bus_model.specs.Bounds.{own_distance}
-use Rattle.workload.specs.Laws.Fine.{in-table-fine}
+use Rattle.workload.proofs.Laws.Fine.{in-table-fine}
 use Rattle.response_time.specs.Laws.Searches.{placed-any}
 use Rattle.response_time.specs.Laws.Within.{swept_none, swept-shown, swept-missed, swept_all}
 use Rattle.response_time.proofs.reach.sweep.Goals as goal

@@ -6,7 +6,7 @@ use borrow.Author.Rules.{rules}
 use Rattle.arith.specs.Releases.{releases_before}
 use Rattle.bus_model.specs.Bounds.{own_distance}
 use Rattle.workload.specs.Prepared.{table_of}
-use Rattle.workload.specs.Laws.Fine.{in-table-fine}
+use Rattle.workload.proofs.Laws.Fine.{in-table-fine}
 use Rattle.response_time.specs.Laws.Searches.{window-small, placed-any, Windowed, loop-start, loop-ends, loop-more, loop-skip, loop-end}
 use Rattle.response_time.specs.Laws.Within.{instance-fits, shown-response}
 use Rattle.response_time.proofs.response.max_with_window.Goals as goal

@@ -8,7 +8,7 @@ use lib.ListN.{take}
 use Rattle.arith.specs.Least.{least}
 use Rattle.workload.specs.Prepared.{table_of}
 use Rattle.workload.specs.Placed.{placed_in, placed_out}
-use Rattle.workload.specs.Laws.Placed.{placed-fine}
+use Rattle.workload.proofs.Laws.Placed.{placed-fine}
 use Rattle.response_time.specs.Laws.Searches.{placed-search, base-small}
 use Rattle.response_time.proofs.search.climb_guessed.Goals as goal
 use Rattle.response_time.proofs.search.climb_guessed.Goals.{After-place-to}

@@ -5,7 +5,7 @@ use native.Mathlib.Omega.{arith}
 use Rattle.bus_model.specs.Bounds.{blocking}
 use Rattle.workload.specs.declared.Search.TheVariants.{Instance}
 use Rattle.workload.specs.Prepared.{table_of}
-use Rattle.workload.specs.Laws.Fine.{in-table-fine}
+use Rattle.workload.proofs.Laws.Fine.{in-table-fine}
 use Rattle.response_time.specs.Load.{Asked, frame_load, base_of}
 use Rattle.response_time.specs.Laws.Searches.{start-load, base-small}
 use Rattle.response_time.proofs.search.frame_load.Goals as goal

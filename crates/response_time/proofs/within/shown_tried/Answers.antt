@@ -3,8 +3,8 @@ use Prim.Native.Nat.{◌≤◌}
 use native.Mathlib.Omega.{arith}
 use Rattle.workload.specs.declared.Search.TheVariants.{Instance}
 use Rattle.workload.specs.Placed.{placed_in, FinePlaced}
-use Rattle.workload.specs.Laws.Fine.{in-table-fine}
-use Rattle.workload.specs.Laws.Placed.{placed-fine}
+use Rattle.workload.proofs.Laws.Fine.{in-table-fine}
+use Rattle.workload.proofs.Laws.Placed.{placed-fine}
 use Rattle.response_time.specs.Laws.Searches.{base-small}
 use Rattle.response_time.specs.Laws.Within.{shows-placed}
 use Rattle.response_time.proofs.within.shown_tried.Goals as goal

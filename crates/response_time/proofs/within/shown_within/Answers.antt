@@ -2,7 +2,7 @@
 use Prim.Native.Nat.{◌+◌, ◌*◌}
 use mathlib.Core.Path.{sym, ap, ◌∙◌}
 use native.Mathlib.Omega.{arith}
-use Rattle.workload.specs.Laws.Fine.{in-table-fine}
+use Rattle.workload.proofs.Laws.Fine.{in-table-fine}
 use Rattle.response_time.specs.Load.{latest_start}
 use Rattle.response_time.specs.Laws.Within.{latest-start-fits, shows-within}
 use Rattle.response_time.proofs.within.shown_within.Goals as goal

@@ -2,8 +2,8 @@
 use mathlib.Core.Path.{ap, ◌∙◌}
 use native.Mathlib.Omega.{arith}
 use borrow.Author.Tests.{lt-leb, le-leb}
-use Rattle.table_checks.specs.Laws.Accepted.{accepted-size}
-use Rattle.workload.specs.Laws.Groups.{fine-never}
+use Rattle.table_checks.proofs.Laws.Accepted.{accepted-size}
+use Rattle.workload.proofs.Laws.Groups.{fine-never}
 use Rattle.row_judgement.specs.Decide.{bounded_by}
 use Rattle.row_judgement.specs.Judge.{bound_row, bound_checked}
 use Rattle.row_judgement.specs.Laws.Judged.{both-loaded, row_inside, decided-bound}

@@ -1,6 +1,6 @@
 -- A table that a check turns back is refused with its cause, and of another the row's bound is answered.
 use mathlib.Core.Path.{sym, ◌∙◌}
-use Rattle.table_checks.specs.Laws.Accepted.{loaded-both}
+use Rattle.table_checks.proofs.Laws.Accepted.{loaded-both}
 use Rattle.row_judgement.specs.Judge.{bound_row, bound_checked}
 use Rattle.row_judgement.specs.Laws.Returns.{bounded-told}
 use Rattle.row_judgement.proofs.bound.precise_bound.Goals as goal

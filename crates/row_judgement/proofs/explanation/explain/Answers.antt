@@ -3,9 +3,9 @@ use mathlib.Core.Path.{◌≡◌, sym, ◌∙◌}
 use borrow.Author.Tests.{lt-leb, le-leb}
 use Rattle.table_checks.specs.Checks.{loaded_check}
 use Rattle.table_checks.specs.declared.Checked.TheVariants.{Passed}
-use Rattle.table_checks.specs.Laws.Accepted.{loaded-both}
+use Rattle.table_checks.proofs.Laws.Accepted.{loaded-both}
 use Rattle.bus_model.specs.declared.Faults.TheVariants.{Never}
-use Rattle.workload.specs.Laws.Groups.{fine-never}
+use Rattle.workload.proofs.Laws.Groups.{fine-never}
 use Rattle.row_judgement.specs.Judge.{judge_row, judge_checked}
 use Rattle.row_judgement.specs.Laws.Judged.{row_inside}
 use Rattle.row_judgement.specs.Laws.Explain.{refused-beside, judged-beside, explained-told}

@@ -7,7 +7,7 @@ use borrow.Author.Tests.{lt-leb, le-leb}
 use Rattle.bus_model.specs.declared.Faults.TheVariants.{Apart}
 use Rattle.table_checks.specs.Checks.{loaded_check}
 use Rattle.table_checks.specs.declared.Checked.TheVariants.{Passed}
-use Rattle.table_checks.specs.Laws.Accepted.{loaded-both}
+use Rattle.table_checks.proofs.Laws.Accepted.{loaded-both}
 use Rattle.row_judgement.specs.Judge.{is_gap, judge_faults, judge_faults_checked}
 use Rattle.row_judgement.specs.Laws.Judged.{row_inside, gap_within, gap-fine}
 use Rattle.row_judgement.specs.Laws.Explain.{refused-beside, judged-beside, explained-faults-told}

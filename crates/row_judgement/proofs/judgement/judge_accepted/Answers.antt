@@ -1,7 +1,7 @@
 -- The table passes its checks; a missing row is refused, and another is judged.
 use mathlib.Core.Path.{ap, ◌∙◌}
 use borrow.Author.Tests.{lt-leb, le-leb}
-use Rattle.workload.specs.Laws.Groups.{fine-never}
+use Rattle.workload.proofs.Laws.Groups.{fine-never}
 use Rattle.row_judgement.specs.declared.Judged.TheVariants.{Verdict}
 use Rattle.row_judgement.specs.Judge.{judge_row, judge_checked}
 use Rattle.row_judgement.specs.Laws.Judged.{both-loaded, row_inside}

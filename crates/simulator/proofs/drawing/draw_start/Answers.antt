@@ -1,8 +1,8 @@
 -- `simulator::drawing::draw_start` meets its contract.
 use native.Mathlib.Omega.{arith}
-use Rattle.table_checks.specs.Laws.Accepted.{hyper-same}
+use Rattle.table_checks.proofs.Laws.Accepted.{hyper-same}
 use Rattle.simulator.specs.Starts.{start_drawn}
-use Rattle.simulator.specs.Theory.First.{hyper-some}
+use Rattle.simulator.proofs.Theory.First.{hyper-some}
 use Rattle.simulator.proofs.drawing.draw_start.Goals as goal
 
 pub nonzero_rem-starts : goal.nonzero_rem-starts

@@ -2,7 +2,7 @@
 use native.Mathlib.Omega.{arith}
 use Rattle.simulator.specs.Starts.{first_due}
 use Rattle.simulator.specs.Theory.First.{Early}
-use Rattle.bus_log.specs.Theory.Table.{any-group}
+use Rattle.bus_log.proofs.Theory.Table.{any-group}
 use Rattle.simulator.proofs.drawing.first_due.Goals as goal
 
 pub bounds-starts-g : goal.bounds-starts-g

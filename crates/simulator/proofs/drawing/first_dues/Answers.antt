@@ -1,7 +1,7 @@
 use mathlib.Core.Path.{refl, ◌∙◌}
 use borrow.Author.Rules.{rules}
 use lib.ListN.{length-set}
-use Rattle.bus_log.specs.Theory.Filled.{fill_more, fill-all}
+use Rattle.bus_log.proofs.Theory.Filled.{fill_more, fill-all}
 use Rattle.simulator.proofs.drawing.first_dues.Goals as goal
 
 pub loop-i-preserved : goal.loop-i-preserved

@@ -4,7 +4,7 @@ use borrow.Author.Rules.{rules}
 use native.Mathlib.Nat.{sub-zero}
 use lib.Dec.{eqb}
 use Rattle.table_checks.specs.Frames.{frames_of}
-use Rattle.table_checks.specs.Laws.Accepted.{length-frames}
+use Rattle.table_checks.proofs.Laws.Accepted.{length-frames}
 use Rattle.arith.specs.Laws.Members.{exists-stop, exists-go, exists-end}
 use Rattle.bus_model.specs.Frame.{row}
 use Rattle.simulator.specs.Starts.{has_frames}

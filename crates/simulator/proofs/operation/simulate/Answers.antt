@@ -1,7 +1,7 @@
 -- `simulator::operation::simulate` meets its contract: what the checks turn back is answered with its refusal, and else the table is simulated.
 use mathlib.Core.Path.{sym, ◌∙◌}
-use Rattle.table_checks.specs.Laws.Accepted.{loaded-both}
-use Rattle.simulator.specs.Theory.Answers.{rows_told, left-refused, left_passed}
+use Rattle.table_checks.proofs.Laws.Accepted.{loaded-both}
+use Rattle.simulator.proofs.Theory.Answers.{rows_told, left-refused, left_passed}
 use Rattle.simulator.proofs.operation.simulate.Goals as goal
 
 pub simulate_accepted-requires : goal.simulate_accepted-requires

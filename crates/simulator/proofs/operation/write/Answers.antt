@@ -8,8 +8,9 @@ use Rattle.table_checks.specs.declared.Checked.TheVariants.{Passed}
 use Rattle.frame_table.specs.Laws.Areas.{area-short, area-written}
 use Rattle.simulator.specs.Simulate.{text_of}
 use Rattle.simulator.specs.Theory.Bounds.{Within}
-use Rattle.simulator.specs.Theory.First.{Early, first-within, starts-early}
-use Rattle.simulator.specs.Theory.Answers.{length-text, text-from}
+use Rattle.simulator.specs.Theory.First.{Early}
+use Rattle.simulator.proofs.Theory.First.{first-within, starts-early}
+use Rattle.simulator.proofs.Theory.Answers.{length-text, text-from}
 use Rattle.simulator.proofs.operation.write.Goals as goal
 use Rattle.simulator.proofs.operation.write.Goals.{After-draw_starts-starts}
 

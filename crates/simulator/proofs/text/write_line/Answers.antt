@@ -1,5 +1,5 @@
 -- `simulator::text::write_line` meets its contract: five columns and a line feed.
-use Rattle.simulator.specs.Theory.Turns.{line-written}
+use Rattle.simulator.proofs.Theory.Turns.{line-written}
 use Rattle.simulator.proofs.text.write_line.Goals as goal
 
 pub returns : goal.returns

@@ -5,8 +5,8 @@ use Rattle.table_checks.specs.Frames.{frames_of}
 use Rattle.arith.specs.Laws.Lines.{line-over, lines-over}
 use Rattle.simulator.specs.Engine.{after}
 use Rattle.simulator.specs.Text.{line_of, line_text}
-use Rattle.simulator.specs.Theory.Layout.{log-lines}
-use Rattle.simulator.specs.Theory.Turns.{Small, turn-entry, turn_moved, turn_small}
+use Rattle.simulator.proofs.Theory.Layout.{log-lines}
+use Rattle.simulator.proofs.Theory.Turns.{Small, turn-entry, turn_moved, turn_small}
 use Rattle.simulator.proofs.text.write_log.Goals as goal
 use Rattle.simulator.proofs.text.write_log.Goals.{After-entry_next-e}
 

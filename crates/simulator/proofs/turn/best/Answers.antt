@@ -2,10 +2,10 @@ use mathlib.Core.Path.{◌≡◌, refl, sym, ap, ◌∙◌}
 use native.Mathlib.Omega.{arith}
 use borrow.Author.Rules.{rules}
 use lib.ListN.{length}
-use Rattle.simulator.specs.Theory.Lowest.{lowest-more}
+use Rattle.simulator.proofs.Theory.Lowest.{lowest-more}
 use Rattle.simulator.specs.Engine.{rank_at, lowest_of}
 use Rattle.table_checks.specs.Frames.{frames_of}
-use Rattle.table_checks.specs.Laws.Accepted.{length-frames}
+use Rattle.table_checks.proofs.Laws.Accepted.{length-frames}
 use Rattle.simulator.proofs.turn.best.Goals as goal
 
 pub loop-i-init : goal.loop-i-init

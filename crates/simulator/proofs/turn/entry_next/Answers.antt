@@ -2,9 +2,9 @@
 use mathlib.Core.Path.{◌≡◌, ◌∙◌}
 use native.Mathlib.Omega.{arith}
 use Rattle.table_checks.specs.Frames.{frames_of}
-use Rattle.table_checks.specs.Laws.Accepted.{length-frames, accepted-size}
+use Rattle.table_checks.proofs.Laws.Accepted.{length-frames, accepted-size}
 use Rattle.simulator.specs.Engine.{row_next, entry_next}
-use Rattle.simulator.specs.Theory.Bounds.{row_inside, row_within}
+use Rattle.simulator.proofs.Theory.Bounds.{row_inside, row_within}
 use Rattle.simulator.proofs.turn.entry_next.Goals as goal
 use Rattle.simulator.proofs.turn.entry_next.Goals.{After-best-k}
 

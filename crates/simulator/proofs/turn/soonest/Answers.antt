@@ -1,7 +1,7 @@
 use mathlib.Core.Path.{refl, sym, ◌∙◌}
 use borrow.Author.Rules.{rules}
 use Rattle.bus_log.specs.Follow.{due_of}
-use Rattle.simulator.specs.Theory.Lowest.{lowest-more}
+use Rattle.simulator.proofs.Theory.Lowest.{lowest-more}
 use Rattle.simulator.specs.Engine.{lowest_of}
 use Rattle.simulator.proofs.turn.soonest.Goals as goal
 

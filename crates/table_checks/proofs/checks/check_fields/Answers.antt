@@ -1,8 +1,8 @@
 -- `table_checks::checks::check_fields` meets its contract: the size is checked first, and a table whose size is right is short.
 use mathlib.Core.Path.{sym, ◌∙◌}
 use Rattle.table_checks.specs.Checks.{rows_check}
-use Rattle.table_checks.specs.Laws.Sizes.{rows-size}
-use Rattle.table_checks.specs.Laws.Returns.{rows_told}
+use Rattle.table_checks.proofs.Laws.Sizes.{rows-size}
+use Rattle.table_checks.proofs.Laws.Returns.{rows_told}
 use Rattle.table_checks.proofs.checks.check_fields.Goals as goal
 
 pub returns-in_default : goal.returns-in_default

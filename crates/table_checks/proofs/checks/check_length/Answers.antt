@@ -1,7 +1,7 @@
 -- `table_checks::checks::check_length` meets its contract: the tests stand in the order of the causes.
 use borrow.Author.Tests.{eq-eqb, ne_eqb, lt-ltb, le-ltb}
 use Rattle.table_checks.specs.Checks.{file_size_check}
-use Rattle.table_checks.specs.Laws.Returns.{size-told}
+use Rattle.table_checks.proofs.Laws.Returns.{size-told}
 use Rattle.table_checks.proofs.checks.check_length.Goals as goal
 
 pub returns-then-size-eq0 : goal.returns-then-size-eq0

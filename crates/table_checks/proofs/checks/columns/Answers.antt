@@ -1,7 +1,7 @@
 use mathlib.Core.Path.{refl, ◌∙◌}
 use borrow.Author.Rules.{rules}
 use Rattle.table_checks.specs.Checks.{columns_check}
-use Rattle.table_checks.specs.Laws.First.{first-stop, first-go, first-end}
+use Rattle.table_checks.proofs.Laws.First.{first-stop, first-go, first-end}
 use Rattle.table_checks.proofs.checks.columns.Goals as goal
 
 pub loop-j-init : goal.loop-j-init

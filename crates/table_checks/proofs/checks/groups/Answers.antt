@@ -2,7 +2,7 @@ use mathlib.Core.Path.{refl, ◌∙◌}
 use native.Mathlib.Omega.{arith}
 use borrow.Author.Rules.{rules}
 use Rattle.table_checks.specs.Checks.{groups_check}
-use Rattle.table_checks.specs.Laws.First.{first-stop, first-go, first-end}
+use Rattle.table_checks.proofs.Laws.First.{first-stop, first-go, first-end}
 use Rattle.table_checks.proofs.checks.groups.Goals as goal
 
 pub loop-j-init : goal.loop-j-init

@@ -2,7 +2,7 @@ use mathlib.Core.Path.{◌∙◌}
 use native.Mathlib.Nat.{sub-zero}
 use borrow.Author.Rules.{rules}
 use Rattle.table_checks.specs.Checks.{lines_check}
-use Rattle.table_checks.specs.Laws.First.{first-stop, first-go, first-end}
+use Rattle.table_checks.proofs.Laws.First.{first-stop, first-go, first-end}
 use Rattle.table_checks.proofs.checks.lines.Goals as goal
 
 pub loop-i-init : goal.loop-i-init

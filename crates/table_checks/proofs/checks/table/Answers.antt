@@ -2,7 +2,7 @@
 use mathlib.Core.Path.{sym, ◌∙◌}
 use borrow.Author.Rules.{rules}
 use Rattle.table_checks.specs.Checks.{table_check}
-use Rattle.table_checks.specs.Laws.Limits.{lines-periods}
+use Rattle.table_checks.proofs.Laws.Limits.{lines-periods}
 use Rattle.table_checks.proofs.checks.table.Goals as goal
 
 pub returns-in_default : goal.returns-in_default

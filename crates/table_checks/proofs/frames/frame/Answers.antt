@@ -1,7 +1,7 @@
 -- `table_checks::frames::frame` meets its contract: it reads the numbers that the definition reads.
 use mathlib.Core.Path.{sym}
 use Rattle.table_checks.specs.Frames.{frame_at}
-use Rattle.table_checks.specs.Laws.Accepted.{no_row, frame_row}
+use Rattle.table_checks.proofs.Laws.Accepted.{no_row, frame_row}
 use borrow.Author.Rules.{rules}
 use Rattle.table_checks.proofs.frames.frame.Goals as goal
 

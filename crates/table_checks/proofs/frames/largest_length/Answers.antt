@@ -2,7 +2,7 @@
 use mathlib.Core.Path.{sym}
 use borrow.Author.Tests.{eq-eqb, ne_eqb, le-ltb}
 use Rattle.table_checks.specs.Frames.{largest_length}
-use Rattle.table_checks.specs.Laws.Lengths.{too_long}
+use Rattle.table_checks.proofs.Laws.Lengths.{too_long}
 use Rattle.table_checks.proofs.frames.largest_length.Goals as goal
 
 pub returns-then-payload-gt8 : goal.returns-then-payload-gt8

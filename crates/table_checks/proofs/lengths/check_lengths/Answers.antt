@@ -1,7 +1,7 @@
 -- `table_checks::lengths::check_lengths` meets its contract: the lines are looked at in their order.
 use mathlib.Core.Path.{sym, ◌∙◌}
 use Rattle.table_checks.specs.Checks.{lengths_check}
-use Rattle.table_checks.specs.Laws.Returns.{lengths-told}
+use Rattle.table_checks.proofs.Laws.Returns.{lengths-told}
 use Rattle.table_checks.proofs.lengths.check_lengths.Goals as goal
 
 pub returns-then-breaks_limits : goal.returns-then-breaks_limits

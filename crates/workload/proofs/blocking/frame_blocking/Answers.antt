@@ -1,8 +1,8 @@
 use Rattle.std.proofs.Common.{ℕ, ◌-◌, ap, subst, arith}
 use Rattle.arith.specs.Laws.Walks.{Down, down-end}
 use Rattle.bus_model.specs.Bounds.{is_below, below, blocking}
-use Rattle.workload.specs.Laws.Prepared.{length-table}
-use Rattle.workload.specs.Laws.Groups.{longest_of, longest-none, longest-more}
+use Rattle.workload.proofs.Laws.Prepared.{length-table}
+use Rattle.workload.proofs.Laws.Groups.{longest_of, longest-none, longest-more}
 use Rattle.workload.proofs.blocking.frame_blocking.Goals as goal
 
 pub loop-i-init : goal.loop-i-init

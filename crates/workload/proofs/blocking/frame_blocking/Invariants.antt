@@ -2,7 +2,7 @@
 use Rattle.arith.specs.Laws.Walks.{Down}
 use Rattle.bus_model.specs.Bounds.{is_below}
 use Rattle.workload.specs.Prepared.{table_of}
-use Rattle.workload.specs.Laws.Groups.{longest_of}
+use Rattle.workload.proofs.Laws.Groups.{longest_of}
 use Rattle.workload.proofs.blocking.frame_blocking.Given as goal
 
 abbrev pub invariant-loop-i : goal.invariant-loop-i

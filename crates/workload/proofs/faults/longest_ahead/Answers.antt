@@ -1,8 +1,8 @@
 use Rattle.std.proofs.Common.{subst}
 use Rattle.arith.specs.Laws.Walks.{Down, down-end}
 use Rattle.bus_model.specs.Bounds.{is_ahead, ahead}
-use Rattle.workload.specs.Laws.Prepared.{length-table}
-use Rattle.workload.specs.Laws.Groups.{longest_of, longest-none, longest-more, longest-small}
+use Rattle.workload.proofs.Laws.Prepared.{length-table}
+use Rattle.workload.proofs.Laws.Groups.{longest_of, longest-none, longest-more, longest-small}
 use Rattle.workload.proofs.faults.longest_ahead.Goals as goal
 
 pub loop-i-init : goal.loop-i-init

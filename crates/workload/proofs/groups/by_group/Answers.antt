@@ -4,7 +4,7 @@ use Rattle.bus_model.specs.Pattern.{of_group}
 use Rattle.bus_model.specs.Bounds.{ahead}
 use Rattle.table_checks.specs.Frames.{frames_of}
 use Rattle.workload.specs.Prepared.{frames_in}
-use Rattle.workload.specs.Laws.Groups.{before-none, part-within, part-turn, part-read, listed-room, listed_more, listed-all}
+use Rattle.workload.proofs.Laws.Groups.{before-none, part-within, part-turn, part-read, listed-room, listed_more, listed-all}
 use Rattle.workload.proofs.groups.by_group.Goals as goal
 use Rattle.workload.proofs.groups.by_group.Goals.{After-gather-count, In-loop-j}
 

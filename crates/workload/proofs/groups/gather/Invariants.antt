@@ -1,7 +1,7 @@
 -- `workload::groups::gather` meets its contract: the invariant has the rows found and those still to come.
 use Rattle.std.proofs.Common.{◌≡◌, ◌-◌, length}
 use Rattle.table_checks.specs.Frames.{frames_of}
-use Rattle.workload.specs.Laws.Groups.{RowsGathered}
+use Rattle.workload.proofs.Laws.Groups.{RowsGathered}
 use Rattle.workload.proofs.groups.gather.Given as goal
 
 abbrev pub invariant-loop-i : goal.invariant-loop-i

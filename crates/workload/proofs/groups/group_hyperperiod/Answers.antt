@@ -6,7 +6,7 @@ use Rattle.bus_model.specs.Pattern.{of_group}
 use Rattle.bus_model.specs.Theory.Hyperperiod.{hyper_of}
 use Rattle.bus_model.proofs.Theory.Hyperperiod.{common-none, hyper-more, hyper-le}
 use Rattle.table_checks.specs.Frames.{frames_of}
-use Rattle.table_checks.specs.Laws.Accepted.{length-frames}
+use Rattle.table_checks.proofs.Laws.Accepted.{length-frames}
 use Rattle.workload.specs.Prepared.{FineTable}
 use Rattle.workload.proofs.groups.group_hyperperiod.Goals as goal
 

@@ -6,7 +6,7 @@ use Rattle.bus_model.specs.Frame.{no_frame, row}
 use Rattle.bus_model.specs.Pattern.{hyperperiod}
 use Rattle.table_checks.specs.Frames.{frames_of}
 use Rattle.workload.specs.Prepared.{frames_in}
-use Rattle.workload.specs.Laws.Groups.{part_none, part-more, part-le}
+use Rattle.workload.proofs.Laws.Groups.{part_none, part-more, part-le}
 use Rattle.workload.proofs.groups.part_hyperperiod.Goals as goal
 use Rattle.workload.proofs.groups.part_hyperperiod.Goals.{After-frame-g}
 

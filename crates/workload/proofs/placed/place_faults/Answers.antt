@@ -3,7 +3,7 @@ use Rattle.std.proofs.Common.{◌≡◌, ℕ, ◌+◌, ◌-◌, ◌*◌, ◌≤�
 use Rattle.arith.specs.Releases.{releases_before}
 use Rattle.workload.specs.Faults.{FineFaults, lead_of}
 use Rattle.workload.specs.Placed.{Placed, placed_in, fault_frame, fault_frames}
-use Rattle.workload.specs.Laws.Placed.{placed-more}
+use Rattle.workload.proofs.Laws.Placed.{placed-more}
 use Rattle.workload.proofs.placed.place_faults.Goals as goal
 use Rattle.workload.proofs.placed.place_faults.Goals.{In-Apart}
 

@@ -1,6 +1,6 @@
 -- The invariant has the rows whose numbers are put.
 use Rattle.std.proofs.Common.{◌-◌, ◌/◌, length}
-use Rattle.workload.specs.Laws.Prepared.{FilledTo}
+use Rattle.workload.proofs.Laws.Prepared.{FilledTo}
 use Rattle.workload.proofs.prepared.fill.Given as goal
 
 abbrev pub invariant-loop-i : goal.invariant-loop-i

@@ -1,8 +1,8 @@
 -- The lists, and behind them the numbers of the rows.
 use Rattle.std.proofs.Common.{◌≡◌, ◌-◌, length, ◌∙◌, arith}
 use borrow.Rule.Slice.PartMut.{put_mid, mid_len, same_len_mid}
-use Rattle.workload.specs.Laws.Prepared.{accepted-fine}
-use Rattle.workload.specs.Laws.Groups.{prepared-all}
+use Rattle.workload.proofs.Laws.Prepared.{accepted-fine}
+use Rattle.workload.proofs.Laws.Groups.{prepared-all}
 use Rattle.workload.proofs.prepared.prepare.Goals as goal
 
 pub by_group-requires : goal.by_group-requires

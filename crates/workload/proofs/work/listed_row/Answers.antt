@@ -3,7 +3,7 @@ use Rattle.std.proofs.Common.{ap, ◌∙◌}
 use mathlib.Core.List.{Memᴰ as Mem}
 use Rattle.bus_model.specs.Frame.{row}
 use Rattle.workload.specs.Prepared.{frames_in, table_of}
-use Rattle.workload.specs.Laws.Fine.{part-listed}
+use Rattle.workload.proofs.Laws.Fine.{part-listed}
 use Rattle.workload.proofs.work.listed_row.Goals as goal
 
 pub returns : goal.returns

@@ -2,7 +2,7 @@
 use Rattle.std.proofs.Common.{◌-◌, length}
 use Rattle.bus_model.specs.Bounds.{demand}
 use Rattle.workload.specs.Prepared.{table_of}
-use Rattle.workload.specs.Laws.Fine.{SumTo}
+use Rattle.workload.proofs.Laws.Fine.{SumTo}
 use Rattle.workload.proofs.work.work_in.Given as goal
 
 abbrev pub invariant-loop-i : goal.invariant-loop-i

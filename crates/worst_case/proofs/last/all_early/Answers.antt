@@ -1,7 +1,7 @@
 use mathlib.Core.Path.{refl}
 use native.Mathlib.Omega.{arith}
 use Rattle.table_checks.specs.Frames.{frames_of}
-use Rattle.table_checks.specs.Laws.Accepted.{length-frames}
+use Rattle.table_checks.proofs.Laws.Accepted.{length-frames}
 use Rattle.worst_case.specs.Laws.Last.{late-found, early-next, early-end}
 use Rattle.worst_case.proofs.last.all_early.Goals as goal
 

@@ -3,7 +3,7 @@ use mathlib.Core.Path.{refl, sym, subst}
 use native.Mathlib.Omega.{arith}
 use borrow.Author.Rules.{rules}
 use Rattle.workload.specs.Faults.{FineFaults}
-use Rattle.workload.specs.Laws.Groups.{fine-never}
+use Rattle.workload.proofs.Laws.Groups.{fine-never}
 use Rattle.row_judgement.specs.Laws.Explain.{ready-new}
 use Rattle.worst_case.specs.Laws.Answer.{worst_decided, none-due, precise-windows, precise-some, precise-within, precise-due}
 use Rattle.worst_case.proofs.row.worst_bounded.Goals as goal
