@@ -13,7 +13,7 @@ use Rattle.bus_log.specs.declared.Line.{Line}
 use Rattle.bus_log.specs.Log.{AcceptedLog, ShortestFailing, ShownStarts, shown_start, shown_starts}
 use Rattle.bus_log.specs.Follow.{follow_log, start_shown}
 use Rattle.bus_log.proofs.Theory.Entries.{Names}
-use Rattle.bus_log.specs.Theory.Verdict as verdict
+use Rattle.bus_log.proofs.Theory.Verdict as verdict
 use Rattle.bus_log.proofs.Theory.Shown.{starts-shown}
 
 pub few-lines : (t : List ℕ) → Accepted t → length t / columns ≤ 64
