@@ -15,9 +15,6 @@ use Rattle.certifier.proofs.busiest_entry.encode_sheet.Goals.{In-Done}
 small : (c : In-Done) → c.in-Done.n ≤ 2711
 small c = c.requires _ c.in-Done.is
 
-pub overflow_cast-result : goal.overflow_cast-result
-overflow_cast-result c = record { sfits = omega (arith, small c) }
-
 pub returns-in-Done : goal.returns-in-Done
 unfolding encode_answered answer_returns
 returns-in-Done c = rw c.in-Done.is (to_z_pos _ (omega (arith, small c)))

@@ -14,12 +14,6 @@ use Rattle.certifier.proofs.encode.bound_table.Goals.{In-Done}
 table : (c : In-Done) → ReadRows c.args.table.now c.read-answer.new.rows c.in-Done.n
 table c = let r = c.read-answer in read-rows _ _ _ refl r.ensures.value _ _ r.ensures.rows_after c.in-Done.is
 
-pub slice_bounds-rows-end : goal.slice_bounds-rows-end
-slice_bounds-rows-end c = (table c).room
-
-pub slice_bounds-bound_accepted-end : goal.slice_bounds-bound_accepted-end
-slice_bounds-bound_accepted-end c = (table (goal.at.slice_bounds-bound_accepted-end c).In-Done).size
-
 pub bound_accepted-requires : goal.bound_accepted-requires
 bound_accepted-requires c = (c.requires, (table (goal.at.bound_accepted-requires c).In-Done).accepted)
 

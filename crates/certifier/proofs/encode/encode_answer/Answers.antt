@@ -13,9 +13,6 @@ use Rattle.certifier.proofs.encode.encode_answer.Goals.{In-Done}
 small : (c : In-Done) → c.in-Done.n < 2 ^ 63
 small c = subst Countable c.in-Done.is c.requires
 
-pub overflow_cast-result : goal.overflow_cast-result
-overflow_cast-result c = record { sfits = omega (arith, small c) }
-
 pub returns-in-Done : goal.returns-in-Done
 unfolding encode_answer
 returns-in-Done c = rw c.in-Done.is (to_z_pos _ (omega (arith, small c)))

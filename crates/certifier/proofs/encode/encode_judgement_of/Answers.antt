@@ -9,6 +9,3 @@ use Rattle.certifier.proofs.encode.encode_judgement_of.Goals as goal
 
 pub encode_judged-requires : goal.encode_judged-requires
 encode_judged-requires c = subst Encodable (sym c.judge.ensures.value) (judged-encodable _ _ _)
-
-pub returns : goal.returns
-returns c = kept _ c.encode_judged.type_inv ∙ c.encode_judged.ensures ∙ ap encode_judged c.judge.ensures.value

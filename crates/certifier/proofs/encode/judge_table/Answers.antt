@@ -16,12 +16,6 @@ use Rattle.certifier.proofs.encode.judge_table.Goals.{In-Done}
 table : (c : In-Done) → ReadRows c.args.table.now c.read-answer.new.rows c.in-Done.n
 table c = let r = c.read-answer in read-rows _ _ _ refl r.ensures.value _ _ r.ensures.rows_after c.in-Done.is
 
-pub slice_bounds-rows-end : goal.slice_bounds-rows-end
-slice_bounds-rows-end c = (table c).room
-
-pub slice_bounds-judge_accepted-end : goal.slice_bounds-judge_accepted-end
-slice_bounds-judge_accepted-end c = (table (goal.at.slice_bounds-judge_accepted-end c).In-Done).size
-
 pub judge_accepted-requires : goal.judge_accepted-requires
 judge_accepted-requires c = (c.requires, (table (goal.at.judge_accepted-requires c).In-Done).accepted)
 

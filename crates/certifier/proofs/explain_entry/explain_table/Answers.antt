@@ -17,12 +17,6 @@ use Rattle.certifier.proofs.explain_entry.explain_table.Goals.{In-Done}
 table : (c : In-Done) → ReadRows c.args.table.now c.read-answer.new.rows c.in-Done.n
 table c = read-rows _ _ _ refl c.read-answer.ensures.value _ _ c.read-answer.ensures.rows_after c.in-Done.is
 
-pub slice_bounds-rows-end : goal.slice_bounds-rows-end
-slice_bounds-rows-end c = (table (c)).room
-
-pub slice_bounds-explain-end : goal.slice_bounds-explain-end
-slice_bounds-explain-end c = (table (goal.at.slice_bounds-explain-end c).In-Done).size
-
 pub show-requires : goal.show-requires
 unfolding explain_row
 show-requires c = subst (λ (e : Explained). Encodable e.judged) (sym c.explain.ensures.value) (judged-encodable _ _ _)

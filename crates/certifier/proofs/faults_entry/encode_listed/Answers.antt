@@ -17,9 +17,6 @@ use Rattle.certifier.proofs.faults_entry.encode_listed.Goals.{In-Written}
 small : (c : In-Written) → c.in-Written.n < 2 ^ 63
 small c = subst CountableListing c.in-Written.is c.requires
 
-pub overflow_cast-result : goal.overflow_cast-result
-overflow_cast-result c = record { sfits = omega (arith, small c) }
-
 pub returns-in-Written : goal.returns-in-Written
 unfolding encode_answered listed_returns
 returns-in-Written c = rw c.in-Written.is (to_z_pos _ (omega (arith, small c)))

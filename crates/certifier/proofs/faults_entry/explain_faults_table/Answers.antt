@@ -17,12 +17,6 @@ use Rattle.certifier.proofs.faults_entry.explain_faults_table.Goals.{In-Done}
 table : (c : In-Done) → ReadRows c.args.table.now c.read-answer.new.rows c.in-Done.n
 table c = read-rows _ _ _ refl c.read-answer.ensures.value _ _ c.read-answer.ensures.rows_after c.in-Done.is
 
-pub slice_bounds-rows-end : goal.slice_bounds-rows-end
-slice_bounds-rows-end c = (table (c)).room
-
-pub slice_bounds-explain_faults-end : goal.slice_bounds-explain_faults-end
-slice_bounds-explain_faults-end c = (table (goal.at.slice_bounds-explain_faults-end c).In-Done).size
-
 pub show-requires : goal.show-requires
 unfolding explain_faults
 show-requires c = subst (λ (e : Explained). Encodable e.judged) (sym c.explain_faults.ensures.value) (faults-encodable _ _ _ _)

@@ -17,9 +17,6 @@ use Rattle.certifier.proofs.faults_listing.list_faults_rows.Goals.{Then-is_gap}
 gap : (c : Then-is_gap) → is_gap c.args.gap ≡ true
 gap c = sym c.is_gap.ensures ∙ c.if-is_gap.true
 
-pub overflow_cast-ticks : goal.overflow_cast-ticks
-overflow_cast-ticks c = omega (arith, gap_within c.args.gap (gap c))
-
 pub list_rows-answer-requires : goal.list_rows-answer-requires
 list_rows-answer-requires c = record { loadable = c.requires; fine_faults = gap-fine c.args.gap (gap (goal.at.list_rows-answer-requires c).Then-is_gap) }
 

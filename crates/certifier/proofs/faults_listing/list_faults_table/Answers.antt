@@ -11,12 +11,6 @@ use Rattle.certifier.proofs.faults_listing.list_faults_table.Goals.{In-Done}
 table : (c : In-Done) → ReadRows c.args.table.now c.read-answer.new.rows c.in-Done.n
 table c = read-rows _ _ _ refl c.read-answer.ensures.value _ _ c.read-answer.ensures.rows_after c.in-Done.is
 
-pub slice_bounds-rows-end : goal.slice_bounds-rows-end
-slice_bounds-rows-end c = (table c).room
-
-pub slice_bounds-list_faults_rows-end : goal.slice_bounds-list_faults_rows-end
-slice_bounds-list_faults_rows-end c = (table (goal.at.slice_bounds-list_faults_rows-end c).In-Done).size
-
 pub list_faults_rows-requires : goal.list_faults_rows-requires
 list_faults_rows-requires c = (c.requires, (table (goal.at.list_faults_rows-requires c).In-Done).accepted)
 

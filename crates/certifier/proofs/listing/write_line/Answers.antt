@@ -6,9 +6,6 @@ use Rattle.arith.specs.Laws.Signed.{kept}
 use Rattle.certifier.specs.Laws.Listing.{line-written}
 use Rattle.certifier.proofs.listing.write_line.Goals as goal
 
-pub shape_of-line : goal.shape_of-line
-shape_of-line c = simp length-set (search rules)
-
 pub returns : goal.returns
 returns c =
     let j = c.args.judgement in

@@ -11,9 +11,6 @@ use Rattle.certifier.proofs.listing.write_refusal_line.Goals as goal
 pub returns-then-out-lt-REFUSAL_LINE : goal.returns-then-out-lt-REFUSAL_LINE
 returns-then-out-lt-REFUSAL_LINE c = let answer = area-short Passed _ _ _ _ (length-refusal _ _) refl c.if-out-lt-REFUSAL_LINE.true c.no_room.ensures in record { value = answer.0; out_after = answer.1 }
 
-pub shape_of-out : goal.shape_of-out
-shape_of-out c = simp length-set (search rules)
-
 pub returns : goal.returns
 returns c =
     let out = c.args.out.now in

@@ -8,9 +8,6 @@ use Rattle.certifier.specs.SimulateEntry.{CountableLog}
 use Rattle.certifier.specs.Laws.SimulateEntry.{answer-encoded}
 use Rattle.certifier.proofs.simulate_entry.encode_simulated.Goals as goal
 
-pub encode_answer-requires : goal.encode_answer-requires
-encode_answer-requires c = subst CountableLog c.in-Answered.is c.requires
-
 pub returns-in-Answered : goal.returns-in-Answered
 unfolding simulated_returns
 returns-in-Answered c = rw c.in-Answered.is (kept _ c.encode_answer.type_inv ∙ c.encode_answer.ensures ∙ answer-encoded _)

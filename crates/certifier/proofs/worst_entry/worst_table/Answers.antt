@@ -17,12 +17,6 @@ use Rattle.certifier.proofs.worst_entry.worst_table.Goals.{In-Done}
 table : (c : In-Done) → ReadRows c.args.table.now c.read-answer.new.rows c.in-Done.n
 table c = read-rows _ _ _ refl c.read-answer.ensures.value _ _ c.read-answer.ensures.rows_after c.in-Done.is
 
-pub slice_bounds-rows-end : goal.slice_bounds-rows-end
-slice_bounds-rows-end c = (table (c)).room
-
-pub slice_bounds-worst-end : goal.slice_bounds-worst-end
-slice_bounds-worst-end c = (table (goal.at.slice_bounds-worst-end c).In-Done).size
-
 pub show_last-requires : goal.show_last-requires
 unfolding worst_of
 show_last-requires c = subst (λ (l : LastFrame). Encodable l.judged) (sym c.worst.ensures.value) (judged-encodable _ _ _)
