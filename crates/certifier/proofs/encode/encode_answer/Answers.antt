@@ -2,7 +2,6 @@
 use Prim.Native.Nat.{◌^◌, ◌<◌}
 use mathlib.Core.Path.{ap, subst, ◌∙◌}
 use native.Mathlib.Omega.{arith}
-use borrow.Author.Rules.{rules}
 use Rattle.arith.specs.Laws.Signed.{to_z_pos, kept}
 use Rattle.certifier.specs.Encode.{encode_refusal, encode_answer}
 use Rattle.certifier.specs.Steps.{Countable}

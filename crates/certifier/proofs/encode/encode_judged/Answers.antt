@@ -1,8 +1,6 @@
 -- Each of the two answers is encoded by its own function.
-use mathlib.Core.Path.{subst, ◌∙◌}
-use borrow.Author.Rules.{rules}
+use mathlib.Core.Path.{◌∙◌}
 use Rattle.arith.specs.Laws.Signed.{kept}
-use Rattle.certifier.specs.Steps.{Encodable}
 use Rattle.certifier.specs.Encode.{encode_judged}
 use Rattle.certifier.proofs.encode.encode_judged.Goals as goal
 

@@ -1,8 +1,5 @@
 -- Every judgement of a row can be encoded.
-use mathlib.Core.Path.{sym, ap, subst, ◌∙◌}
-use borrow.Author.Rules.{rules}
-use Rattle.arith.specs.Laws.Signed.{kept}
-use Rattle.certifier.specs.Encode.{encode_judged}
+use mathlib.Core.Path.{sym, subst}
 use Rattle.certifier.specs.Steps.{Encodable}
 use Rattle.certifier.specs.Laws.Small.{judged-encodable}
 use Rattle.certifier.proofs.encode.encode_judgement_of.Goals as goal

@@ -1,6 +1,5 @@
 -- By the instance, and the room.
 use mathlib.Core.Path.{◌∙◌}
-use borrow.Author.Rules.{rules}
 use Rattle.arith.specs.Laws.Signed.{kept}
 use Rattle.certifier.specs.Laws.ExplainEntry.{shown-none, shown-short, shown-all}
 use Rattle.certifier.proofs.explain_entry.show.Goals as goal

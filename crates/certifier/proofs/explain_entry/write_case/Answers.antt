@@ -1,9 +1,8 @@
-use Prim.Native.Nat.{◌-◌, ◌≤◌}
-use mathlib.Core.Path.{◌≡◌, refl}
+use mathlib.Core.Path.{◌≡◌}
 use native.Mathlib.Omega.{arith}
 use borrow.Author.Rules.{rules}
-use lib.ListN.{length, length-set}
-use Rattle.arith.specs.Laws.Overwriting.{over, over-element, over-all, begun-element}
+use lib.ListN.{length}
+use Rattle.arith.specs.Laws.Overwriting.{over-all, begun-element}
 use Rattle.certifier.proofs.explain_entry.write_case.Goals as goal
 use Rattle.certifier.proofs.explain_entry.write_case.Goals.{Start}
 

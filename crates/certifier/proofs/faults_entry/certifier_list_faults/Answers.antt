@@ -1,8 +1,5 @@
 -- The listing of an accepted table is short enough for its length to be answered.
-use mathlib.Core.Path.{sym, ap, subst, ◌∙◌}
-use borrow.Author.Rules.{rules}
-use Rattle.arith.specs.Laws.Signed.{kept}
-use Rattle.certifier.specs.LogEntry.{encode_answered}
+use mathlib.Core.Path.{sym, subst}
 use Rattle.certifier.specs.Steps.{CountableListing}
 use Rattle.certifier.specs.Laws.Answers.{faults-countable}
 use Rattle.certifier.proofs.faults_entry.certifier_list_faults.Goals as goal

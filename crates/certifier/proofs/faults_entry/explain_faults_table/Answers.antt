@@ -1,6 +1,5 @@
 -- The file is read into rows of its own; a refusal of the file is encoded, and in a table that was read the row is explained.
 use mathlib.Core.Path.{refl, sym, subst, ◌∙◌}
-use borrow.Author.Rules.{rules}
 use Rattle.arith.specs.Laws.Signed.{kept}
 use Rattle.frame_table.specs.Table.{read_check}
 use Rattle.frame_table.specs.Laws.Reading.{ReadRows, read-refused, read-rows}

@@ -1,13 +1,11 @@
 -- A gap outside its limits is refused; under any other the rows are listed.
-use native.Mathlib.Omega.{arith}
 use mathlib.Core.Bool.{true}
 use mathlib.Core.Path.{◌≡◌, refl, sym, ap, ◌∙◌}
-use borrow.Author.Rules.{rules}
 use Rattle.bus_model.specs.declared.Faults.TheVariants.{Apart}
 use Rattle.frame_table.specs.declared.Answer.{Answer}
 use Rattle.frame_table.specs.Table.{area_after}
 use Rattle.row_judgement.specs.Judge.{is_gap}
-use Rattle.row_judgement.specs.Laws.Judged.{gap_within, gap-fine}
+use Rattle.row_judgement.specs.Laws.Judged.{gap-fine}
 use Rattle.certifier.specs.Listing.{listing_of}
 use Rattle.certifier.specs.FaultsListing.{listed_by, list_faults_rows, listed_rows}
 use Rattle.certifier.proofs.faults_listing.list_faults_rows.Goals as goal

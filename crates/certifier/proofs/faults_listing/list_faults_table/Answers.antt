@@ -1,6 +1,5 @@
 -- The file is read into rows of its own; a refusal of the file is answered, and a table that was read is listed.
 use mathlib.Core.Path.{refl, ap}
-use borrow.Author.Rules.{rules}
 use Rattle.frame_table.specs.Laws.Reading.{ReadRows, read-refused, read-rows}
 use Rattle.certifier.specs.declared.Listed.TheVariants.{NotListed}
 use Rattle.certifier.specs.FaultsListing.{list_faults_read, listed_read}

@@ -1,6 +1,5 @@
 -- `certifier::listing::list_table` meets its contract: what the file is read into is its table, and a file that is turned back is answered with its refusal.
 use mathlib.Core.Path.{refl}
-use borrow.Author.Rules.{rules}
 use Rattle.frame_table.specs.Laws.Areas.{area-refused}
 use Rattle.frame_table.specs.Laws.Reading.{ReadRows, read-rows, read-refused}
 use Rattle.workload.specs.Laws.Groups.{fine-never}

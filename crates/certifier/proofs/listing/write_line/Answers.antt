@@ -1,6 +1,4 @@
 -- `certifier::listing::write_line` meets its contract: the four columns and the line feed are written one behind the other and fill the line.
-use borrow.Author.Rules.{rules}
-use lib.ListN.{length-set}
 use native.Mathlib.Omega.{arith}
 use Rattle.arith.specs.Laws.Signed.{kept}
 use Rattle.certifier.specs.Laws.Listing.{line-written}

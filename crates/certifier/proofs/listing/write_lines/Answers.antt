@@ -1,11 +1,5 @@
-use Prim.Native.Nat.{◌-◌, ◌*◌, ◌≤◌}
-use mathlib.Core.Path.{◌≡◌, refl}
-use native.Mathlib.Omega.{arith}
 use borrow.Author.Rules.{rules}
-use lib.ListN.{length, length-take, length-drop}
-use Rattle.arith.specs.Laws.Overwriting.{over}
 use Rattle.arith.specs.Laws.Lines.{line-over, lines-over}
-use Rattle.certifier.specs.Listing.{lines_from}
 use Rattle.certifier.specs.Laws.Listing.{listing-lines}
 use Rattle.certifier.proofs.listing.write_lines.Goals as goal
 

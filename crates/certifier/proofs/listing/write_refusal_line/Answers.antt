@@ -1,7 +1,5 @@
 -- `certifier::listing::write_refusal_line` meets its contract: the two columns and the line feed are written where they have room, and else the area is left.
 use mathlib.Core.Path.{refl}
-use borrow.Author.Rules.{rules}
-use lib.ListN.{length-set}
 use Rattle.table_checks.specs.declared.Checked.TheVariants.{Passed}
 use Rattle.frame_table.specs.Laws.Areas.{area-short, area-written}
 use Rattle.certifier.specs.Listing.{refusal_line}

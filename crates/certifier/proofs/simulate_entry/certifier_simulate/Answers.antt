@@ -1,9 +1,7 @@
 -- No log is too long for its length to be answered.
-use mathlib.Core.Path.{sym, subst, ◌∙◌}
-use borrow.Author.Rules.{rules}
-use Rattle.arith.specs.Laws.Signed.{kept}
+use mathlib.Core.Path.{sym, subst}
 use Rattle.certifier.specs.SimulateEntry.{CountableLog}
-use Rattle.certifier.specs.Laws.SimulateEntry.{answer-countable, log-named}
+use Rattle.certifier.specs.Laws.SimulateEntry.{answer-countable}
 use Rattle.certifier.proofs.simulate_entry.certifier_simulate.Goals as goal
 
 pub encode_simulated-requires : goal.encode_simulated-requires

@@ -1,6 +1,5 @@
 -- By the response, and the room.
 use mathlib.Core.Path.{◌∙◌}
-use borrow.Author.Rules.{rules}
 use Rattle.arith.specs.Laws.Signed.{kept}
 use Rattle.certifier.specs.Laws.WorstEntry.{last_none, last-short, last-all}
 use Rattle.certifier.proofs.worst_entry.show_last.Goals as goal
