@@ -1,14 +1,17 @@
-use mathlib.Core.Path.{◌≡◌}
+use mathlib.Core.Path.{◌≡◌, refl}
 use native.Mathlib.Omega.{arith}
 use borrow.Author.Rules.{rules}
 use lib.ListN.{length}
-use Rattle.arith.specs.Laws.Overwriting.{over-all, begun-element}
+use Rattle.arith.specs.Laws.Overwriting.{over-element, over-all, begun-element}
 use Rattle.certifier.proofs.explain_entry.write_case.Goals as goal
 use Rattle.certifier.proofs.explain_entry.write_case.Goals.{Start}
 
 -- the alignments are as many as the groups
 long : (s : Start) → length s.args.alignments ≡ 16
 long s = search rules
+
+pub loop-i-preserved : goal.loop-i-preserved
+loop-i-preserved c = (over-element _ _ _ 16 (long (goal.at.loop-i-preserved c).Start) _ _ c.loop-i.invariant.0 c.loop-i-test.true (search rules) refl, search rules, search rules)
 
 pub returns : goal.returns
 returns c =
