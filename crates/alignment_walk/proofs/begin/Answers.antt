@@ -2,14 +2,11 @@ use Prim.Native.Nat.{ℕ, ◌+◌, ◌-◌, ◌*◌, ◌≤◌}
 use mathlib.Core.Path.{sym, ap, ◌∙◌}
 use native.Mathlib.Omega.{arith}
 use native.Mathlib.Nat.{div-mul-le_self, mod-eq-sub-div-mul}
-use borrow.Author.Rules.{rules}
-use lib.ListN.{length}
 use Rattle.bus_model.specs.Bounds.{phase}
-use Rattle.workload.specs.Prepared.{table_of}
-use Rattle.workload.specs.Laws.Fine.{SumTo, sum-none, sum-next, sum-all}
+use Rattle.workload.specs.Laws.Fine.{sum-none, sum-next, sum-all}
 use Rattle.alignment_walk.specs.Steps.{wait_from, whole_demand}
 use Rattle.alignment_walk.specs.Laws.Parts.{wait-first}
-use Rattle.alignment_walk.specs.Laws.Steps.{NotedTo, note-none, note-more, note-all, NotesTo, notes-none, notes-more, notes-all, whole-small}
+use Rattle.alignment_walk.specs.Laws.Steps.{note-none, note-more, note-all, notes-none, notes-more, notes-all, whole-small}
 use Rattle.alignment_walk.proofs.begin.Goals as goal
 use Rattle.alignment_walk.proofs.begin.Goals.{After-listed_row-r, After-quotient-times, In-loop-i}
 

@@ -1,16 +1,10 @@
 -- The loop goes through the rows, adds up the demand of whole periods, and notes what the walk asks for.
-use Prim.Native.Nat.{ℕ, ◌+◌, ◌-◌, ◌*◌, ◌≤◌}
-use mathlib.Core.Path.{sym, ap, ◌∙◌}
-use native.Mathlib.Omega.{arith}
-use native.Mathlib.Nat.{div-mul-le_self, mod-eq-sub-div-mul}
-use borrow.Author.Rules.{rules}
+use Prim.Native.Nat.{◌-◌}
 use lib.ListN.{length}
-use Rattle.bus_model.specs.Bounds.{phase}
 use Rattle.workload.specs.Prepared.{table_of}
-use Rattle.workload.specs.Laws.Fine.{SumTo, sum-none, sum-next, sum-all}
+use Rattle.workload.specs.Laws.Fine.{SumTo}
 use Rattle.alignment_walk.specs.Steps.{wait_from, whole_demand}
-use Rattle.alignment_walk.specs.Laws.Parts.{wait-first}
-use Rattle.alignment_walk.specs.Laws.Steps.{NotedTo, note-none, note-more, note-all, NotesTo, notes-none, notes-more, notes-all, whole-small}
+use Rattle.alignment_walk.specs.Laws.Steps.{NotedTo, NotesTo}
 use Rattle.alignment_walk.proofs.begin.Given as goal
 
 abbrev pub invariant-loop-i : goal.invariant-loop-i

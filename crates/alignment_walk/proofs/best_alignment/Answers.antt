@@ -2,20 +2,18 @@ use Prim.Native.Nat.{ℕ, ◌+◌, ◌-◌, ◌*◌, ◌≤◌, max}
 use mathlib.Core.Path.{◌≡◌, refl, sym, ap, ◌∙◌}
 use mathlib.Core.List.Memᴰ.{head as here}
 use mathlib.Core.List.{List, ◌∷◌, Memᴰ as Mem}
-use mathlib.Core.Logic.{⊎_elim}
 use native.Mathlib.Omega.{arith}
 use native.Mathlib.Nat.{max-zero, zero-max, add-zero, zero-add, sub-zero}
-use borrow.Author.Rules.{rules}
 use lib.ListN.{length}
 use Rattle.arith.specs.Lists.{sum, greatest}
 use Rattle.arith.specs.Least.{least}
 use Rattle.arith.specs.declared.Found.TheVariants.{At}
 use Rattle.arith.specs.Laws.Least.{least-within}
-use Rattle.arith.specs.Laws.Walks.{keep-next, keep-found, keep-end, Walk, walk_start, walk_more, walk-less, walk_end, greatest-more, length_more}
+use Rattle.arith.specs.Laws.Walks.{keep-next, keep-found, keep-end, walk_start, walk_more, walk-less, walk_end, greatest-more, length_more}
 use Rattle.bus_model.specs.Bounds.{work_at, or_empty}
 use Rattle.bus_model.specs.Theory.Alignment.{or-empty}
 use Rattle.workload.specs.Prepared.{frames_in, table_of, is_instant, instants_in}
-use Rattle.alignment_walk.specs.Steps.{wait_from, extra_demand, Noted}
+use Rattle.alignment_walk.specs.Steps.{extra_demand}
 use Rattle.alignment_walk.specs.Laws.Parts.{ended_at, ended-none}
 use Rattle.alignment_walk.specs.Laws.Steps.{noted-next, phase-late, work-split}
 use Rattle.alignment_walk.specs.Laws.Walk.{visits-are}

@@ -1,11 +1,7 @@
-use Prim.Native.Nat.{◌-◌}
 use mathlib.Core.Path.{ap, ◌∙◌}
 use native.Mathlib.Nat.{le_refl}
-use borrow.Author.Rules.{rules}
-use lib.ListN.{length}
-use Rattle.workload.specs.Prepared.{table_of}
 use Rattle.alignment_walk.specs.Steps.{next_release}
-use Rattle.alignment_walk.specs.Laws.Parts.{FirstTo, first-none, first_next, next-is, next-none}
+use Rattle.alignment_walk.specs.Laws.Parts.{first-none, first_next, next-is, next-none}
 use Rattle.alignment_walk.proofs.next_alignment.Goals as goal
 
 pub loop-i-init : goal.loop-i-init

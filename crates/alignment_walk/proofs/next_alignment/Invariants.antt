@@ -1,12 +1,8 @@
 -- The loop goes through the rows and keeps the first next release, cut at the end.
 use Prim.Native.Nat.{◌-◌}
-use mathlib.Core.Path.{ap, ◌∙◌}
-use native.Mathlib.Nat.{le_refl}
-use borrow.Author.Rules.{rules}
 use lib.ListN.{length}
 use Rattle.workload.specs.Prepared.{table_of}
-use Rattle.alignment_walk.specs.Steps.{next_release}
-use Rattle.alignment_walk.specs.Laws.Parts.{FirstTo, first-none, first_next, next-is, next-none}
+use Rattle.alignment_walk.specs.Laws.Parts.{FirstTo}
 use Rattle.alignment_walk.proofs.next_alignment.Given as goal
 
 abbrev pub invariant-loop-i : goal.invariant-loop-i

@@ -2,7 +2,6 @@
 use Prim.Native.Nat.{ℕ, ◌+◌, ◌*◌, ◌≤◌}
 use mathlib.Core.Path.{ap, ◌∙◌}
 use native.Mathlib.Omega.{arith}
-use borrow.Author.Rules.{rules}
 use Rattle.arith.specs.Laws.Releases.{count-short}
 use Rattle.arith.specs.Releases.{releases_before}
 use Rattle.alignment_walk.proofs.next_release.Goals as goal

@@ -1,15 +1,14 @@
 use Prim.Native.Nat.{◌+◌, ◌-◌, ◌≤◌}
 use mathlib.Core.Path.{◌≡◌, ◌∙◌}
 use native.Mathlib.Omega.{arith}
-use borrow.Author.Rules.{rules}
-use lib.ListN.{length, get_or}
+use lib.ListN.{get_or}
 use Rattle.bus_model.specs.declared.Frame.{Frame}
 use Rattle.bus_model.specs.Frame.{row}
 use Rattle.workload.specs.Prepared.{Fine, table_of}
-use Rattle.workload.specs.Laws.Fine.{part-listed, SumTo, sum-none, sum-next, sum-all}
+use Rattle.workload.specs.Laws.Fine.{part-listed, sum-none, sum-next, sum-all}
 use Rattle.alignment_walk.specs.Steps.{wait_from, extra_demand, NotesOf}
-use Rattle.alignment_walk.specs.Laws.Parts.{next-late, FirstTo, first-none, first_next, next-or-end}
-use Rattle.alignment_walk.specs.Laws.Steps.{NotedTo, NotedFrom, note-none, note-more, note-left, note-all, extra-small, wait-rest, wait-next}
+use Rattle.alignment_walk.specs.Laws.Parts.{next-late, first-none, first_next, next-or-end}
+use Rattle.alignment_walk.specs.Laws.Steps.{note-none, note-more, note-left, note-all, extra-small, wait-rest, wait-next}
 use Rattle.alignment_walk.proofs.visit.Goals as goal
 use Rattle.alignment_walk.proofs.visit.Goals.{After-in_rest-extra, In-loop-i}
 

@@ -1,16 +1,11 @@
 -- The loop goes through the rows, adds what the rest asks for, notes the wait for the next release of the frame in each, and keeps the least.
 use Prim.Native.Nat.{◌+◌, ◌-◌, ◌≤◌}
-use mathlib.Core.Path.{◌≡◌, ◌∙◌}
-use native.Mathlib.Omega.{arith}
-use borrow.Author.Rules.{rules}
-use lib.ListN.{length, get_or}
-use Rattle.bus_model.specs.declared.Frame.{Frame}
-use Rattle.bus_model.specs.Frame.{row}
-use Rattle.workload.specs.Prepared.{Fine, table_of}
-use Rattle.workload.specs.Laws.Fine.{part-listed, SumTo, sum-none, sum-next, sum-all}
-use Rattle.alignment_walk.specs.Steps.{wait_from, extra_demand, NotesOf}
-use Rattle.alignment_walk.specs.Laws.Parts.{next-late, FirstTo, first-none, first_next, next-or-end}
-use Rattle.alignment_walk.specs.Laws.Steps.{NotedTo, NotedFrom, note-none, note-more, note-left, note-all, extra-small, wait-rest, wait-next}
+use lib.ListN.{length}
+use Rattle.workload.specs.Prepared.{table_of}
+use Rattle.workload.specs.Laws.Fine.{SumTo}
+use Rattle.alignment_walk.specs.Steps.{wait_from, extra_demand}
+use Rattle.alignment_walk.specs.Laws.Parts.{FirstTo}
+use Rattle.alignment_walk.specs.Laws.Steps.{NotedTo, NotedFrom}
 use Rattle.alignment_walk.proofs.visit.Given as goal
 
 abbrev pub invariant-loop-i : goal.invariant-loop-i

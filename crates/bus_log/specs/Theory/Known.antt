@@ -1,5 +1,5 @@
 -- What a line changes of what is known.
-use Prim.Native.Nat.{ℕ, ◌-◌, ◌<◌}
+use Prim.Native.Nat.{ℕ, ◌<◌}
 use Rattle.std.proofs.Math.Path.{◌≡◌, sym, ap}
 use Rattle.std.specs.Prelude.{refl, List, Bool, not, ◌&&◌, ◌≢◌, eqb, length}
 use Rattle.std.proofs.Common.{◌∙◌, arith, zero-add, get_or-set_same}

@@ -14,7 +14,6 @@ use Rattle.std.proofs.Math.ListN.{length, length-map}
 use Rattle.arith.specs.Laws.Tests.{by-test}
 use Rattle.bus_model.specs.Frame.{row}
 use Rattle.bus_model.specs.Valid.{Valid}
-use Rattle.bus_model.specs.Release.{release}
 use Rattle.bus_model.specs.Bus.{one_more, Waiting}
 use Rattle.bus_model.specs.declared.Frame.{Frame}
 use Rattle.bus_log.specs.declared.Line.{Line}

@@ -1,5 +1,4 @@
 -- `frame_length::crc_step` meets its contract: the test is whether the bit that leaves the register is the next one.
-use borrow.Author.Rules.{rules}
 use mathlib.Core.Path.{◌≡◌}
 use mathlib.Core.Bool.{true, false, xor}
 use Rattle.frame_length.specs.DataFrame.{bit}

@@ -1,5 +1,4 @@
 -- `frame_length::measure` meets its contract: the limits first, then the bits and their CRC.
-use borrow.Author.Rules.{rules}
 use Prim.Native.Nat.{ℕ, ◌+◌}
 use mathlib.Core.Bool.{true, false}
 use mathlib.Core.Path.{◌≡◌, ap, sym, ◌∙◌}

@@ -1,5 +1,4 @@
 -- `frame_length::run_with` meets its contract.
-use borrow.Author.Rules.{rules}
 use native.Mathlib.Omega.{arith}
 use Rattle.frame_length.proofs.run_with.Goals as goal
 

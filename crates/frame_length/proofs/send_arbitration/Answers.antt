@@ -1,5 +1,4 @@
 -- `frame_length::send_arbitration` meets its contract: one list after the other.
-use borrow.Author.Rules.{rules}
 use borrow.Author.Tests.{eq-eqb, ne_eqb}
 use mathlib.Core.Path.{◌∙◌}
 use native.Mathlib.Omega.{arith}

@@ -1,5 +1,4 @@
 -- `frame_length::send_before_crc` meets its contract: one field after the other.
-use borrow.Author.Rules.{rules}
 use mathlib.Core.Path.{◌∙◌}
 use Rattle.frame_length.specs.Laws.Sending.{sent-before}
 use Rattle.frame_length.proofs.send_before_crc.Goals as goal

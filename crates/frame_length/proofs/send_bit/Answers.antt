@@ -1,5 +1,4 @@
 -- `frame_length::send_bit` meets its contract.
-use borrow.Author.Rules.{rules}
 use borrow.Author.Tests.{eq-eqb, ne_eqb}
 use native.Mathlib.Omega.{arith}
 use Rattle.frame_length.specs.Steps.{send_bit}

@@ -1,13 +1,9 @@
 -- `frame_length::send_bits` meets its contract. The loop's invariant: sending the bits that are left gives what sending
 -- all of them from the start gives.
-use borrow.Author.Rules.{rules}
-use Prim.Native.Nat.{ℕ, ◌+◌, ◌-◌, ◌*◌, ◌≤◌, ◌<◌}
-use mathlib.Core.Path.{◌≡◌, refl, ap, sym, ◌∙◌}
-use native.Mathlib.Omega.{arith}
-use Rattle.frame_length.specs.declared.Sent.{Sent}
-use Rattle.frame_length.specs.DataFrame.{bit, bits}
-use Rattle.frame_length.specs.Steps.{send_bit, send_all}
-use Rattle.frame_length.specs.Laws.Sending.{bits-more}
+use Prim.Native.Nat.{◌+◌, ◌*◌, ◌≤◌}
+use mathlib.Core.Path.{◌≡◌}
+use Rattle.frame_length.specs.DataFrame.{bits}
+use Rattle.frame_length.specs.Steps.{send_all}
 use Rattle.frame_length.proofs.send_bits.Given as goal
 
 abbrev pub invariant-loop-j : goal.invariant-loop-j

@@ -1,5 +1,4 @@
 -- `frame_length::send_control` meets its contract.
-use borrow.Author.Rules.{rules}
 use native.Mathlib.Omega.{arith}
 use Rattle.frame_length.specs.DataFrame.{control}
 use Rattle.frame_length.specs.Steps.{send_all}

@@ -31,7 +31,7 @@ returns-then-is_payload c =
         ← c.is_payload.ensures,
         c.if-is_payload.true,
       ) (rw value);
-      out_after = rw value after;
+      out_after = rw (← c.read-first.ensures, c.in-Value.is, ← c.read-second.ensures, c.in-Value-second.is) after;
     }
 
 pub returns-else-is_payload : goal.returns-else-is_payload

@@ -1,9 +1,8 @@
 -- `frame_table::narrow` meets its contract: after k turns the first k fields stand over the first k rows.
 use Prim.Native.Nat.{◌-◌, ◌≤◌}
-use mathlib.Core.Path.{◌≡◌, refl}
-use borrow.Author.Rules.{rules}
+use mathlib.Core.Path.{◌≡◌}
 use lib.ListN.{length}
-use Rattle.arith.specs.Laws.Overwriting.{over, over-element, over-all}
+use Rattle.arith.specs.Laws.Overwriting.{over}
 use Rattle.frame_table.proofs.narrow.Given as goal
 
 abbrev pub invariant-loop-k : goal.invariant-loop-k

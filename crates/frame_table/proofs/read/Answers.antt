@@ -2,7 +2,6 @@
 use Prim.Native.Nat.{ℕ}
 use mathlib.Core.Path.{refl, sym, ◌∙◌}
 use mathlib.Core.List.{List}
-use borrow.Author.Rules.{rules}
 use Rattle.frame_table.specs.Text.{fields_of}
 use Rattle.frame_table.specs.Table.{read_check}
 use Rattle.frame_table.specs.Laws.Returns.{answer-told}

@@ -1,6 +1,5 @@
 -- `frame_table::store` meets its contract: fields that passed are stored where they have room, and else the area is left.
 use mathlib.Core.Path.{refl}
-use borrow.Author.Rules.{rules}
 use Rattle.frame_table.specs.Laws.Areas.{area-refused, area-short, area-written}
 use Rattle.frame_table.proofs.store.Goals as goal
 

@@ -1,6 +1,5 @@
 -- `frame_table::write` meets its contract: rows that passed are written where their text has room, and else the area is left.
 use mathlib.Core.Path.{◌≡◌, refl, sym, ◌∙◌}
-use borrow.Author.Rules.{rules}
 use Rattle.table_checks.specs.declared.Checked.TheVariants.{Passed}
 use Rattle.table_checks.specs.Checks.{rows_check}
 use Rattle.frame_table.specs.Text.{text_of}

@@ -1,5 +1,5 @@
 -- What is remembered: at first nothing, then one stair after the other, or one that is longer.
-use Rattle.std.specs.Prelude.{ℕ, zero, suc, ◌+◌, ◌-◌, ◌*◌, ◌/◌, ◌%◌, ◌≤◌, ◌<◌, ◌≡◌, refl, Bool, true, false, ◌&&◌, get_or, set, replicate, leb}
+use Rattle.std.specs.Prelude.{ℕ, zero, suc, ◌+◌, ◌-◌, ◌*◌, ◌/◌, ◌%◌, ◌≤◌, ◌<◌, ◌≡◌, refl, Bool, true, false, get_or, set, replicate, leb}
 use Rattle.std.proofs.Common.{sym, ap, ap₂, ◌∙◌, arith, le_refl, mul-le-mul, mul-le-mul_right, suc-mul, mul_comm, length-set, get_or-set_same, get_or-set_other, eqb-true, leb-true}
 use mathlib.Core.List.Memᴰ.{head as here}
 use mathlib.Core.List.Memᴰ.{tail as there}

@@ -2,7 +2,6 @@
 use mathlib.Core.Path.{◌≡◌, sym, ◌∙◌}
 use mathlib.Core.Bool.{true}
 use native.Mathlib.Omega.{arith}
-use borrow.Author.Rules.{rules}
 use Rattle.lengths_file.specs.Lengths.{is_text, loaded}
 use Rattle.lengths_file.specs.Laws.Reading.{text-size, loaded-told}
 use Rattle.lengths_file.proofs.read.Goals as goal

@@ -1,6 +1,5 @@
 -- `lengths_file::write` meets its contract: lengths that passed are written where the file has room, and else it is left.
 use mathlib.Core.Path.{◌≡◌, refl, sym, ◌∙◌}
-use borrow.Author.Rules.{rules}
 use Rattle.table_checks.specs.declared.Checked.TheVariants.{Passed}
 use Rattle.table_checks.specs.Checks.{lengths_check}
 use Rattle.frame_table.specs.declared.Answer.TheVariants.{Refused}

@@ -1,5 +1,5 @@
 -- What reading the lengths' file tells: its check, and its numbers.
-use Rattle.std.specs.Prelude.{ℕ, ◌+◌, ◌-◌, ◌*◌, ◌≤◌, ◌<◌, ◌≡◌, true, cond, List, [], ◌∷◌, length, get_or}
+use Rattle.std.specs.Prelude.{ℕ, ◌+◌, ◌*◌, ◌≤◌, ◌<◌, ◌≡◌, true, cond, List, [], ◌∷◌, length, get_or}
 use Rattle.std.proofs.Common.{ap, ap₂, ◌∙◌, zero-add, arith, eqb-true, length-take, length-drop}
 use Rattle.std.proofs.lemmas.List.{length-map}
 use Rattle.arith.specs.Lists.{range}

@@ -1,5 +1,4 @@
 -- `log_check::check_log` meets its contract: each answer is that of the definition.
-use borrow.Author.Rules.{rules}
 use mathlib.Core.Path.{sym, ◌∙◌}
 use Rattle.table_checks.specs.Laws.Accepted.{loaded-both}
 use Rattle.log_check.specs.Check.{checked_answer}

@@ -1,5 +1,4 @@
 -- `log_check::check_text` meets its contract.
-use borrow.Author.Rules.{rules}
 use mathlib.Core.Path.{sym, ◌∙◌}
 use native.Mathlib.Omega.{arith}
 use Rattle.log_check.specs.Check.{line_answer, text_answer}

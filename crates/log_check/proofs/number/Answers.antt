@@ -1,5 +1,4 @@
 -- Each cause has its own arm.
-use borrow.Author.Rules.{rules}
 use Rattle.log_check.specs.Refusal.{number_of}
 use Rattle.log_check.proofs.number.Goals as goal
 

@@ -1,5 +1,4 @@
 -- `log_load::number` meets its contract.
-use borrow.Author.Rules.{rules}
 use Rattle.log_load.specs.Refusal.{number_of}
 use Rattle.log_load.proofs.number.Goals as goal
 

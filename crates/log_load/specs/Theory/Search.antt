@@ -3,7 +3,6 @@ use Rattle.std.specs.Prelude.{ℕ, suc, ◌+◌, ◌-◌, ◌≤◌, ◌<◌, �
 use Rattle.std.proofs.Common.{subst, inl, inr, arith, eq-eqb, eqb→eq}
 use Rattle.std.proofs.Math.Decide.{dec_lt}
 use Rattle.arith.specs.Lists.{range}
-use Rattle.arith.specs.Least.{least}
 use Rattle.arith.specs.Laws.Members.{Lowest, lowest, mem-range, of_range}
 use Rattle.arith.specs.Laws.Least.{least_at, least-finds, least-le}
 use Rattle.bus_log.specs.declared.Line.{Line}

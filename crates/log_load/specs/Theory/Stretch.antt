@@ -1,5 +1,5 @@
 -- Where a busiest stretch begins: at 0, with a transmission, or so that it ends with one. So only these places need be tried.
-use Rattle.std.specs.Prelude.{ℕ, zero, suc, ◌+◌, ◌-◌, ◌≤◌, ◌<◌, ◌≡◌, refl, false, ◌⊎◌, leb, ltb}
+use Rattle.std.specs.Prelude.{ℕ, zero, suc, ◌+◌, ◌≤◌, ◌<◌, ◌≡◌, refl, false, ◌⊎◌, leb, ltb}
 use Rattle.std.proofs.Common.{sym, ◌∙◌, inl, inr, add-zero}
 use Rattle.std.proofs.Math.Bool.{true}
 use mathlib.Core.List.Memᴰ.{head as here}

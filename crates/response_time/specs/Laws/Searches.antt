@@ -1,7 +1,7 @@
 -- The two searches of a scenario, as one loop computes them: the load of a number, what the loop may pass over,
 -- the busy window, and the instances of a window one after the other.
 use Prim.Native.Nat.{ℕ, zero, suc, ◌+◌, ◌-◌, ◌*◌, ◌≤◌, ◌<◌, min, max}
-use Rattle.std.specs.Prelude.{◌≡◌, List, Bool, T, length}
+use Rattle.std.specs.Prelude.{◌≡◌, List, Bool, T}
 use Rattle.std.proofs.Math.Path.{refl, sym, ap, fun_ext}
 use Rattle.std.proofs.Common.{subst, ◌∙◌, add-zero, mul-le-mul}
 use native.Mathlib.Omega.{arith}

@@ -1,5 +1,4 @@
 -- Each cause has its own arm.
-use borrow.Author.Rules.{rules}
 use Rattle.row_judgement.specs.Refusal.{number_of}
 use Rattle.row_judgement.proofs.number.Goals as goal
 

@@ -8,24 +8,24 @@ use Rattle.simulate_command.proofs.write_log.Goals as goal
 pub returns-in_default : goal.returns-in_default
 unfolding reply_for
 returns-in_default c = record {
-  value = rw (← c.read-first.ensures, c.in_default.is) refl;
-  out_after = rw (← c.read-first.ensures, c.in_default.is) refl;
+  value = rw (← c.read-first.ensures, c.in_default.is);
+  out_after = refl;
 }
 
 pub returns-in_default-second : goal.returns-in_default-second
 unfolding reply_for
 returns-in_default-second c =
     record {
-      value = rw (← c.read-first.ensures, c.in-Value.is, ← c.read-second.ensures, c.in_default-second.is) refl;
-      out_after = rw (← c.read-first.ensures, c.in-Value.is, ← c.read-second.ensures, c.in_default-second.is) refl;
+      value = rw (← c.read-first.ensures, c.in-Value.is, ← c.read-second.ensures, c.in_default-second.is);
+      out_after = refl;
     }
 
 pub returns-then-s-gt-GREATEST_SEED : goal.returns-then-s-gt-GREATEST_SEED
 unfolding reply_for
 returns-then-s-gt-GREATEST_SEED c =
     record {
-      value = rw (← c.read-first.ensures, c.in-Value.is, ← c.read-second.ensures, c.in-Value-second.is, lt-leb _ _ c.if-s-gt-GREATEST_SEED.true) refl;
-      out_after = rw (← c.read-first.ensures, c.in-Value.is, ← c.read-second.ensures, c.in-Value-second.is, lt-leb _ _ c.if-s-gt-GREATEST_SEED.true) refl;
+      value = rw (← c.read-first.ensures, c.in-Value.is, ← c.read-second.ensures, c.in-Value-second.is, lt-leb _ _ c.if-s-gt-GREATEST_SEED.true);
+      out_after = refl;
     }
 
 pub returns : goal.returns
@@ -34,5 +34,5 @@ returns c =
     let both = c.write_simulated.ensures in
     record {
       value = rw (← c.read-first.ensures, c.in-Value.is, ← c.read-second.ensures, c.in-Value-second.is, le-leb _ _ c.if-s-gt-GREATEST_SEED.false) (rw both.value);
-      out_after = rw (← c.read-first.ensures, c.in-Value.is, ← c.read-second.ensures, c.in-Value-second.is, le-leb _ _ c.if-s-gt-GREATEST_SEED.false) both.out_after;
+      out_after = rw (← c.read-first.ensures, c.in-Value.is, ← c.read-second.ensures, c.in-Value-second.is) both.out_after;
     }

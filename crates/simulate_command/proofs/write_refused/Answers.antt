@@ -2,6 +2,7 @@
 use mathlib.Core.Path.{refl}
 use borrow.Author.Rules.{rules}
 use Rattle.table_checks.specs.Laws.Returns.{number-some}
+use Rattle.frame_table.specs.declared.Answer.TheVariants.{Refused}
 use Rattle.frame_table.specs.Table.{answer_returns}
 use Rattle.simulator.specs.Simulate.{simulated_returns}
 use Rattle.simulate_command.specs.Steps.{answer_after, area_printed}
@@ -18,7 +19,8 @@ returns-in-Done c = record {
 pub returns-in-Refused : goal.returns-in-Refused
 unfolding simulated_returns answer_returns
 returns-in-Refused c =
-    record {
-      value = rw c.in-Refused.is (line-printed _ _ (number-some _) (rw (← c.number.ensures) (c.write_refusal_line.ensures.value, c.write_refusal_line.ensures.out_after))).0;
-      out_after = rw c.in-Refused.is (line-printed _ _ (number-some _) (rw (← c.number.ensures) (c.write_refusal_line.ensures.value, c.write_refusal_line.ensures.out_after))).1;
-    }
+    let e = c.write_refusal_line.ensures in
+    let value = rw c.number.ensures at e.value in
+    let after = rw c.number.ensures at e.out_after in
+    let both = line-printed (answer_returns (Refused c.in-Refused.refusal)) c.args.out.now (number-some c.in-Refused.refusal.cause) (value, after) in
+    record { value = rw c.in-Refused.is both.0; out_after = rw c.in-Refused.is both.1 }

@@ -1,6 +1,5 @@
 -- A table that a check turns back is refused with its cause and shows nothing; else the last row is judged, and what it shows is reached.
 use mathlib.Core.Path.{◌≡◌, sym, ◌∙◌}
-use borrow.Author.Rules.{rules}
 use Rattle.table_checks.specs.Checks.{loaded_check}
 use Rattle.table_checks.specs.declared.Checked.TheVariants.{Passed}
 use Rattle.table_checks.specs.Laws.Accepted.{loaded-both}

@@ -1,5 +1,4 @@
 -- The last row, judged, with its worst case.
-use borrow.Author.Rules.{rules}
 use Rattle.workload.specs.Laws.Groups.{fine-never}
 use Rattle.worst_case.specs.Answer.{judged_last}
 use Rattle.worst_case.proofs.worst_of_rows.Goals as goal

@@ -1,7 +1,6 @@
 -- The tick after a is at most the turn.
 use mathlib.Core.Path.{sym, ap, ◌∙◌}
 use native.Mathlib.Omega.{arith}
-use borrow.Author.Rules.{rules}
 use Rattle.arith.specs.Least.{is_none}
 use Rattle.bus_model.specs.Theory.Turns.{turn-le}
 use Rattle.bounds.proofs.alignments.is_last.Goals as goal

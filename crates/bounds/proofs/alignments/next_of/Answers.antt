@@ -2,7 +2,6 @@
 use Prim.Native.Nat.{ℕ, ◌+◌, ◌-◌, ◌<◌}
 use mathlib.Core.Path.{◌≡◌, ap, ◌∙◌}
 use native.Mathlib.Omega.{arith}
-use borrow.Author.Rules.{rules}
 use Rattle.arith.specs.Least.{least}
 use Rattle.bus_model.specs.Theory.Visits.{is_alignment}
 use Rattle.bus_model.specs.Theory.Turns.{turn}

@@ -1,8 +1,6 @@
-use Prim.Native.Nat.{◌+◌, ◌-◌}
+use Prim.Native.Nat.{◌+◌}
 use mathlib.Core.Path.{◌≡◌, refl, sym, ap, ◌∙◌}
 use native.Mathlib.Omega.{arith}
-use borrow.Author.Rules.{rules}
-use Rattle.arith.specs.Least.{least}
 use Rattle.arith.specs.Laws.Least.{least-here, least-end, least_skip}
 use Rattle.bus_model.specs.Theory.OpenGroups.{is_any, is_open, next_open}
 use Rattle.workload.specs.Laws.Groups.{read-choice}

@@ -1,12 +1,8 @@
 -- Where k's own group is fixed, the loop looks for the least open one.
 use Prim.Native.Nat.{◌+◌, ◌-◌}
-use mathlib.Core.Path.{◌≡◌, refl, sym, ap, ◌∙◌}
-use native.Mathlib.Omega.{arith}
-use borrow.Author.Rules.{rules}
+use mathlib.Core.Path.{◌≡◌}
 use Rattle.arith.specs.Least.{least}
-use Rattle.arith.specs.Laws.Least.{least-here, least-end, least_skip}
-use Rattle.bus_model.specs.Theory.OpenGroups.{is_any, is_open, next_open}
-use Rattle.workload.specs.Laws.Groups.{read-choice}
+use Rattle.bus_model.specs.Theory.OpenGroups.{is_open}
 use Rattle.bounds.proofs.alignments.next_open.Given as goal
 
 abbrev pub invariant-loop-j : goal.invariant-loop-j

@@ -1,5 +1,4 @@
 -- By the instance.
-use borrow.Author.Rules.{rules}
 use Rattle.bus_model.specs.Case.{no_case}
 use Rattle.bounds.specs.Case.{case_by}
 use Rattle.bounds.proofs.case.case_of.Goals as goal

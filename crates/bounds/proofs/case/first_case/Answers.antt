@@ -1,11 +1,7 @@
-use Prim.Native.Nat.{◌+◌, ◌-◌, ◌≤◌}
+use Prim.Native.Nat.{◌+◌}
 use mathlib.Core.Path.{◌≡◌, sym, ◌∙◌}
-use mathlib.Core.List.{map}
 use native.Mathlib.Omega.{arith}
-use borrow.Author.Rules.{rules}
-use Rattle.bus_model.specs.Case.{shown}
 use Rattle.workload.specs.Prepared.{table_of}
-use Rattle.greatest_work.specs.Ready.{Ready}
 use Rattle.bounds.specs.Case.{LeadsTo}
 use Rattle.bounds.specs.Laws.Case.{leads-start, leads-at, leads-own, leads-window, leads-case, shown-set, shown-free}
 use Rattle.bounds.proofs.case.first_case.Goals as goal

@@ -1,14 +1,11 @@
 -- The loop fixes the groups one after the other, each at the alignment that leads to the first case.
 use Prim.Native.Nat.{◌+◌, ◌-◌, ◌≤◌}
-use mathlib.Core.Path.{◌≡◌, sym, ◌∙◌}
+use mathlib.Core.Path.{◌≡◌}
 use mathlib.Core.List.{map}
-use native.Mathlib.Omega.{arith}
-use borrow.Author.Rules.{rules}
 use Rattle.bus_model.specs.Case.{shown}
 use Rattle.workload.specs.Prepared.{table_of}
 use Rattle.greatest_work.specs.Ready.{Ready}
 use Rattle.bounds.specs.Case.{LeadsTo}
-use Rattle.bounds.specs.Laws.Case.{leads-start, leads-at, leads-own, leads-window, leads-case, shown-set, shown-free}
 use Rattle.bounds.proofs.case.first_case.Given as goal
 
 abbrev pub invariant-loop-i : goal.invariant-loop-i

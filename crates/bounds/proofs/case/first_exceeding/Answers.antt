@@ -1,7 +1,6 @@
 use Prim.Native.Nat.{◌+◌, ◌-◌, ◌≤◌}
 use mathlib.Core.Path.{◌≡◌, sym, ◌∙◌}
 use native.Mathlib.Omega.{arith}
-use borrow.Author.Rules.{rules}
 use borrow.Author.Tests.{ltb-true, ltb-false}
 use lib.Dec.{ltb}
 use lib.ListN.{set}
@@ -9,8 +8,7 @@ use Rattle.bus_model.specs.declared.Choice.TheVariants.{Fixed}
 use Rattle.bus_model.specs.Theory.OpenGroups.{fixing_more}
 use Rattle.bus_model.specs.Theory.Turns.{turn, turn-le}
 use Rattle.workload.specs.Prepared.{table_of}
-use Rattle.greatest_work.specs.Ready.{Ready}
-use Rattle.bounds.specs.Laws.Case.{Tries, tries-first, tries-inside, tries-refined, tries-take, tries-last, tries-next, tries-less}
+use Rattle.bounds.specs.Laws.Case.{tries-first, tries-inside, tries-refined, tries-take, tries-last, tries-next, tries-less}
 use Rattle.bounds.proofs.case.first_exceeding.Goals as goal
 use Rattle.bounds.proofs.case.first_exceeding.Goals.{After-is_exceeded, At-loop-b}
 

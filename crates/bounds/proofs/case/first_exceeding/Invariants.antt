@@ -1,17 +1,9 @@
 -- The loop visits the group's alignments; with none before the one it stands at does a response exceed the claim.
-use Prim.Native.Nat.{◌+◌, ◌-◌, ◌≤◌}
-use mathlib.Core.Path.{◌≡◌, sym, ◌∙◌}
-use native.Mathlib.Omega.{arith}
-use borrow.Author.Rules.{rules}
-use borrow.Author.Tests.{ltb-true, ltb-false}
-use lib.Dec.{ltb}
-use lib.ListN.{set}
-use Rattle.bus_model.specs.declared.Choice.TheVariants.{Fixed}
-use Rattle.bus_model.specs.Theory.OpenGroups.{fixing_more}
-use Rattle.bus_model.specs.Theory.Turns.{turn, turn-le}
+use Prim.Native.Nat.{◌-◌}
+use Rattle.bus_model.specs.Theory.Turns.{turn}
 use Rattle.workload.specs.Prepared.{table_of}
 use Rattle.greatest_work.specs.Ready.{Ready}
-use Rattle.bounds.specs.Laws.Case.{Tries, tries-first, tries-inside, tries-refined, tries-take, tries-last, tries-next, tries-less}
+use Rattle.bounds.specs.Laws.Case.{Tries}
 use Rattle.bounds.proofs.case.first_exceeding.Given as goal
 
 abbrev pub invariant-loop-b : goal.invariant-loop-b

@@ -1,12 +1,11 @@
-use Prim.Native.Nat.{ℕ, suc, ◌-◌, ◌*◌, min}
+use Prim.Native.Nat.{ℕ, suc, ◌*◌, min}
 use mathlib.Core.Path.{◌≡◌, ap, ◌∙◌}
 use native.Mathlib.Omega.{arith}
 use native.Mathlib.Numerals.{add-one}
-use borrow.Author.Rules.{rules}
 use lib.ListN.{length}
 use Rattle.bus_model.specs.Valid.{ValidFrame}
 use Rattle.bus_model.specs.Bounds.{alignments, or_empty}
-use Rattle.bus_model.specs.Theory.LevelSearch.{group_at, AtLevel, level-start, level-next, level-over, level_all}
+use Rattle.bus_model.specs.Theory.LevelSearch.{group_at, level-start, level-next, level-over, level_all}
 use Rattle.workload.specs.Prepared.{table_of}
 use Rattle.workload.specs.Laws.Fine.{of-fine}
 use Rattle.bounds.proofs.count.deepest_level.Goals as goal

@@ -1,7 +1,6 @@
 -- By what is enough: where nothing is asked, or the bound that is found is above it, there are too many scenarios; else by the level.
 use mathlib.Core.Path.{sym, ◌∙◌}
 use native.Mathlib.Omega.{arith}
-use borrow.Author.Rules.{rules}
 use Rattle.bounds.specs.Laws.Search.{free-start, decided-unasked, decided-above, decided-last, decided-level}
 use Rattle.bounds.proofs.deciding.by_level.Goals as goal
 

@@ -2,7 +2,6 @@
 use mathlib.Core.Path.{◌≡◌, sym, ◌∙◌}
 use mathlib.Core.Bool.{false}
 use native.Mathlib.Omega.{arith}
-use borrow.Author.Rules.{rules}
 use Rattle.bus_model.specs.Bounds.{approximate_bound}
 use Rattle.bus_model.specs.Judgement.{lacks_window}
 use Rattle.bus_model.specs.Theory.Levels.{deepest-le}

@@ -1,5 +1,4 @@
 -- By the claim.
-use borrow.Author.Rules.{rules}
 use Rattle.bounds.proofs.deciding.is_met.Goals as goal
 
 pub returns-in-At : goal.returns-in-At

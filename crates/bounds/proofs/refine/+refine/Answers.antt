@@ -1,10 +1,12 @@
-use Rattle.std.proofs.Common.{◌≡◌, ℕ, suc, ◌-◌, ◌+◌, ◌≤◌, ◌<◌, min, max, List, length, set, refl, sym, ap, subst, ◌∙◌, arith, rules}
+-- Where the search ends it has the scenario's own response, or one that is above `enough`; else what it finds is the greatest over the next
+-- group's alignments, each with one group more fixed, and that is the greatest with one group more.
+use Rattle.std.proofs.Common.{◌≡◌, ℕ, suc, ◌-◌, ◌≤◌, min, max, List, length, set, refl, sym, ap, subst, ◌∙◌, arith, rules}
 use mathlib.Core.List.{Memᴰ as Mem}
 use Rattle.arith.specs.Lists.{greatest}
 use Rattle.arith.specs.Laws.Walks.{walk-less}
 use Rattle.bus_model.specs.declared.Choice.{Choice}
 use Rattle.bus_model.specs.declared.Choice.TheVariants.{Fixed}
-use Rattle.bus_model.specs.Bounds.{alignments, or_empty}
+use Rattle.bus_model.specs.Bounds.{alignments, or_empty, scenario_response}
 use Rattle.bus_model.specs.Theory.OpenGroups.{fixing_more}
 use Rattle.bus_model.specs.Theory.Turns.{first_turn, turn-le}
 use Rattle.workload.specs.Prepared.{table_of}
@@ -39,7 +41,11 @@ pub returns-then-left-eq0-clause-settles : goal.returns-then-left-eq0-clause-set
 returns-then-left-eq0-clause-settles t c =
     let p = c.requires.ready_2 in
     let w = (goal.at.returns-then-left-eq0-clause-settles t c).After-with_choice-choices in
-    told t w _ (ap (min (suc c.args.enough)) (c.max_with_scenario.ensures.value ∙ ap (max c.args.known.best) (sym (rw c.if-left-eq0.true (open-end p.prepared.filled.table p.listed c.with_choice-choices.result (long t w) _)))))
+    let x = c.args in
+    let fs = table_of x.rows.now x.prepared.now in
+    let cs = c.with_choice-choices.result in
+    let end : fixing_more x.target.faults fs x.target.frame x.left cs ≡ scenario_response x.target.faults fs x.target.frame cs = rw c.if-left-eq0.true (open-end p.prepared.filled.table p.listed cs (long t w) _) in
+    told t w _ (ap (min (suc x.enough)) (c.max_with_scenario.ensures.value ∙ ap (max x.known.best) (sym end)))
 
 pub returns-in_default-clause-settles : goal.returns-in_default-clause-settles
 returns-in_default-clause-settles t c =
@@ -141,7 +147,7 @@ next_of-found-requires-clause-le_group t c =
 pub returns-in_default-found-clause-settles : goal.returns-in_default-found-clause-settles
 returns-in_default-found-clause-settles t c =
     told t (goal.at.returns-in_default-found-clause-settles t c).After-with_choice-choices _ (ap (min (suc c.args.enough)) (best-end _ _ _ _ c.loop-rest.invariant.0 (exact t (goal.at.returns-in_default-found-clause-settles t c).Else-enough-more) (sym c.next_of-found.ensures ∙ c.in_default-found.is)
-      ∙ ap (max c.args.known.best) (whole t (goal.at.returns-in_default-found-clause-settles t c).In-At)))
+    ∙ ap (max c.args.known.best) (whole t (goal.at.returns-in_default-found-clause-settles t c).In-At)))
 
 pub loop-rest-smaller : goal.loop-rest-smaller
 loop-rest-smaller t c = walk-less _ _ _ _ _ c.loop-rest.invariant.0.walk (sym c.next_of-found.ensures ∙ c.in-At-found.is)

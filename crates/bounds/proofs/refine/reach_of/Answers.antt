@@ -1,7 +1,6 @@
 -- By the limit: the one given, or the window that is found.
 use mathlib.Core.Path.{◌≡◌, ap, ◌∙◌}
 use native.Mathlib.Omega.{arith}
-use borrow.Author.Rules.{rules}
 use Rattle.arith.specs.Least.{or_zero}
 use Rattle.response_time.specs.Laws.Searches.{window-small}
 use Rattle.bounds.proofs.refine.reach_of.Goals as goal

@@ -8,11 +8,10 @@ use Rattle.arith.specs.Laws.Least.{least-within}
 use Rattle.bus_model.specs.declared.Choice.TheVariants.{Fixed}
 use Rattle.bus_model.specs.Bounds.{phase, or_empty}
 use Rattle.bus_model.specs.Theory.OpenGroups.{fixing_more}
-use Rattle.bus_model.specs.Theory.Turns.{turn, first_turn, turn-le}
+use Rattle.bus_model.specs.Theory.Turns.{first_turn, turn-le}
 use Rattle.workload.specs.Prepared.{table_of}
 use Rattle.workload.specs.Laws.Fine.{in-table-fine}
-use Rattle.greatest_work.specs.Ready.{Ready}
-use Rattle.bounds.specs.Laws.Search.{BestFrom, from_more, from-end, from-above, own-group, own_first, own-next, own-set, own-limits, own-window, open_more}
+use Rattle.bounds.specs.Laws.Search.{from_more, from-end, from-above, own-group, own_first, own-next, own-set, own-limits, own-window, open_more}
 use Rattle.bounds.proofs.refine.refine_own.Goals as goal
 use Rattle.bounds.proofs.refine.refine_own.Goals.{Else-enough-most, Start}
 

@@ -1,19 +1,12 @@
 -- The loop has the greatest response over the alignments of the own group that are visited, and the one at which the target is released.
-use Prim.Native.Nat.{suc, ◌-◌, ◌≤◌, min, max}
-use mathlib.Core.Path.{◌≡◌, refl, sym, ap, ◌∙◌}
-use native.Mathlib.Omega.{arith}
-use borrow.Author.Rules.{rules}
-use lib.ListN.{length, set}
-use Rattle.arith.specs.Lists.{greatest}
-use Rattle.arith.specs.Laws.Least.{least-within}
+use Prim.Native.Nat.{◌-◌}
+use lib.ListN.{set}
 use Rattle.bus_model.specs.declared.Choice.TheVariants.{Fixed}
-use Rattle.bus_model.specs.Bounds.{phase, or_empty}
 use Rattle.bus_model.specs.Theory.OpenGroups.{fixing_more}
-use Rattle.bus_model.specs.Theory.Turns.{turn, first_turn, turn-le}
+use Rattle.bus_model.specs.Theory.Turns.{turn}
 use Rattle.workload.specs.Prepared.{table_of}
-use Rattle.workload.specs.Laws.Fine.{in-table-fine}
 use Rattle.greatest_work.specs.Ready.{Ready}
-use Rattle.bounds.specs.Laws.Search.{BestFrom, from_more, from-end, from-above, own-group, own_first, own-next, own-set, own-limits, own-window, open_more}
+use Rattle.bounds.specs.Laws.Search.{BestFrom}
 use Rattle.bounds.proofs.refine.refine_own.Given as goal
 
 abbrev pub invariant-loop-most : goal.invariant-loop-most

@@ -1,12 +1,9 @@
-use Prim.Native.Nat.{◌-◌, ◌≤◌}
+use Prim.Native.Nat.{◌≤◌}
 use mathlib.Core.Path.{sym, ◌∙◌}
 use native.Mathlib.Omega.{arith}
-use borrow.Author.Rules.{rules}
 use Rattle.arith.specs.Laws.Walks.{walk-less}
-use Rattle.bus_model.specs.Theory.Turns.{turn, turn-le}
-use Rattle.workload.specs.Prepared.{table_of}
-use Rattle.greatest_work.specs.Ready.{Ready}
-use Rattle.bounds.specs.Laws.Search.{own-group, lacks-none, Missing, missing-first, missing-here, missing-more, missing-end}
+use Rattle.bus_model.specs.Theory.Turns.{turn-le}
+use Rattle.bounds.specs.Laws.Search.{own-group, lacks-none, missing-first, missing-here, missing-more, missing-end}
 use Rattle.bounds.proofs.windows.lacks_window.Goals as goal
 use Rattle.bounds.proofs.windows.lacks_window.Goals.{Start}
 

@@ -1,13 +1,9 @@
 -- The loop goes through the alignments of the own group until one has no window.
-use Prim.Native.Nat.{◌-◌, ◌≤◌}
-use mathlib.Core.Path.{sym, ◌∙◌}
-use native.Mathlib.Omega.{arith}
-use borrow.Author.Rules.{rules}
-use Rattle.arith.specs.Laws.Walks.{walk-less}
-use Rattle.bus_model.specs.Theory.Turns.{turn, turn-le}
+use Prim.Native.Nat.{◌-◌}
+use Rattle.bus_model.specs.Theory.Turns.{turn}
 use Rattle.workload.specs.Prepared.{table_of}
 use Rattle.greatest_work.specs.Ready.{Ready}
-use Rattle.bounds.specs.Laws.Search.{own-group, lacks-none, Missing, missing-first, missing-here, missing-more, missing-end}
+use Rattle.bounds.specs.Laws.Search.{Missing}
 use Rattle.bounds.proofs.windows.lacks_window.Given as goal
 
 abbrev pub invariant-loop-next : goal.invariant-loop-next

@@ -1,6 +1,5 @@
 -- `bus_log::follow::advance` meets its contract.
 use Prim.Native.Nat.{◌<◌}
-use borrow.Author.Rules.{rules}
 use Rattle.bus_log.specs.Theory.Table.{any-group}
 use Rattle.bus_log.specs.Follow.{advance}
 use Rattle.bus_log.proofs.follow.advance.Goals as goal

@@ -1,6 +1,5 @@
 -- `bus_log::follow::does_hinder` meets its contract.
 use borrow.Author.Tests.{lt-ltb, le-ltb}
-use borrow.Author.Rules.{rules}
 use Rattle.bus_log.specs.Follow.{hinders}
 use Rattle.bus_log.proofs.follow.does_hinder.Goals as goal
 

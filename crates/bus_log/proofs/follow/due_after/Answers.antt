@@ -1,6 +1,5 @@
 -- `bus_log::follow::due_after` meets its contract.
 use borrow.Author.Tests.{eq-eqb, ne_eqb}
-use borrow.Author.Rules.{rules}
 use Rattle.bus_log.specs.Follow.{due_after}
 use Rattle.bus_log.specs.Theory.Table.{any-group}
 use Rattle.bus_log.proofs.follow.due_after.Goals as goal

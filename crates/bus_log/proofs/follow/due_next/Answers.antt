@@ -1,5 +1,4 @@
 -- `bus_log::follow::due_next` meets its contract.
-use borrow.Author.Rules.{rules}
 use Rattle.bus_log.specs.Follow.{due_next}
 use Rattle.bus_log.proofs.follow.due_next.Goals as goal
 

@@ -1,5 +1,4 @@
 -- `bus_log::follow::due_with` meets its contract.
-use borrow.Author.Rules.{rules}
 use Rattle.bus_log.specs.Follow.{due_with}
 use Rattle.bus_log.proofs.follow.due_with.Goals as goal
 

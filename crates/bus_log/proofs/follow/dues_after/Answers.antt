@@ -1,13 +1,7 @@
 use borrow.Author.Rules.{rules}
-use Prim.Native.Nat.{◌-◌, ◌≤◌}
-use mathlib.Core.Path.{◌≡◌, refl, ◌∙◌}
-use mathlib.Core.List.{map}
-use lib.ListN.{length, length-set}
+use mathlib.Core.Path.{refl, ◌∙◌}
+use lib.ListN.{length-set}
 use Rattle.bus_log.specs.Theory.Filled.{fill_more, fill-all}
-use Rattle.arith.specs.Lists.{range}
-use Rattle.arith.specs.Laws.Overwriting.{over}
-use Rattle.table_checks.specs.Frames.{frames_of}
-use Rattle.bus_log.specs.Follow.{due_after}
 use Rattle.bus_log.proofs.follow.dues_after.Goals as goal
 
 pub loop-i-preserved : goal.loop-i-preserved

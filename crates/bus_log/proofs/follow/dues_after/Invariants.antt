@@ -1,10 +1,8 @@
 -- `bus_log::follow::dues_after` meets its contract: after i turns the first i are written.
-use borrow.Author.Rules.{rules}
 use Prim.Native.Nat.{◌-◌, ◌≤◌}
-use mathlib.Core.Path.{◌≡◌, refl, ◌∙◌}
+use mathlib.Core.Path.{◌≡◌}
 use mathlib.Core.List.{map}
-use lib.ListN.{length, length-set}
-use Rattle.bus_log.specs.Theory.Filled.{fill_more, fill-all}
+use lib.ListN.{length}
 use Rattle.arith.specs.Lists.{range}
 use Rattle.arith.specs.Laws.Overwriting.{over}
 use Rattle.table_checks.specs.Frames.{frames_of}

@@ -1,6 +1,5 @@
 -- `bus_log::follow::earliest_after` meets its contract.
 use borrow.Author.Tests.{lt-ltb, le-ltb}
-use borrow.Author.Rules.{rules}
 use Rattle.bus_log.specs.Follow.{earliest}
 use Rattle.bus_log.proofs.follow.earliest_after.Goals as goal
 

@@ -1,5 +1,4 @@
 -- `bus_log::follow::entry_of` meets its contract.
-use borrow.Author.Rules.{rules}
 use Rattle.bus_log.specs.Follow.{entry_of}
 use Rattle.bus_log.proofs.follow.entry_of.Goals as goal
 

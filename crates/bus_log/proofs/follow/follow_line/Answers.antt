@@ -1,6 +1,5 @@
 -- `bus_log::follow::follow_line` meets its contract.
 use mathlib.Core.Path.{sym, ◌∙◌}
-use borrow.Author.Rules.{rules}
 use Rattle.bus_log.specs.Follow.{follow_line}
 use Rattle.bus_log.specs.Theory.Lines.{allowed-frame}
 use Rattle.bus_log.proofs.follow.follow_line.Goals as goal

@@ -1,6 +1,5 @@
 -- `bus_log::follow::is_against` meets its contract.
 use borrow.Author.Tests.{lt-ltb, le-ltb, le-leb, lt-leb}
-use borrow.Author.Rules.{rules}
 use Rattle.bus_log.specs.Follow.{is_against}
 use Rattle.bus_log.proofs.follow.is_against.Goals as goal
 

@@ -1,7 +1,6 @@
 -- `bus_log::follow::is_allowed` meets its contract: one test after the other.
 use borrow.Author.Tests.{lt-ltb, le-ltb}
 use native.Mathlib.Omega.{arith}
-use borrow.Author.Rules.{rules}
 use Rattle.table_checks.specs.Laws.Accepted.{length-frames}
 use Rattle.bus_log.specs.Follow.{is_allowed}
 use Rattle.bus_log.specs.Theory.Table.{few-lines, row-group}

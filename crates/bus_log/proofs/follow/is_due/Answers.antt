@@ -1,6 +1,5 @@
 -- `bus_log::follow::is_due` meets its contract: one test after the other.
 use borrow.Author.Tests.{le-leb, lt-leb}
-use borrow.Author.Rules.{rules}
 use Rattle.bus_log.specs.Follow.{is_due}
 use Rattle.bus_log.proofs.follow.is_due.Goals as goal
 

@@ -1,6 +1,5 @@
 -- `bus_log::follow::is_named` meets its contract: both numbers are compared.
 use borrow.Author.Tests.{eq-eqb, ne_eqb}
-use borrow.Author.Rules.{rules}
 use Rattle.bus_log.specs.Log.{is_named}
 use Rattle.bus_log.proofs.follow.is_named.Goals as goal
 

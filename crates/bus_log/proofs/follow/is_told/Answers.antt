@@ -1,5 +1,4 @@
 -- `bus_log::follow::is_told` meets its contract.
-use borrow.Author.Rules.{rules}
 use Rattle.bus_log.specs.Follow.{is_told}
 use Rattle.bus_log.proofs.follow.is_told.Goals as goal
 

@@ -1,10 +1,8 @@
 use borrow.Author.Rules.{rules}
-use Prim.Native.Nat.{◌-◌, ◌≤◌}
-use mathlib.Core.Path.{◌≡◌, ◌∙◌}
+use mathlib.Core.Path.{◌∙◌}
 use native.Mathlib.Nat.{sub-zero}
-use Rattle.arith.specs.Least.{least}
 use Rattle.arith.specs.Laws.Least.{least-end}
-use Rattle.bus_log.specs.Log.{is_named, found_or, row_of}
+use Rattle.bus_log.specs.Log.{found_or, row_of}
 use Rattle.bus_log.specs.Theory.Search.{search-stop, search-go}
 use Rattle.bus_log.proofs.follow.row_of.Goals as goal
 

@@ -1,17 +1,11 @@
 -- `bus_log::follow::some_hinders` meets its contract: the rows left decide.
-use borrow.Author.Rules.{rules}
 use Prim.Native.Nat.{◌-◌, ◌≤◌}
-use mathlib.Core.Path.{◌≡◌, ◌∙◌}
-use native.Mathlib.Nat.{sub-zero}
-use native.Mathlib.Omega.{arith}
+use mathlib.Core.Path.{◌≡◌}
 use lib.ListN.{length}
 use Rattle.arith.specs.Lists.{exists, range}
-use Rattle.arith.specs.Laws.Members.{exists-stop, exists-go, exists-end}
 use Rattle.bus_model.specs.Frame.{row}
 use Rattle.table_checks.specs.Frames.{frames_of}
-use Rattle.table_checks.specs.Laws.Accepted.{length-frames}
 use Rattle.bus_log.specs.Follow.{due_of, hinders, row_hinders}
-use Rattle.bus_log.specs.Theory.Table.{few-lines, any-group}
 use Rattle.bus_log.proofs.follow.some_hinders.Given as goal
 
 abbrev pub invariant-loop-i : goal.invariant-loop-i

@@ -1,5 +1,4 @@
 -- `bus_log::follow::start_shown` meets its contract.
-use borrow.Author.Rules.{rules}
 use Rattle.bus_log.specs.Follow.{start_shown}
 use Rattle.bus_log.proofs.follow.start_shown.Goals as goal
 

@@ -1,5 +1,4 @@
 -- `bus_log::follow::starts_after` meets its contract.
-use borrow.Author.Rules.{rules}
 use Rattle.bus_log.specs.Follow.{starts_after}
 use Rattle.bus_log.proofs.follow.starts_after.Goals as goal
 

@@ -2,7 +2,6 @@
 use Prim.Native.Nat.{◌+◌, ◌-◌, ◌*◌, ◌≤◌}
 use mathlib.Core.Path.{◌≡◌, sym, ap, ◌∙◌}
 use native.Mathlib.Omega.{arith}
-use borrow.Author.Rules.{rules}
 use Rattle.decimal.specs.Decimal.{read_column}
 use Rattle.table_checks.specs.Columns.{width_of, feed_at, line_length}
 use Rattle.frame_table.specs.Text.{column_at, field_of}

@@ -1,11 +1,9 @@
-use Prim.Native.Nat.{◌-◌, ◌*◌, ◌≤◌}
-use mathlib.Core.Path.{◌≡◌, refl, sym, ◌∙◌}
+use Prim.Native.Nat.{◌*◌}
+use mathlib.Core.Path.{refl, sym, ◌∙◌}
 use borrow.Author.Rules.{rules}
-use lib.ListN.{length}
 use lib.Seq.{take_at}
-use Rattle.arith.specs.Laws.Overwriting.{over, over-element, over-all}
+use Rattle.arith.specs.Laws.Overwriting.{over-element, over-all}
 use Rattle.table_checks.specs.Columns.{columns}
-use Rattle.frame_table.specs.Text.{fields_from}
 use Rattle.frame_table.specs.Laws.Layout.{length_fields, field-at}
 use Rattle.frame_table.proofs.text.read_fields.Goals as goal
 

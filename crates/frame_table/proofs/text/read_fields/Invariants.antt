@@ -1,13 +1,10 @@
 -- `frame_table::text::read_fields` meets its contract: after k turns the first k fields are read.
 use Prim.Native.Nat.{◌-◌, ◌*◌, ◌≤◌}
-use mathlib.Core.Path.{◌≡◌, refl, sym, ◌∙◌}
-use borrow.Author.Rules.{rules}
+use mathlib.Core.Path.{◌≡◌}
 use lib.ListN.{length}
-use lib.Seq.{take_at}
-use Rattle.arith.specs.Laws.Overwriting.{over, over-element, over-all}
+use Rattle.arith.specs.Laws.Overwriting.{over}
 use Rattle.table_checks.specs.Columns.{columns}
 use Rattle.frame_table.specs.Text.{fields_from}
-use Rattle.frame_table.specs.Laws.Layout.{length_fields, field-at}
 use Rattle.frame_table.proofs.text.read_fields.Given as goal
 
 abbrev pub invariant-loop-k : goal.invariant-loop-k

@@ -5,7 +5,7 @@ use native.Mathlib.Omega.{arith}
 use borrow.Author.Rules.{rules}
 use borrow.Rule.Slice.PartMut.{mid_of, mid_len}
 use lib.ListN.{length, take, drop, length-set, drop_of_length-le}
-use Rattle.arith.specs.Laws.Overwriting.{over, over-part, over-element, over-all}
+use Rattle.arith.specs.Laws.Overwriting.{over-part, over-element, over-all}
 use Rattle.decimal.specs.Decimal.{write_column}
 use Rattle.table_checks.specs.Columns.{field, start_of, width_of, columns, feed_at, line_length}
 use Rattle.frame_table.specs.Text.{line_of}

@@ -1,12 +1,8 @@
-use Prim.Native.Nat.{◌-◌, ◌*◌, ◌≤◌}
-use mathlib.Core.Path.{◌≡◌, refl}
+use mathlib.Core.Path.{refl}
 use native.Mathlib.Omega.{arith}
 use borrow.Author.Rules.{rules}
-use lib.ListN.{length, length-take, length-drop}
-use Rattle.arith.specs.Laws.Overwriting.{over}
+use lib.ListN.{length-take, length-drop}
 use Rattle.arith.specs.Laws.Lines.{line-over, lines-over}
-use Rattle.table_checks.specs.Columns.{line_length}
-use Rattle.frame_table.specs.Text.{lines_from}
 use Rattle.frame_table.specs.Laws.Layout.{table-lines}
 use Rattle.frame_table.proofs.text.write_lines.Goals as goal
 

@@ -1,14 +1,10 @@
 -- `frame_table::text::write_lines` meets its contract: after i turns the first i lines are written, and the rest is as it was.
 use Prim.Native.Nat.{◌-◌, ◌*◌, ◌≤◌}
-use mathlib.Core.Path.{◌≡◌, refl}
-use native.Mathlib.Omega.{arith}
-use borrow.Author.Rules.{rules}
-use lib.ListN.{length, length-take, length-drop}
+use mathlib.Core.Path.{◌≡◌}
+use lib.ListN.{length}
 use Rattle.arith.specs.Laws.Overwriting.{over}
-use Rattle.arith.specs.Laws.Lines.{line-over, lines-over}
 use Rattle.table_checks.specs.Columns.{line_length}
 use Rattle.frame_table.specs.Text.{lines_from}
-use Rattle.frame_table.specs.Laws.Layout.{table-lines}
 use Rattle.frame_table.proofs.text.write_lines.Given as goal
 
 abbrev pub invariant-loop-i : goal.invariant-loop-i

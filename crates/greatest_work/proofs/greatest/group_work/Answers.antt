@@ -1,5 +1,4 @@
 -- By the choice: a fixed alignment has its work at once, and else it is the greatest that is remembered or looked for.
-use borrow.Author.Rules.{rules}
 use Rattle.bus_model.specs.declared.Choice.TheVariants.{Fixed}
 use Rattle.bus_model.specs.Bounds.{group_work}
 use Rattle.workload.specs.Laws.Fine.{group-fine}

@@ -3,7 +3,6 @@ use Prim.Native.Nat.{◌+◌}
 use mathlib.Core.Path.{sym, ◌∙◌}
 use native.Mathlib.Omega.{arith}
 use native.Mathlib.Nat.{div-le_self, mod-le, add-zero}
-use borrow.Author.Rules.{rules}
 use Rattle.workload.specs.Laws.Groups.{cycle-pos}
 use Rattle.greatest_work.specs.Laws.Memory.{most-none, most-rest}
 use Rattle.greatest_work.proofs.greatest.open_work.Goals as goal

@@ -1,15 +1,13 @@
-use Prim.Native.Nat.{ℕ, ◌+◌, ◌-◌, ◌*◌, ◌≤◌}
+use Prim.Native.Nat.{ℕ, ◌+◌}
 use mathlib.Core.Path.{◌∙◌, ap, sym}
 use native.Mathlib.Omega.{arith}
 use native.Mathlib.Nat.{zero-add, add-zero}
-use borrow.Author.Rules.{rules}
 use Rattle.arith.specs.Lists.{sum}
-use Rattle.arith.specs.Laws.Walks.{CountUp, count-more, count-end, sum_more}
+use Rattle.arith.specs.Laws.Walks.{count-more, count-end, sum_more}
 use Rattle.bus_model.specs.Pattern.{of_group}
 use Rattle.bus_model.specs.Bounds.{work, ahead, alignments, choice_of, group_work}
 use Rattle.workload.specs.Prepared.{table_of}
 use Rattle.workload.specs.Laws.Groups.{read-choice}
-use Rattle.greatest_work.specs.Ready.{Ready}
 use Rattle.greatest_work.proofs.greatest.whole_work.Goals as goal
 
 pub loop-j-init : goal.loop-j-init

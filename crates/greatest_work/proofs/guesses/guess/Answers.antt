@@ -2,7 +2,6 @@
 use Prim.Native.Nat.{◌+◌}
 use mathlib.Core.Path.{◌∙◌}
 use native.Mathlib.Omega.{arith}
-use borrow.Author.Rules.{rules}
 use Rattle.arith.specs.Least.{or_zero}
 use Rattle.bus_model.specs.Theory.Turns.{first-listed}
 use Rattle.workload.specs.Laws.Fine.{group-fine}

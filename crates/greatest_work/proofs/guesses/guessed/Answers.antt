@@ -1,8 +1,6 @@
-use Prim.Native.Nat.{◌-◌}
 use native.Mathlib.Omega.{arith}
 use borrow.Author.Rules.{rules}
-use Rattle.workload.specs.Prepared.{table_of}
-use Rattle.greatest_work.specs.Laws.Guesses.{AllowedTo, allowed-put, allowed_all, fixed-all}
+use Rattle.greatest_work.specs.Laws.Guesses.{allowed-put, allowed_all, fixed-all}
 use Rattle.greatest_work.proofs.guesses.guessed.Goals as goal
 
 pub loop-j-init : goal.loop-j-init

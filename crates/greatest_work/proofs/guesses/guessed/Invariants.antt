@@ -1,9 +1,7 @@
 -- The invariant has the choices of the groups done.
 use Prim.Native.Nat.{◌-◌}
-use native.Mathlib.Omega.{arith}
-use borrow.Author.Rules.{rules}
 use Rattle.workload.specs.Prepared.{table_of}
-use Rattle.greatest_work.specs.Laws.Guesses.{AllowedTo, allowed-put, allowed_all, fixed-all}
+use Rattle.greatest_work.specs.Laws.Guesses.{AllowedTo}
 use Rattle.greatest_work.proofs.guesses.guessed.Given as goal
 
 abbrev pub invariant-loop-j : goal.invariant-loop-j

@@ -1,6 +1,5 @@
 -- By the choice.
 use mathlib.Core.Path.{refl}
-use borrow.Author.Rules.{rules}
 use Rattle.bus_model.specs.Theory.Work.{Allows}
 use Rattle.greatest_work.proofs.guesses.guessed_choice.Goals as goal
 

@@ -2,7 +2,6 @@
 use mathlib.Core.Path.{◌≡◌, sym, ◌∙◌}
 use native.Mathlib.Omega.{arith}
 use native.Mathlib.Nat.{le_refl}
-use borrow.Author.Rules.{rules}
 use lib.ListN.{get_or}
 use Rattle.greatest_work.specs.Laws.Memory.{holds-packed, holds-widened, put-stair}
 use Rattle.greatest_work.proofs.stairs.insert.Goals as goal

@@ -1,10 +1,5 @@
 -- The loop ends at the first stair that has the length on it.
-use Prim.Native.Nat.{◌+◌, ◌-◌, ◌*◌}
-use mathlib.Core.Path.{sym, ap, ◌∙◌}
-use native.Mathlib.Omega.{arith}
-use borrow.Author.Rules.{rules}
-use Rattle.arith.specs.Least.{or_zero}
-use Rattle.arith.specs.Laws.Least.{none-at}
+use Prim.Native.Nat.{◌-◌}
 use Rattle.greatest_work.proofs.stairs.lookup.Given as goal
 
 abbrev pub invariant-loop-i : goal.invariant-loop-i

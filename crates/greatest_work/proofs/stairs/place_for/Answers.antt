@@ -1,5 +1,3 @@
-use Prim.Native.Nat.{◌-◌}
-use borrow.Author.Rules.{rules}
 use Rattle.greatest_work.proofs.stairs.place_for.Goals as goal
 
 pub loop-i-init : goal.loop-i-init

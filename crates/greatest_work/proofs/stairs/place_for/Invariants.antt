@@ -1,6 +1,5 @@
 -- The loop counts up; each place is one of the set's.
 use Prim.Native.Nat.{◌-◌}
-use borrow.Author.Rules.{rules}
 use Rattle.greatest_work.proofs.stairs.place_for.Given as goal
 
 abbrev pub invariant-loop-i : goal.invariant-loop-i

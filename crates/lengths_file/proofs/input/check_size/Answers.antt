@@ -2,7 +2,6 @@
 use Prim.Native.Nat.{◌-◌}
 use mathlib.Core.Path.{◌≡◌, sym, ap, ◌∙◌}
 use native.Mathlib.Omega.{arith}
-use borrow.Author.Rules.{rules}
 use Rattle.table_checks.specs.Checks.{file_size_check}
 use Rattle.lengths_file.specs.Lengths.{lengths_file_check}
 use Rattle.lengths_file.specs.Input.{lengths_part, size_check}

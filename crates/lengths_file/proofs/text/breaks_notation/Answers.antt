@@ -1,9 +1,6 @@
-use Prim.Native.Nat.{◌-◌, ◌≤◌}
-use mathlib.Core.Path.{◌≡◌, refl, ◌∙◌}
+use mathlib.Core.Path.{refl, ◌∙◌}
 use borrow.Author.Rules.{rules}
-use Rattle.arith.specs.Lists.{exists, range}
 use Rattle.arith.specs.Laws.Members.{exists-stop, exists-go, exists-end}
-use Rattle.lengths_file.specs.Lengths.{is_broken}
 use Rattle.lengths_file.proofs.text.breaks_notation.Goals as goal
 
 pub loop-s-init : goal.loop-s-init

@@ -1,9 +1,7 @@
 -- `lengths_file::text::breaks_notation` meets its contract: the invariant says that the columns left decide.
 use Prim.Native.Nat.{◌-◌, ◌≤◌}
-use mathlib.Core.Path.{◌≡◌, refl, ◌∙◌}
-use borrow.Author.Rules.{rules}
+use mathlib.Core.Path.{◌≡◌}
 use Rattle.arith.specs.Lists.{exists, range}
-use Rattle.arith.specs.Laws.Members.{exists-stop, exists-go, exists-end}
 use Rattle.lengths_file.specs.Lengths.{is_broken}
 use Rattle.lengths_file.proofs.text.breaks_notation.Given as goal
 

@@ -5,7 +5,6 @@ use lib.ListN.{take, drop}
 use Rattle.decimal.specs.Decimal.{read_column}
 use native.Mathlib.Omega.{arith}
 use Rattle.lengths_file.specs.Lengths.{column_at}
-use borrow.Author.Rules.{rules}
 use Rattle.lengths_file.proofs.text.column.Goals as goal
 
 pub returns : goal.returns

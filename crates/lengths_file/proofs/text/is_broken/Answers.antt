@@ -1,6 +1,5 @@
 -- `lengths_file::text::is_broken` meets its contract: the column holds a number, or is broken.
 use mathlib.Core.Path.{sym, ap, ◌∙◌}
-use borrow.Author.Rules.{rules}
 use Rattle.lengths_file.specs.Lengths.{is_unreadable, is_broken}
 use Rattle.lengths_file.proofs.text.is_broken.Goals as goal
 

@@ -3,7 +3,6 @@ use mathlib.Core.Path.{ap}
 use mathlib.Core.Bool.{not}
 use borrow.Author.Tests.{eq-eqb, ne_eqb}
 use Rattle.lengths_file.specs.Lengths.{is_line}
-use borrow.Author.Rules.{rules}
 use Rattle.lengths_file.proofs.text.is_line.Goals as goal
 
 pub returns-then-file-k-eq-LINE_FEED : goal.returns-then-file-k-eq-LINE_FEED

@@ -1,9 +1,7 @@
 -- `lengths_file::text::is_text` meets its contract: the size comes first, then the lines.
 use mathlib.Core.Path.{sym, ◌∙◌}
 use borrow.Author.Tests.{eq-eqb, ne_eqb}
-use borrow.Author.Rules.{rules}
 use Rattle.lengths_file.specs.Lengths.{is_text}
-use borrow.Author.Rules.{rules}
 use Rattle.lengths_file.proofs.text.is_text.Goals as goal
 
 pub returns-then-file-ne-FILE : goal.returns-then-file-ne-FILE

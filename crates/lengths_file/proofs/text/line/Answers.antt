@@ -1,10 +1,7 @@
-use Prim.Native.Nat.{◌-◌, ◌≤◌}
-use mathlib.Core.Path.{◌≡◌, refl, sym, ◌∙◌}
+use mathlib.Core.Path.{refl, sym, ◌∙◌}
 use mathlib.Core.List.{append-nil}
 use borrow.Author.Rules.{rules}
-use lib.ListN.{length}
-use Rattle.arith.specs.Laws.Overwriting.{over, over-element, over-all}
-use Rattle.lengths_file.specs.Lengths.{line_of}
+use Rattle.arith.specs.Laws.Overwriting.{over-element, over-all}
 use Rattle.lengths_file.specs.Laws.Reading.{length-numbers, number_at}
 use Rattle.lengths_file.proofs.text.line.Goals as goal
 

@@ -1,12 +1,9 @@
 -- `lengths_file::text::line` meets its contract: after s turns the first s numbers are read.
 use Prim.Native.Nat.{◌-◌, ◌≤◌}
-use mathlib.Core.Path.{◌≡◌, refl, sym, ◌∙◌}
-use mathlib.Core.List.{append-nil}
-use borrow.Author.Rules.{rules}
+use mathlib.Core.Path.{◌≡◌}
 use lib.ListN.{length}
-use Rattle.arith.specs.Laws.Overwriting.{over, over-element, over-all}
+use Rattle.arith.specs.Laws.Overwriting.{over}
 use Rattle.lengths_file.specs.Lengths.{line_of}
-use Rattle.lengths_file.specs.Laws.Reading.{length-numbers, number_at}
 use Rattle.lengths_file.proofs.text.line.Given as goal
 
 abbrev pub invariant-loop-s : goal.invariant-loop-s

@@ -3,7 +3,6 @@ use mathlib.Core.Path.{sym, ap, ◌∙◌}
 use native.Mathlib.Omega.{arith}
 use Rattle.lengths_file.specs.Lengths.{number_in}
 use Rattle.lengths_file.specs.Laws.Reading.{column-below}
-use borrow.Author.Rules.{rules}
 use Rattle.lengths_file.proofs.text.number.Goals as goal
 
 pub overflow_cast-result : goal.overflow_cast-result

@@ -1,11 +1,11 @@
-use Prim.Native.Nat.{ℕ, ◌+◌, ◌-◌, ◌*◌, ◌≤◌, ◌<◌}
+use Prim.Native.Nat.{ℕ, ◌+◌, ◌-◌, ◌*◌, ◌<◌}
 use mathlib.Core.Path.{◌≡◌, refl, sym, ap, ◌∙◌}
 use mathlib.Core.List.{List, [], ◌++◌, append-nil}
 use native.Mathlib.Omega.{arith}
 use borrow.Author.Rules.{rules}
 use borrow.Rule.Slice.PartMut.{mid_of, mid_len}
 use lib.ListN.{length, take, drop, length-set, drop_of_length-le}
-use Rattle.arith.specs.Laws.Overwriting.{over, over-part, over-element, over-all}
+use Rattle.arith.specs.Laws.Overwriting.{over-part, over-element, over-all}
 use Rattle.decimal.specs.Decimal.{write_column}
 use Rattle.table_checks.specs.Frames.{length_at}
 use Rattle.lengths_file.specs.Lengths.{column_text, line_text}

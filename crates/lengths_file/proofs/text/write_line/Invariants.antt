@@ -1,16 +1,9 @@
 -- `lengths_file::text::write_line` meets its contract: after s turns the first s columns are written, and the last store is the line feed.
-use Prim.Native.Nat.{ℕ, ◌+◌, ◌-◌, ◌*◌, ◌≤◌, ◌<◌}
-use mathlib.Core.Path.{◌≡◌, refl, sym, ap, ◌∙◌}
-use mathlib.Core.List.{List, [], ◌++◌, append-nil}
-use native.Mathlib.Omega.{arith}
-use borrow.Author.Rules.{rules}
-use borrow.Rule.Slice.PartMut.{mid_of, mid_len}
-use lib.ListN.{length, take, drop, length-set, drop_of_length-le}
-use Rattle.arith.specs.Laws.Overwriting.{over, over-part, over-element, over-all}
-use Rattle.decimal.specs.Decimal.{write_column}
-use Rattle.table_checks.specs.Frames.{length_at}
-use Rattle.lengths_file.specs.Lengths.{column_text, line_text}
-use Rattle.lengths_file.specs.Laws.Layout.{length-line, line-column, line-feed}
+use Prim.Native.Nat.{◌-◌, ◌*◌, ◌≤◌}
+use mathlib.Core.Path.{◌≡◌}
+use lib.ListN.{length}
+use Rattle.arith.specs.Laws.Overwriting.{over}
+use Rattle.lengths_file.specs.Lengths.{line_text}
 use Rattle.lengths_file.proofs.text.write_line.Given as goal
 
 abbrev pub invariant-loop-s : goal.invariant-loop-s

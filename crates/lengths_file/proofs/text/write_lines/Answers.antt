@@ -1,12 +1,10 @@
-use Prim.Native.Nat.{◌-◌, ◌*◌, ◌≤◌}
-use mathlib.Core.Path.{◌≡◌, refl}
+use mathlib.Core.Path.{refl}
 use native.Mathlib.Omega.{arith}
 use borrow.Author.Rules.{rules}
-use lib.ListN.{length, length-take, length-drop}
-use Rattle.arith.specs.Laws.Overwriting.{over}
+use lib.ListN.{length-take, length-drop}
 use Rattle.arith.specs.Laws.Lines.{line-over, lines-over}
-use Rattle.lengths_file.specs.Lengths.{line_text, text_of}
-use Rattle.lengths_file.specs.Laws.Layout.{joined, lines}
+use Rattle.lengths_file.specs.Lengths.{text_of}
+use Rattle.lengths_file.specs.Laws.Layout.{lines}
 use Rattle.lengths_file.proofs.text.write_lines.Goals as goal
 
 pub loop-k-init : goal.loop-k-init

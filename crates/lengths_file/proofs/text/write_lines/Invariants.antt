@@ -1,13 +1,10 @@
 -- `lengths_file::text::write_lines` meets its contract: after k turns the first k lines are written, and the rest is as it was.
 use Prim.Native.Nat.{◌-◌, ◌*◌, ◌≤◌}
-use mathlib.Core.Path.{◌≡◌, refl}
-use native.Mathlib.Omega.{arith}
-use borrow.Author.Rules.{rules}
-use lib.ListN.{length, length-take, length-drop}
+use mathlib.Core.Path.{◌≡◌}
+use lib.ListN.{length}
 use Rattle.arith.specs.Laws.Overwriting.{over}
-use Rattle.arith.specs.Laws.Lines.{line-over, lines-over}
-use Rattle.lengths_file.specs.Lengths.{line_text, text_of}
-use Rattle.lengths_file.specs.Laws.Layout.{joined, lines}
+use Rattle.lengths_file.specs.Lengths.{line_text}
+use Rattle.lengths_file.specs.Laws.Layout.{joined}
 use Rattle.lengths_file.proofs.text.write_lines.Given as goal
 
 abbrev pub invariant-loop-k : goal.invariant-loop-k

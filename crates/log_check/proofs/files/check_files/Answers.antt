@@ -1,5 +1,4 @@
 -- `log_check::files::check_files` meets its contract: lengths that are turned back are answered with their refusal, and with others the table is read.
-use borrow.Author.Rules.{rules}
 use Rattle.lengths_file.specs.Laws.Input.{ReadLengths, lengths_read, lengths-refused}
 use Rattle.log_check.specs.Check.{checked_answer, files_answer}
 use Rattle.log_check.specs.Laws.Answer.{files-told}

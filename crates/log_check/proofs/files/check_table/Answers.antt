@@ -1,6 +1,5 @@
 -- `log_check::files::check_table` meets its contract: what the file is read into is its table, and a file that is turned back is answered with its refusal.
 use mathlib.Core.Path.{refl}
-use borrow.Author.Rules.{rules}
 use Rattle.frame_table.specs.Laws.Reading.{ReadRows, read-refused, read-rows}
 use Rattle.log_check.specs.Check.{checked_answer}
 use Rattle.log_check.proofs.files.check_table.Goals as goal

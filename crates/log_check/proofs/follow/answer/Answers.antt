@@ -1,6 +1,5 @@
 -- `log_check::follow::answer` meets its contract: what is known of the starts at the end is what is shown.
 use borrow.Author.Tests.{eq-eqb, ne_eqb}
-use borrow.Author.Rules.{rules}
 use mathlib.Core.Path.{ap}
 use native.Mathlib.Omega.{arith}
 use Rattle.bus_log.specs.declared.Followed.{Followed}

@@ -1,16 +1,12 @@
 -- `log_check::follow_log` meets its contract: the lines left decide.
-use borrow.Author.Rules.{rules}
 use Prim.Native.Nat.{◌-◌, ◌≤◌}
 use mathlib.Core.Path.{◌≡◌}
 use mathlib.Core.List.{map}
-use native.Mathlib.Nat.{sub-zero}
-use native.Mathlib.Omega.{arith}
 use Rattle.arith.specs.Lists.{range}
 use Rattle.table_checks.specs.Frames.{frames_of}
-use Rattle.bus_log.specs.Follow.{entry_of, follow_line, follow, follow_log}
+use Rattle.bus_log.specs.Follow.{follow, follow_log}
 use Rattle.log_check.specs.Check.{lines_of}
-use Rattle.log_check.specs.Laws.Loop.{whole-line, entry_at, log-start, log-end, log-goes, log-stops}
-use Rattle.log_check.specs.Laws.Meaning.{line-stands}
+use Rattle.log_check.specs.Laws.Loop.{entry_at}
 use Rattle.log_check.proofs.follow.follow_log.Given as goal
 
 abbrev pub invariant-loop-i : goal.invariant-loop-i

@@ -1,10 +1,6 @@
 use borrow.Author.Rules.{rules}
-use Prim.Native.Nat.{◌+◌, ◌-◌, ◌≤◌}
-use mathlib.Core.Path.{◌≡◌, refl, ◌∙◌}
-use mathlib.Core.List.{map}
-use lib.ListN.{length, length-set}
-use Rattle.arith.specs.Lists.{range}
-use Rattle.arith.specs.Laws.Overwriting.{over}
+use mathlib.Core.Path.{refl, ◌∙◌}
+use lib.ListN.{length-set}
 use Rattle.bus_log.specs.Follow.{start_shown}
 use Rattle.bus_log.specs.Theory.Filled.{fill_more, fill-all}
 use Rattle.log_check.specs.Laws.Loop.{by_place}

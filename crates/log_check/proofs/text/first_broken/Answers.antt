@@ -1,11 +1,9 @@
 use borrow.Author.Rules.{rules}
-use Prim.Native.Nat.{◌-◌, ◌≤◌}
-use mathlib.Core.Path.{◌≡◌, sym, ◌∙◌}
+use mathlib.Core.Path.{sym, ◌∙◌}
 use native.Mathlib.Nat.{sub-zero}
-use Rattle.arith.specs.Least.{least}
 use Rattle.arith.specs.Laws.Least.{least-end}
 use Rattle.bus_log.specs.Theory.Search.{search-stop, search-go}
-use Rattle.log_check.specs.Check.{is_broken, first_broken}
+use Rattle.log_check.specs.Check.{first_broken}
 use Rattle.log_check.proofs.text.first_broken.Goals as goal
 
 pub loop-i-init : goal.loop-i-init

@@ -1,11 +1,7 @@
 -- `log_check::first_broken` meets its contract: the lines left decide.
-use borrow.Author.Rules.{rules}
 use Prim.Native.Nat.{◌-◌, ◌≤◌}
-use mathlib.Core.Path.{◌≡◌, sym, ◌∙◌}
-use native.Mathlib.Nat.{sub-zero}
+use mathlib.Core.Path.{◌≡◌}
 use Rattle.arith.specs.Least.{least}
-use Rattle.arith.specs.Laws.Least.{least-end}
-use Rattle.bus_log.specs.Theory.Search.{search-stop, search-go}
 use Rattle.log_check.specs.Check.{is_broken, first_broken}
 use Rattle.log_check.proofs.text.first_broken.Given as goal
 

@@ -1,5 +1,4 @@
 -- `log_check::is_broken` meets its contract.
-use borrow.Author.Rules.{rules}
 use Rattle.log_check.specs.Check.{is_broken, is_read}
 use Rattle.log_check.proofs.text.is_broken.Goals as goal
 

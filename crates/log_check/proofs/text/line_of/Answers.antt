@@ -2,7 +2,6 @@
 use Prim.Native.Nat.{ℕ, ◌*◌}
 use mathlib.Core.Path.{◌≡◌, sym, ◌∙◌}
 use native.Mathlib.Omega.{arith}
-use borrow.Author.Rules.{rules}
 use Rattle.log_reader.specs.declared.LineRead.TheVariants.{Read}
 use Rattle.log_reader.specs.Text.{line_at}
 use Rattle.log_reader.specs.Laws.{stands_read, read-line}

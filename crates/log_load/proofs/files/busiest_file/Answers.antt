@@ -1,6 +1,5 @@
 -- `log_load::files::busiest_file` meets its contract: a log that is turned back is answered with its refusal, and of another the sheet is written.
 use mathlib.Core.Path.{ap}
-use borrow.Author.Rules.{rules}
 use Rattle.log_load.specs.declared.Answer.TheVariants.{Refused}
 use Rattle.log_load.specs.Theory.Meaning.{check-passed, table-read, ready}
 use Rattle.log_load.specs.Theory.Told.{told-refused, told-accepted}

@@ -1,7 +1,6 @@
 -- `log_load::files::busiest_input` meets its contract: the two parts are those of the input.
 use Prim.Native.Nat.{ℕ}
 use mathlib.Core.List.{List}
-use borrow.Author.Rules.{rules}
 use Rattle.lengths_file.specs.Laws.Input.{first_part, second-part}
 use Rattle.log_load.proofs.files.busiest_input.Goals as goal
 

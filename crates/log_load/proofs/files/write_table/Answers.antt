@@ -2,7 +2,6 @@
 use Prim.Native.Nat.{ℕ}
 use mathlib.Core.Path.{◌≡◌, refl, sym, ◌∙◌}
 use native.Mathlib.Omega.{arith}
-use borrow.Author.Rules.{rules}
 use Rattle.frame_table.specs.Laws.Reading.{ReadRows, read-rows, read-refused}
 use Rattle.log_load.proofs.files.write_table.Goals as goal
 use Rattle.log_load.proofs.files.write_table.Goals.{In-Done}

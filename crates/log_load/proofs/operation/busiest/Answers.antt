@@ -1,6 +1,5 @@
 -- `log_load::operation::busiest` meets its contract: a log that is turned back is answered with its refusal, and of another the sheet is written.
 use mathlib.Core.Path.{ap}
-use borrow.Author.Rules.{rules}
 use Rattle.log_load.specs.declared.Answer.TheVariants.{Refused}
 use Rattle.table_checks.specs.Laws.Accepted.{loaded-both}
 use Rattle.log_load.specs.Theory.Meaning.{ready}

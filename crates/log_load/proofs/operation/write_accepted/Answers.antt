@@ -1,7 +1,6 @@
 -- `log_load::operation::write_accepted` meets its contract: the sheet is written where the width serves and it has room, and else the area is left.
 use mathlib.Core.Path.{refl}
 use native.Mathlib.Omega.{arith}
-use borrow.Author.Rules.{rules}
 use Rattle.table_checks.specs.Laws.Accepted.{accepted-size}
 use Rattle.log_load.specs.Theory.Sheet.{rest-long}
 use Rattle.log_load.specs.Theory.Answer.{width-none, width-beyond, area-short, sheet-written}

@@ -1,13 +1,9 @@
 use mathlib.Core.Path.{sym, ap, ◌∙◌}
-use Prim.Native.Nat.{◌-◌, ◌*◌, ◌≤◌, ◌^◌}
 use native.Mathlib.Omega.{arith}
-use borrow.Author.Rules.{rules}
-use Rattle.arith.specs.Laws.Walks.{Through, through-start, through-more, through-end}
+use Rattle.arith.specs.Laws.Walks.{through-more, through-end}
 use Rattle.bus_log.specs.declared.Line.{Line}
-use Rattle.log_check.specs.Check.{lines_of}
-use Rattle.log_load.specs.Sheet.{seen_of}
 use Rattle.log_load.specs.Steps.{no_line, with_line}
-use Rattle.log_load.specs.Theory.Sheet.{joined, seen_more, seen_start, seen_end}
+use Rattle.log_load.specs.Theory.Sheet.{seen_more, seen_end}
 use Rattle.log_load.proofs.sheet.seen_of.Goals as goal
 
 pub loop-j-preserved : goal.loop-j-preserved

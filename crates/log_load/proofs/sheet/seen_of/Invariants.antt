@@ -1,14 +1,9 @@
 -- `log_load::sheet::seen_of` meets its contract: what is seen and what the lines left show.
-use mathlib.Core.Path.{sym, ap, ◌∙◌}
 use Prim.Native.Nat.{◌-◌, ◌*◌, ◌≤◌, ◌^◌}
-use native.Mathlib.Omega.{arith}
-use borrow.Author.Rules.{rules}
-use Rattle.arith.specs.Laws.Walks.{Through, through-start, through-more, through-end}
-use Rattle.bus_log.specs.declared.Line.{Line}
+use Rattle.arith.specs.Laws.Walks.{Through}
 use Rattle.log_check.specs.Check.{lines_of}
 use Rattle.log_load.specs.Sheet.{seen_of}
-use Rattle.log_load.specs.Steps.{no_line, with_line}
-use Rattle.log_load.specs.Theory.Sheet.{joined, seen_more, seen_start, seen_end}
+use Rattle.log_load.specs.Theory.Sheet.{joined}
 use Rattle.log_load.proofs.sheet.seen_of.Given as goal
 
 abbrev pub invariant-loop-j : goal.invariant-loop-j

@@ -1,6 +1,5 @@
 -- `log_load::sheet::with_line` meets its contract.
 use native.Mathlib.Omega.{arith}
-use borrow.Author.Rules.{rules}
 use Rattle.log_load.specs.Steps.{with_line}
 use Rattle.log_load.proofs.sheet.with_line.Goals as goal
 

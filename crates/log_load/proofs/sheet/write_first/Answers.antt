@@ -1,6 +1,4 @@
 -- `log_load::sheet::write_first` meets its contract: the two columns and the line feed fill the line.
-use lib.ListN.{length-set}
-use borrow.Author.Rules.{rules}
 use Rattle.log_load.specs.Theory.Sheet.{first-written}
 use Rattle.log_load.proofs.sheet.write_first.Goals as goal
 

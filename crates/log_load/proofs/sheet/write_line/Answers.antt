@@ -1,6 +1,4 @@
 -- `log_load::sheet::write_line` meets its contract: the four columns and the line feed fill the line.
-use lib.ListN.{length-set}
-use borrow.Author.Rules.{rules}
 use Rattle.log_load.specs.Theory.Sheet.{row_written}
 use Rattle.log_load.proofs.sheet.write_line.Goals as goal
 

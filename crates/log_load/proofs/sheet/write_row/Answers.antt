@@ -1,6 +1,5 @@
 -- `log_load::sheet::write_row` meets its contract.
 use mathlib.Core.Path.{ap, ◌∙◌}
-use borrow.Author.Rules.{rules}
 use Rattle.log_load.specs.Sheet.{row_line, line_of}
 use Rattle.log_load.proofs.sheet.write_row.Goals as goal
 

@@ -1,13 +1,10 @@
 -- `log_load::sheet::write_rows` meets its contract: after i turns the first i lines are written.
 use mathlib.Core.Path.{◌≡◌}
 use Prim.Native.Nat.{◌-◌, ◌*◌, ◌≤◌}
-use borrow.Author.Rules.{rules}
 use lib.ListN.{length}
 use Rattle.arith.specs.Laws.Overwriting.{over}
-use Rattle.arith.specs.Laws.Lines.{line-over, lines-over}
 use Rattle.log_check.specs.Check.{lines_of}
 use Rattle.log_load.specs.Sheet.{lines_from}
-use Rattle.log_load.specs.Theory.Sheet.{row-lines, none_left}
 use Rattle.log_load.proofs.sheet.write_rows.Given as goal
 
 abbrev pub invariant-loop-i : goal.invariant-loop-i

@@ -1,11 +1,10 @@
 use mathlib.Core.Path.{◌≡◌, ap, ◌∙◌}
-use Prim.Native.Nat.{◌+◌, ◌-◌, ◌≤◌, ◌<◌}
+use Prim.Native.Nat.{◌+◌, ◌-◌}
 use native.Mathlib.Omega.{arith}
 use borrow.Author.Rules.{rules}
 use lib.ListN.{length}
 use Rattle.bus_log.specs.declared.Line.{Line}
 use Rattle.log_check.specs.Check.{lines_of}
-use Rattle.log_load.specs.Steps.{Tried, start_of, from_end}
 use Rattle.log_load.specs.Theory.Best.{tried-more, starts-rise, ends-rise, best-is}
 use Rattle.log_load.proofs.stretch.find.Goals as goal
 

@@ -1,13 +1,7 @@
 -- `log_load::stretch::find` meets its contract: after i turns both windows have tried the places of the first i lines.
-use mathlib.Core.Path.{◌≡◌, ap, ◌∙◌}
-use Prim.Native.Nat.{◌+◌, ◌-◌, ◌≤◌, ◌<◌}
-use native.Mathlib.Omega.{arith}
-use borrow.Author.Rules.{rules}
-use lib.ListN.{length}
-use Rattle.bus_log.specs.declared.Line.{Line}
+use Prim.Native.Nat.{◌-◌, ◌≤◌}
 use Rattle.log_check.specs.Check.{lines_of}
 use Rattle.log_load.specs.Steps.{Tried, start_of, from_end}
-use Rattle.log_load.specs.Theory.Best.{tried-more, starts-rise, ends-rise, best-is}
 use Rattle.log_load.proofs.stretch.find.Given as goal
 
 abbrev pub invariant-loop-i : goal.invariant-loop-i

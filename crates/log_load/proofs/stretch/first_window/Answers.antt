@@ -1,6 +1,5 @@
 -- `log_load::stretch::first_window` meets its contract.
 use mathlib.Core.Path.{refl}
-use Prim.Native.Nat.{◌-◌}
 use native.Mathlib.Omega.{arith}
 use Rattle.log_load.specs.Theory.Walk.{walk_start}
 use Rattle.log_load.specs.Theory.Best.{tried-start}

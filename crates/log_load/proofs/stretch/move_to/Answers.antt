@@ -1,7 +1,5 @@
 -- `log_load::stretch::move_to` meets its contract.
-use Prim.Native.Nat.{◌-◌}
 use native.Mathlib.Omega.{arith}
-use borrow.Author.Rules.{rules}
 use Rattle.log_load.specs.Theory.Best.{window-moves}
 use Rattle.log_load.proofs.stretch.move_to.Goals as goal
 

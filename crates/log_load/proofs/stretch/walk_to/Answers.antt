@@ -1,11 +1,9 @@
 use mathlib.Core.Path.{ap, ◌∙◌}
 use Prim.Native.Nat.{ℕ, ◌+◌, ◌-◌, ◌<◌}
 use native.Mathlib.Omega.{arith}
-use borrow.Author.Rules.{rules}
 use lib.ListN.{length}
 use Rattle.bus_log.specs.declared.Line.{Line}
 use Rattle.log_check.specs.Check.{lines_of}
-use Rattle.log_load.specs.Steps.{Walked}
 use Rattle.log_load.specs.Theory.Walk.{walk-done, walk_more, walk-stop, walk_end}
 use Rattle.log_load.proofs.stretch.walk_to.Goals as goal
 

@@ -1,13 +1,7 @@
 -- `log_load::stretch::walk_to` meets its contract: the lines gone past end by the tick.
-use mathlib.Core.Path.{ap, ◌∙◌}
-use Prim.Native.Nat.{ℕ, ◌+◌, ◌-◌, ◌<◌}
-use native.Mathlib.Omega.{arith}
-use borrow.Author.Rules.{rules}
-use lib.ListN.{length}
-use Rattle.bus_log.specs.declared.Line.{Line}
+use Prim.Native.Nat.{◌-◌}
 use Rattle.log_check.specs.Check.{lines_of}
 use Rattle.log_load.specs.Steps.{Walked}
-use Rattle.log_load.specs.Theory.Walk.{walk-done, walk_more, walk-stop, walk_end}
 use Rattle.log_load.proofs.stretch.walk_to.Given as goal
 
 abbrev pub invariant-loop-line : goal.invariant-loop-line

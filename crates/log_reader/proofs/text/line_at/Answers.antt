@@ -1,5 +1,4 @@
 -- `log_reader::text::line_at` meets its contract.
-use borrow.Author.Rules.{rules}
 use Rattle.log_reader.specs.Text.{line_at}
 use Rattle.log_reader.proofs.text.line_at.Goals as goal
 

@@ -1,5 +1,4 @@
 -- `log_reader::text::number_of` meets its contract.
-use borrow.Author.Rules.{rules}
 use Rattle.log_reader.specs.Text.{number_of}
 use Rattle.log_reader.proofs.text.number_of.Goals as goal
 

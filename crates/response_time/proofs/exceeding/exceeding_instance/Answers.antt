@@ -7,8 +7,7 @@ use Rattle.arith.specs.Releases.{releases_before}
 use Rattle.bus_model.specs.Bounds.{own_distance}
 use Rattle.workload.specs.Prepared.{table_of}
 use Rattle.workload.specs.Laws.Fine.{in-table-fine}
-use Rattle.greatest_work.specs.Ready.{Ready}
-use Rattle.response_time.specs.Laws.Searches.{window-small, placed-any, Windowed, loop-ends, ClaimLoop, claim-start, claim-skip, claim-end, claim-here, claim-more}
+use Rattle.response_time.specs.Laws.Searches.{window-small, placed-any, Windowed, loop-ends, claim-start, claim-skip, claim-end, claim-here, claim-more}
 use Rattle.response_time.specs.Laws.Within.{instance-fits, shown-response}
 use Rattle.response_time.proofs.exceeding.exceeding_instance.Goals as goal
 use Rattle.response_time.proofs.exceeding.exceeding_instance.Goals.{After-or_zero-delay, After-releases_before-instances, After-response, In-loop-q}

@@ -1,14 +1,12 @@
-use Prim.Native.Nat.{◌-◌, ◌+◌, ◌*◌, ◌≤◌, ◌<◌}
+use Prim.Native.Nat.{◌+◌, ◌*◌, ◌<◌}
 use mathlib.Core.Path.{sym, ◌∙◌}
 use native.Mathlib.Omega.{arith}
 use native.Mathlib.Nat.{sub-zero, le-mul_of_pos_right}
 use borrow.Author.Rules.{rules}
 use Rattle.bus_model.specs.Bounds.{own_distance}
-use Rattle.workload.specs.Prepared.{table_of}
 use Rattle.workload.specs.Laws.Fine.{in-table-fine}
-use Rattle.greatest_work.specs.Ready.{Ready}
 use Rattle.response_time.specs.Laws.Searches.{placed-any}
-use Rattle.response_time.specs.Laws.Within.{Swept, swept_none, swept-shown, swept-missed, swept_all}
+use Rattle.response_time.specs.Laws.Within.{swept_none, swept-shown, swept-missed, swept_all}
 use Rattle.response_time.proofs.reach.sweep.Goals as goal
 use Rattle.response_time.proofs.reach.sweep.Goals.{In-loop-q}
 

@@ -2,7 +2,6 @@
 use Prim.Native.Nat.{max}
 use mathlib.Core.Path.{sym, ap, ◌∙◌}
 use native.Mathlib.Omega.{arith}
-use borrow.Author.Rules.{rules}
 use Rattle.bus_model.specs.Theory.Response.{response-at, response-none}
 use Rattle.response_time.specs.Laws.Within.{reach-none}
 use Rattle.response_time.proofs.response.max_with_scenario.Goals as goal

@@ -7,8 +7,7 @@ use Rattle.arith.specs.Releases.{releases_before}
 use Rattle.bus_model.specs.Bounds.{own_distance}
 use Rattle.workload.specs.Prepared.{table_of}
 use Rattle.workload.specs.Laws.Fine.{in-table-fine}
-use Rattle.greatest_work.specs.Ready.{Ready}
-use Rattle.response_time.specs.Laws.Searches.{window-small, placed-any, Windowed, InstanceLoop, loop-start, loop-ends, loop-more, loop-skip, loop-end}
+use Rattle.response_time.specs.Laws.Searches.{window-small, placed-any, Windowed, loop-start, loop-ends, loop-more, loop-skip, loop-end}
 use Rattle.response_time.specs.Laws.Within.{instance-fits, shown-response}
 use Rattle.response_time.proofs.response.max_with_window.Goals as goal
 use Rattle.response_time.proofs.response.max_with_window.Goals.{After-or_zero-delay, After-releases_before-instances, In-loop-q}

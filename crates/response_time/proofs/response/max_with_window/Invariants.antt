@@ -1,17 +1,9 @@
 -- The loop goes through the instances released in the window; each starts in the window, and no delay of the next one is below the end of this one,
 -- so its search starts there. Those that are shown to have no greater response are passed over. The measure is how many instances are left.
-use Prim.Native.Nat.{◌-◌, ◌+◌, ◌*◌, ◌≤◌, ◌<◌}
-use mathlib.Core.Path.{sym, ap, ◌∙◌}
-use native.Mathlib.Omega.{arith}
-use native.Mathlib.Nat.{sub-zero}
-use borrow.Author.Rules.{rules}
-use Rattle.arith.specs.Releases.{releases_before}
-use Rattle.bus_model.specs.Bounds.{own_distance}
+use Prim.Native.Nat.{◌-◌}
 use Rattle.workload.specs.Prepared.{table_of}
-use Rattle.workload.specs.Laws.Fine.{in-table-fine}
 use Rattle.greatest_work.specs.Ready.{Ready}
-use Rattle.response_time.specs.Laws.Searches.{window-small, placed-any, Windowed, InstanceLoop, loop-start, loop-ends, loop-more, loop-skip, loop-end}
-use Rattle.response_time.specs.Laws.Within.{instance-fits, shown-response}
+use Rattle.response_time.specs.Laws.Searches.{InstanceLoop}
 use Rattle.response_time.proofs.response.max_with_window.Given as goal
 
 abbrev pub invariant-loop-q : goal.invariant-loop-q

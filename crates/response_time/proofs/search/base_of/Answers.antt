@@ -1,5 +1,4 @@
 -- By the case of the search.
-use borrow.Author.Rules.{rules}
 use Rattle.response_time.specs.Load.{base_of}
 use Rattle.response_time.proofs.search.base_of.Goals as goal
 

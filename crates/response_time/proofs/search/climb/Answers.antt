@@ -1,11 +1,8 @@
-use Prim.Native.Nat.{◌+◌, ◌-◌}
+use Prim.Native.Nat.{◌+◌}
 use mathlib.Core.Path.{◌≡◌, refl, sym, ap, ◌∙◌}
 use native.Mathlib.Omega.{arith}
-use borrow.Author.Rules.{rules}
 use Rattle.arith.specs.Laws.Least.{least-end}
-use Rattle.arith.specs.Least.{least}
 use Rattle.workload.specs.Placed.{placed_in, placed_work}
-use Rattle.response_time.specs.Load.{placed_holds}
 use Rattle.response_time.specs.Laws.Searches.{placed-here, placed-skip, placed-beyond}
 use Rattle.response_time.proofs.search.climb.Goals as goal
 use Rattle.response_time.proofs.search.climb.Goals.{After-placed_work}

@@ -1,13 +1,9 @@
 -- The loop keeps what the search finds: where x does not hold its load, nothing below that load does. The measure is what is left up to the end.
-use Prim.Native.Nat.{◌+◌, ◌-◌}
-use mathlib.Core.Path.{◌≡◌, refl, sym, ap, ◌∙◌}
-use native.Mathlib.Omega.{arith}
-use borrow.Author.Rules.{rules}
-use Rattle.arith.specs.Laws.Least.{least-end}
+use Prim.Native.Nat.{◌-◌}
+use mathlib.Core.Path.{◌≡◌}
 use Rattle.arith.specs.Least.{least}
-use Rattle.workload.specs.Placed.{placed_in, placed_work}
+use Rattle.workload.specs.Placed.{placed_in}
 use Rattle.response_time.specs.Load.{placed_holds}
-use Rattle.response_time.specs.Laws.Searches.{placed-here, placed-skip, placed-beyond}
 use Rattle.response_time.proofs.search.climb.Given as goal
 
 abbrev pub invariant-loop-x : goal.invariant-loop-x

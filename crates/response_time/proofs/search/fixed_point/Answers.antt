@@ -2,11 +2,9 @@ use Prim.Native.Nat.{◌-◌, ◌≤◌, ◌<◌}
 use mathlib.Core.Path.{◌≡◌, refl, sym, ◌∙◌}
 use native.Mathlib.Omega.{arith}
 use borrow.Author.Rules.{rules}
-use lib.ListN.{length}
 use Rattle.arith.specs.Laws.Least.{least-within, least-end}
 use Rattle.arith.specs.Least.{least}
 use Rattle.workload.specs.Prepared.{table_of}
-use Rattle.greatest_work.specs.Ready.{Ready}
 use Rattle.response_time.specs.Load.{holds}
 use Rattle.response_time.specs.Laws.Searches.{climb-here, climb-skip, climb-beyond, finer-skip, finer-beyond}
 use Rattle.response_time.proofs.search.fixed_point.Goals as goal

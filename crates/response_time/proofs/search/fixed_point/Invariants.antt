@@ -1,15 +1,11 @@
 -- The loop keeps what the search finds: in the scenario with guesses nothing holds its load before it does in the one at hand, and where the number found there does not hold the load, nothing below that load does. The measure is what is left up to the end.
-use Prim.Native.Nat.{◌-◌, ◌≤◌, ◌<◌}
-use mathlib.Core.Path.{◌≡◌, refl, sym, ◌∙◌}
-use native.Mathlib.Omega.{arith}
-use borrow.Author.Rules.{rules}
+use Prim.Native.Nat.{◌-◌}
+use mathlib.Core.Path.{◌≡◌}
 use lib.ListN.{length}
-use Rattle.arith.specs.Laws.Least.{least-within, least-end}
 use Rattle.arith.specs.Least.{least}
 use Rattle.workload.specs.Prepared.{table_of}
 use Rattle.greatest_work.specs.Ready.{Ready}
 use Rattle.response_time.specs.Load.{holds}
-use Rattle.response_time.specs.Laws.Searches.{climb-here, climb-skip, climb-beyond, finer-skip, finer-beyond}
 use Rattle.response_time.proofs.search.fixed_point.Given as goal
 
 abbrev pub invariant-loop-x : goal.invariant-loop-x

@@ -1,7 +1,6 @@
 -- The load of the frames, and what the faults cost up to where it is counted.
 use Prim.Native.Nat.{ℕ, ◌+◌, ◌*◌}
 use mathlib.Core.Path.{ap₂, ◌∙◌}
-use borrow.Author.Rules.{rules}
 use Rattle.workload.specs.Prepared.{table_of}
 use Rattle.workload.specs.Faults.{faults_in}
 use Rattle.response_time.specs.Laws.Searches.{fault-cost, load-parts}

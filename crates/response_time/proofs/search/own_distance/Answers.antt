@@ -1,5 +1,4 @@
 -- By the choice of k's own group.
-use borrow.Author.Rules.{rules}
 use Rattle.bus_model.specs.Bounds.{own_distance}
 use Rattle.response_time.proofs.search.own_distance.Goals as goal
 

@@ -2,7 +2,6 @@
 use Prim.Native.Nat.{ℕ, ◌+◌, ◌*◌}
 use mathlib.Core.Path.{ap, ap₂, ◌∙◌}
 use native.Mathlib.Omega.{arith}
-use borrow.Author.Rules.{rules}
 use Rattle.workload.specs.Faults.{faults_in}
 use Rattle.response_time.specs.Load.{waits_of}
 use Rattle.response_time.proofs.search.waits_of.Goals as goal

@@ -1,6 +1,4 @@
-use Prim.Native.Nat.{◌-◌}
 use native.Mathlib.Omega.{arith}
-use borrow.Author.Rules.{rules}
 use Rattle.response_time.proofs.within.climb_above.Goals as goal
 
 pub loop-steps-init : goal.loop-steps-init

@@ -1,7 +1,5 @@
 -- Where the work of the placed frames is held, the measure is how many steps are left.
 use Prim.Native.Nat.{◌-◌}
-use native.Mathlib.Omega.{arith}
-use borrow.Author.Rules.{rules}
 use Rattle.response_time.proofs.within.climb_above.Given as goal
 
 abbrev pub invariant-loop-steps : goal.invariant-loop-steps

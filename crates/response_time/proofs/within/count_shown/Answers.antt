@@ -2,7 +2,6 @@
 use Prim.Native.Nat.{ℕ, ◌-◌, ◌/◌, ◌≤◌}
 use native.Mathlib.Omega.{arith}
 use native.Mathlib.Nat.{mul-le-mul_right, mul_comm, div-add-mod, div-le_self}
-use borrow.Author.Rules.{rules}
 use Rattle.response_time.proofs.within.count_shown.Goals as goal
 
 pub returns-then-x-load : goal.returns-then-x-load

@@ -1,5 +1,3 @@
-use Prim.Native.Nat.{◌-◌}
-use borrow.Author.Rules.{rules}
 use Rattle.response_time.proofs.within.has_open.Goals as goal
 
 pub loop-j-init : goal.loop-j-init

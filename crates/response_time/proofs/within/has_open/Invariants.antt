@@ -1,6 +1,5 @@
 -- The measure is how many groups are left.
 use Prim.Native.Nat.{◌-◌}
-use borrow.Author.Rules.{rules}
 use Rattle.response_time.proofs.within.has_open.Given as goal
 
 abbrev pub invariant-loop-j : goal.invariant-loop-j

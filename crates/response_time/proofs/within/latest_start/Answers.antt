@@ -1,7 +1,6 @@
 -- By the two tests: the response may be too small for the length, and the start may be beyond the limit.
 use mathlib.Core.Path.{ap}
 use native.Mathlib.Omega.{arith}
-use borrow.Author.Rules.{rules}
 use borrow.Author.Tests.{lt-ltb, le-ltb}
 use Rattle.arith.specs.declared.Found.TheVariants.{At}
 use Rattle.response_time.specs.Load.{latest_start}

@@ -2,7 +2,6 @@
 use native.Mathlib.Omega.{arith}
 use native.Mathlib.Nat.{le_of_eq}
 use mathlib.Core.Path.{sym}
-use borrow.Author.Rules.{rules}
 use Rattle.workload.specs.Laws.Fine.{in-table-fine}
 use Rattle.response_time.specs.Laws.Within.{shows}
 use Rattle.response_time.proofs.within.shown_at.Goals as goal

@@ -1,6 +1,5 @@
 -- What is found is looked at once more, to tell of how many instances it shows it.
 use native.Mathlib.Omega.{arith}
-use borrow.Author.Rules.{rules}
 use Rattle.response_time.proofs.within.shown_late.Goals as goal
 
 pub fixed_point-found-requires : goal.fixed_point-found-requires

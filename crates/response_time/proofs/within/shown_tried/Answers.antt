@@ -1,7 +1,6 @@
 -- Each way of trying tells for itself; the placed frames tell of the load.
 use Prim.Native.Nat.{◌≤◌}
 use native.Mathlib.Omega.{arith}
-use borrow.Author.Rules.{rules}
 use Rattle.workload.specs.declared.Search.TheVariants.{Instance}
 use Rattle.workload.specs.Placed.{placed_in, FinePlaced}
 use Rattle.workload.specs.Laws.Fine.{in-table-fine}

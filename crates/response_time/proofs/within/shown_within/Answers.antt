@@ -2,7 +2,6 @@
 use Prim.Native.Nat.{◌+◌, ◌*◌}
 use mathlib.Core.Path.{sym, ap, ◌∙◌}
 use native.Mathlib.Omega.{arith}
-use borrow.Author.Rules.{rules}
 use Rattle.workload.specs.Laws.Fine.{in-table-fine}
 use Rattle.response_time.specs.Load.{latest_start}
 use Rattle.response_time.specs.Laws.Within.{latest-start-fits, shows-within}

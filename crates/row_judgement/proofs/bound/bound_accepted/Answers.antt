@@ -1,7 +1,6 @@
 -- The table passes its checks; a missing row is refused, and of another the bound is answered that is found without a claim.
 use mathlib.Core.Path.{ap, ◌∙◌}
 use native.Mathlib.Omega.{arith}
-use borrow.Author.Rules.{rules}
 use borrow.Author.Tests.{lt-leb, le-leb}
 use Rattle.table_checks.specs.Laws.Accepted.{accepted-size}
 use Rattle.workload.specs.Laws.Groups.{fine-never}

@@ -1,5 +1,4 @@
 -- By the bound.
-use borrow.Author.Rules.{rules}
 use Rattle.row_judgement.specs.Decide.{bounded_by}
 use Rattle.row_judgement.proofs.bound.bounded.Goals as goal
 

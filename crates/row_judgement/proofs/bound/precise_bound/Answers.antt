@@ -1,5 +1,4 @@
 -- A table that a check turns back is refused with its cause, and of another the row's bound is answered.
-use borrow.Author.Rules.{rules}
 use mathlib.Core.Path.{sym, ◌∙◌}
 use Rattle.table_checks.specs.Laws.Accepted.{loaded-both}
 use Rattle.row_judgement.specs.Judge.{bound_row, bound_checked}

@@ -1,6 +1,5 @@
 -- The area is prepared for the frame of the row.
 use mathlib.Core.Path.{refl}
-use borrow.Author.Rules.{rules}
 use Rattle.row_judgement.proofs.decide.prepare_row.Goals as goal
 
 pub frame_blocking-blocked-requires : goal.frame_blocking-blocked-requires

@@ -1,5 +1,4 @@
 -- A table that a check turns back is refused with its cause, then a missing row, both without a case; else the row is judged, with its case.
-use borrow.Author.Rules.{rules}
 use mathlib.Core.Path.{◌≡◌, sym, ◌∙◌}
 use borrow.Author.Tests.{lt-leb, le-leb}
 use Rattle.table_checks.specs.Checks.{loaded_check}

@@ -1,6 +1,5 @@
 -- A table that a check turns back is refused with its cause, then a missing row, then a gap outside its limits, all without a case; else the
 -- row is judged under the premise, with its case.
-use borrow.Author.Rules.{rules}
 use native.Mathlib.Omega.{arith}
 use mathlib.Core.Bool.{true}
 use mathlib.Core.Path.{◌≡◌, sym, ◌∙◌}

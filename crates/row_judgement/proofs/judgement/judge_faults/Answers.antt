@@ -1,6 +1,5 @@
 -- A table that a check turns back is refused with its cause, and of another the row is judged under the premise; in every case the answer is the
 -- row's judgement, and the theory says of the judgement that a certified frame meets its claim, and when the margin is below zero.
-use borrow.Author.Rules.{rules}
 use mathlib.Core.Path.{sym, ◌∙◌}
 use Rattle.table_checks.specs.Laws.Accepted.{loaded-both}
 use Rattle.row_judgement.specs.Judge.{judge_faults, judge_faults_checked}

@@ -1,5 +1,4 @@
 -- The table passes its checks; a missing row is refused, then a gap outside its limits, and another is judged under the premise.
-use borrow.Author.Rules.{rules}
 use native.Mathlib.Omega.{arith}
 use mathlib.Core.Bool.{true}
 use mathlib.Core.Path.{◌≡◌, sym, ap, ◌∙◌}

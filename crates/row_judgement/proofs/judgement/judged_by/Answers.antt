@@ -1,5 +1,4 @@
 -- By the bound.
-use borrow.Author.Rules.{rules}
 use borrow.Author.Tests.{lt-leb, le-leb}
 use Rattle.row_judgement.specs.Decide.{judged_by}
 use Rattle.row_judgement.proofs.judgement.judged_by.Goals as goal

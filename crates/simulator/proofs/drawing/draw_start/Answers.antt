@@ -1,6 +1,5 @@
 -- `simulator::drawing::draw_start` meets its contract.
 use native.Mathlib.Omega.{arith}
-use borrow.Author.Rules.{rules}
 use Rattle.table_checks.specs.Laws.Accepted.{hyper-same}
 use Rattle.simulator.specs.Starts.{start_drawn}
 use Rattle.simulator.specs.Theory.First.{hyper-some}

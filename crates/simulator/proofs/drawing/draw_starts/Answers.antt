@@ -1,9 +1,6 @@
-use Prim.Native.Nat.{◌-◌, ◌≤◌}
-use mathlib.Core.Path.{◌≡◌, refl, ap, ◌∙◌}
-use native.Mathlib.Omega.{arith}
+use mathlib.Core.Path.{refl, ◌∙◌}
 use borrow.Author.Rules.{rules}
 use native.Mathlib.Numerals.{add-one}
-use Rattle.table_checks.specs.Frames.{frames_of}
 use Rattle.simulator.specs.Starts.{starts_drawn}
 use Rattle.simulator.proofs.drawing.draw_starts.Goals as goal
 

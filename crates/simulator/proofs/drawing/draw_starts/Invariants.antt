@@ -1,9 +1,6 @@
 -- `simulator::drawing::draw_starts` meets its contract: after j turns groups 1 to j have drawn.
 use Prim.Native.Nat.{◌-◌, ◌≤◌}
-use mathlib.Core.Path.{◌≡◌, refl, ap, ◌∙◌}
-use native.Mathlib.Omega.{arith}
-use borrow.Author.Rules.{rules}
-use native.Mathlib.Numerals.{add-one}
+use mathlib.Core.Path.{◌≡◌}
 use Rattle.table_checks.specs.Frames.{frames_of}
 use Rattle.simulator.specs.Starts.{starts_drawn}
 use Rattle.simulator.proofs.drawing.draw_starts.Given as goal

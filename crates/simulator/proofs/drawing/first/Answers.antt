@@ -1,5 +1,4 @@
 -- `simulator::drawing::first` meets its contract.
-use borrow.Author.Rules.{rules}
 use Rattle.simulator.specs.Starts.{first_of}
 use Rattle.simulator.proofs.drawing.first.Goals as goal
 

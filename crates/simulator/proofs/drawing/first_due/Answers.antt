@@ -1,6 +1,5 @@
 -- `simulator::drawing::first_due` meets its contract.
 use native.Mathlib.Omega.{arith}
-use borrow.Author.Rules.{rules}
 use Rattle.simulator.specs.Starts.{first_due}
 use Rattle.simulator.specs.Theory.First.{Early}
 use Rattle.bus_log.specs.Theory.Table.{any-group}

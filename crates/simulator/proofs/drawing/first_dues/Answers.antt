@@ -1,13 +1,7 @@
-use Prim.Native.Nat.{◌-◌, ◌≤◌}
-use mathlib.Core.Path.{◌≡◌, refl, ◌∙◌}
+use mathlib.Core.Path.{refl, ◌∙◌}
 use borrow.Author.Rules.{rules}
-use mathlib.Core.List.{map}
-use lib.ListN.{length, length-set}
-use Rattle.table_checks.specs.Frames.{frames_of}
+use lib.ListN.{length-set}
 use Rattle.bus_log.specs.Theory.Filled.{fill_more, fill-all}
-use Rattle.arith.specs.Lists.{range}
-use Rattle.arith.specs.Laws.Overwriting.{over}
-use Rattle.simulator.specs.Starts.{first_due}
 use Rattle.simulator.proofs.drawing.first_dues.Goals as goal
 
 pub loop-i-preserved : goal.loop-i-preserved

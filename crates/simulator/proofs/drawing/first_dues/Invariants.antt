@@ -1,11 +1,9 @@
 -- `simulator::drawing::first_dues` meets its contract: after i turns the first i are written.
 use Prim.Native.Nat.{◌-◌, ◌≤◌}
-use mathlib.Core.Path.{◌≡◌, refl, ◌∙◌}
-use borrow.Author.Rules.{rules}
+use mathlib.Core.Path.{◌≡◌}
 use mathlib.Core.List.{map}
-use lib.ListN.{length, length-set}
+use lib.ListN.{length}
 use Rattle.table_checks.specs.Frames.{frames_of}
-use Rattle.bus_log.specs.Theory.Filled.{fill_more, fill-all}
 use Rattle.arith.specs.Lists.{range}
 use Rattle.arith.specs.Laws.Overwriting.{over}
 use Rattle.simulator.specs.Starts.{first_due}

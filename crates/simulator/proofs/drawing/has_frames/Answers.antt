@@ -1,4 +1,3 @@
-use Prim.Native.Nat.{◌-◌, ◌≤◌}
 use mathlib.Core.Path.{◌≡◌, ◌∙◌}
 use borrow.Author.Tests.{eq-eqb, ne_eqb}
 use borrow.Author.Rules.{rules}
@@ -6,7 +5,6 @@ use native.Mathlib.Nat.{sub-zero}
 use lib.Dec.{eqb}
 use Rattle.table_checks.specs.Frames.{frames_of}
 use Rattle.table_checks.specs.Laws.Accepted.{length-frames}
-use Rattle.arith.specs.Lists.{exists, range}
 use Rattle.arith.specs.Laws.Members.{exists-stop, exists-go, exists-end}
 use Rattle.bus_model.specs.Frame.{row}
 use Rattle.simulator.specs.Starts.{has_frames}

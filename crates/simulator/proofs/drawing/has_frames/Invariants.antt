@@ -1,14 +1,9 @@
 -- `simulator::drawing::has_frames` meets its contract: the rows left decide.
 use Prim.Native.Nat.{◌-◌, ◌≤◌}
-use mathlib.Core.Path.{◌≡◌, ◌∙◌}
-use borrow.Author.Tests.{eq-eqb, ne_eqb}
-use borrow.Author.Rules.{rules}
-use native.Mathlib.Nat.{sub-zero}
+use mathlib.Core.Path.{◌≡◌}
 use lib.Dec.{eqb}
 use Rattle.table_checks.specs.Frames.{frames_of}
-use Rattle.table_checks.specs.Laws.Accepted.{length-frames}
 use Rattle.arith.specs.Lists.{exists, range}
-use Rattle.arith.specs.Laws.Members.{exists-stop, exists-go, exists-end}
 use Rattle.bus_model.specs.Frame.{row}
 use Rattle.simulator.specs.Starts.{has_frames}
 use Rattle.simulator.proofs.drawing.has_frames.Given as goal

@@ -1,6 +1,5 @@
 -- `simulator::operation::simulate` meets its contract: what the checks turn back is answered with its refusal, and else the table is simulated.
 use mathlib.Core.Path.{sym, ◌∙◌}
-use borrow.Author.Rules.{rules}
 use Rattle.table_checks.specs.Laws.Accepted.{loaded-both}
 use Rattle.simulator.specs.Theory.Answers.{rows_told, left-refused, left_passed}
 use Rattle.simulator.proofs.operation.simulate.Goals as goal

@@ -1,7 +1,6 @@
 -- `simulator::operation::simulate_accepted` meets its contract: a test for each refusal, in their order.
 use mathlib.Core.Path.{refl, sym, ◌∙◌}
 use borrow.Author.Tests.{eq-eqb, ne_eqb}
-use borrow.Author.Rules.{rules}
 use Rattle.table_checks.specs.Laws.Limits.{between-true}
 use Rattle.simulator.specs.Simulate.{wanted_for, area_left}
 use Rattle.simulator.proofs.operation.simulate_accepted.Goals as goal

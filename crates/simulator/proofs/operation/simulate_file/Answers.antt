@@ -1,6 +1,5 @@
 -- `simulator::operation::simulate_file` meets its contract: what the file is read into is its table, and a file that is turned back is answered with its refusal.
 use mathlib.Core.Path.{refl}
-use borrow.Author.Rules.{rules}
 use Rattle.frame_table.specs.Laws.Reading.{ReadRows, read-rows, read-refused}
 use Rattle.simulator.specs.Theory.Answers.{left-refused, left_passed}
 use Rattle.simulator.proofs.operation.simulate_file.Goals as goal

@@ -1,5 +1,4 @@
 -- `simulator::operation::simulate_files` meets its contract: lengths that are turned back are answered with their refusal, and by others the table is simulated.
-use borrow.Author.Rules.{rules}
 use Rattle.lengths_file.specs.Laws.Input.{ReadLengths, lengths_read, lengths-refused}
 use Rattle.simulator.specs.Theory.Answers.{files-told, left-refused}
 use Rattle.simulator.proofs.operation.simulate_files.Goals as goal

@@ -1,7 +1,6 @@
 -- `simulator::operation::simulate_input` meets its contract: the two parts are those of the input.
 use Prim.Native.Nat.{ℕ}
 use mathlib.Core.List.{List}
-use borrow.Author.Rules.{rules}
 use Rattle.lengths_file.specs.Laws.Input.{first_part, second-part}
 use Rattle.simulator.proofs.operation.simulate_input.Goals as goal
 

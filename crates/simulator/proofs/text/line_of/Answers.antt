@@ -1,5 +1,4 @@
 -- `simulator::text::line_of` meets its contract.
-use borrow.Author.Rules.{rules}
 use Rattle.simulator.specs.Text.{line_of}
 use Rattle.simulator.proofs.text.line_of.Goals as goal
 

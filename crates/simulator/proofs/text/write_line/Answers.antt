@@ -1,9 +1,5 @@
 -- `simulator::text::write_line` meets its contract: five columns and a line feed.
-use mathlib.Core.Path.{sym, ap, ◌∙◌}
-use lib.ListN.{length}
-use borrow.Author.Rules.{rules}
 use Rattle.simulator.specs.Theory.Turns.{line-written}
-use Rattle.simulator.specs.Theory.Layout.{length-line}
 use Rattle.simulator.proofs.text.write_line.Goals as goal
 
 pub returns : goal.returns

@@ -1,16 +1,11 @@
 -- `simulator::text::write_log` meets its contract: after i turns the first i lines are written, and the rest is as it was.
 use Prim.Native.Nat.{◌-◌, ◌*◌, ◌≤◌}
-use mathlib.Core.Path.{◌≡◌, refl, ap, ◌∙◌}
-use native.Mathlib.Omega.{arith}
-use borrow.Author.Rules.{rules}
+use mathlib.Core.Path.{◌≡◌}
 use lib.ListN.{length}
 use Rattle.table_checks.specs.Frames.{frames_of}
 use Rattle.arith.specs.Laws.Overwriting.{over}
-use Rattle.arith.specs.Laws.Lines.{line-over, lines-over}
 use Rattle.simulator.specs.Engine.{after}
-use Rattle.simulator.specs.Text.{line_of, line_text, log_text, lines_from}
-use Rattle.simulator.specs.Theory.Layout.{log-lines}
-use Rattle.simulator.specs.Theory.Turns.{Small, turn-entry, turn_moved, turn_small}
+use Rattle.simulator.specs.Text.{log_text, lines_from}
 use Rattle.simulator.proofs.text.write_log.Given as goal
 
 abbrev pub invariant-loop-i : goal.invariant-loop-i

@@ -1,13 +1,8 @@
 -- `simulator::turn::best` meets its contract: after i turns it has the best-ranked of i rows.
 use Prim.Native.Nat.{◌-◌, ◌≤◌, ◌<◌}
-use mathlib.Core.Path.{◌≡◌, refl, sym, ap, ◌∙◌}
-use native.Mathlib.Omega.{arith}
-use borrow.Author.Rules.{rules}
-use lib.ListN.{length}
-use Rattle.simulator.specs.Theory.Lowest.{lowest-more}
+use mathlib.Core.Path.{◌≡◌}
 use Rattle.simulator.specs.Engine.{rank_at, lowest_of}
 use Rattle.table_checks.specs.Frames.{frames_of}
-use Rattle.table_checks.specs.Laws.Accepted.{length-frames}
 use Rattle.simulator.proofs.turn.best.Given as goal
 
 abbrev pub invariant-loop-i : goal.invariant-loop-i

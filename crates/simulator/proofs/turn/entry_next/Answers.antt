@@ -1,7 +1,6 @@
 -- `simulator::turn::entry_next` meets its contract.
 use mathlib.Core.Path.{◌≡◌, ◌∙◌}
 use native.Mathlib.Omega.{arith}
-use borrow.Author.Rules.{rules}
 use Rattle.table_checks.specs.Frames.{frames_of}
 use Rattle.table_checks.specs.Laws.Accepted.{length-frames, accepted-size}
 use Rattle.simulator.specs.Engine.{row_next, entry_next}

@@ -1,8 +1,5 @@
 -- `simulator::turn::length-from` meets its contract.
-use native.Mathlib.Omega.{arith}
-use native.Mathlib.Nat.{mod-lt}
 use mathlib.Core.Path.{refl}
-use borrow.Author.Rules.{rules}
 use Rattle.simulator.specs.Engine.{length_from}
 use Rattle.simulator.proofs.turn.length_from.Goals as goal
 

@@ -1,5 +1,4 @@
 -- `simulator::turn::moved_by` meets its contract.
-use borrow.Author.Rules.{rules}
 use Rattle.simulator.specs.Engine.{moved_by}
 use Rattle.simulator.proofs.turn.moved_by.Goals as goal
 

@@ -1,6 +1,5 @@
 -- `simulator::turn::rank_at` meets its contract.
 use borrow.Author.Tests.{le-leb, lt-leb}
-use borrow.Author.Rules.{rules}
 use Rattle.simulator.specs.Engine.{rank_at}
 use Rattle.simulator.proofs.turn.rank_at.Goals as goal
 

@@ -1,10 +1,7 @@
 -- `simulator::turn::soonest` meets its contract: after i turns it has the soonest of i rows.
 use Prim.Native.Nat.{◌-◌, ◌≤◌, ◌<◌}
-use mathlib.Core.Path.{◌≡◌, refl, sym, ap, ◌∙◌}
-use native.Mathlib.Omega.{arith}
-use borrow.Author.Rules.{rules}
+use mathlib.Core.Path.{◌≡◌}
 use Rattle.bus_log.specs.Follow.{due_of}
-use Rattle.simulator.specs.Theory.Lowest.{lowest-more}
 use Rattle.simulator.specs.Engine.{lowest_of}
 use Rattle.simulator.proofs.turn.soonest.Given as goal
 

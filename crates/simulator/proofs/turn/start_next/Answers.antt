@@ -1,6 +1,5 @@
 -- `simulator::turn::start_next` meets its contract.
 use mathlib.Core.Path.{◌∙◌}
-use borrow.Author.Rules.{rules}
 use Rattle.simulator.specs.Engine.{start_next}
 use Rattle.simulator.proofs.turn.start_next.Goals as goal
 

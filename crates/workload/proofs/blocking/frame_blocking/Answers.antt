@@ -1,7 +1,6 @@
-use Rattle.std.proofs.Common.{ℕ, ◌-◌, ap, subst, arith, rules}
+use Rattle.std.proofs.Common.{ℕ, ◌-◌, ap, subst, arith}
 use Rattle.arith.specs.Laws.Walks.{Down, down-end}
 use Rattle.bus_model.specs.Bounds.{is_below, below, blocking}
-use Rattle.workload.specs.Prepared.{table_of}
 use Rattle.workload.specs.Laws.Prepared.{length-table}
 use Rattle.workload.specs.Laws.Groups.{longest_of, longest-none, longest-more}
 use Rattle.workload.proofs.blocking.frame_blocking.Goals as goal

@@ -1,10 +1,8 @@
 -- `workload::blocking::frame_blocking` meets its contract: the invariant has the greatest length below k of the rows read.
-use Rattle.std.proofs.Common.{ℕ, ◌-◌, ap, subst, arith, rules}
-use Rattle.arith.specs.Laws.Walks.{Down, down-end}
-use Rattle.bus_model.specs.Bounds.{is_below, below, blocking}
+use Rattle.arith.specs.Laws.Walks.{Down}
+use Rattle.bus_model.specs.Bounds.{is_below}
 use Rattle.workload.specs.Prepared.{table_of}
-use Rattle.workload.specs.Laws.Prepared.{length-table}
-use Rattle.workload.specs.Laws.Groups.{longest_of, longest-none, longest-more}
+use Rattle.workload.specs.Laws.Groups.{longest_of}
 use Rattle.workload.proofs.blocking.frame_blocking.Given as goal
 
 abbrev pub invariant-loop-i : goal.invariant-loop-i

@@ -1,5 +1,5 @@
 -- By the premise.
-use Rattle.std.proofs.Common.{ℕ, ◌+◌, ap, rules}
+use Rattle.std.proofs.Common.{ℕ, ◌+◌, ap}
 use Rattle.bus_model.specs.Bounds.{fault_time}
 use Rattle.workload.specs.Faults.{cost_of}
 use Rattle.workload.proofs.faults.fault_time.Goals as goal

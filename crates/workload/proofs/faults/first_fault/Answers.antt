@@ -1,5 +1,5 @@
 -- It begins no sooner than the lead ends, and at most a gap later.
-use Rattle.std.proofs.Common.{ℕ, ◌+◌, ◌-◌, ◌*◌, ◌≤◌, ap, arith, rules}
+use Rattle.std.proofs.Common.{ℕ, ◌+◌, ◌-◌, ◌*◌, ◌≤◌, ap, arith}
 use Rattle.arith.specs.Laws.Releases.{next-after, count-short}
 use Rattle.workload.proofs.faults.first_fault.Goals as goal
 use Rattle.workload.proofs.faults.first_fault.Goals.{After-releases_before}

@@ -1,7 +1,6 @@
-use Rattle.std.proofs.Common.{◌-◌, subst, rules}
+use Rattle.std.proofs.Common.{subst}
 use Rattle.arith.specs.Laws.Walks.{Down, down-end}
 use Rattle.bus_model.specs.Bounds.{is_ahead, ahead}
-use Rattle.workload.specs.Prepared.{table_of}
 use Rattle.workload.specs.Laws.Prepared.{length-table}
 use Rattle.workload.specs.Laws.Groups.{longest_of, longest-none, longest-more, longest-small}
 use Rattle.workload.proofs.faults.longest_ahead.Goals as goal

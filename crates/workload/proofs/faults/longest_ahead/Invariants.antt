@@ -1,10 +1,8 @@
 -- The invariant has the greatest length ahead of k of the rows read.
-use Rattle.std.proofs.Common.{◌-◌, subst, rules}
-use Rattle.arith.specs.Laws.Walks.{Down, down-end}
-use Rattle.bus_model.specs.Bounds.{is_ahead, ahead}
+use Rattle.arith.specs.Laws.Walks.{Down}
+use Rattle.bus_model.specs.Bounds.{is_ahead}
 use Rattle.workload.specs.Prepared.{table_of}
-use Rattle.workload.specs.Laws.Prepared.{length-table}
-use Rattle.workload.specs.Laws.Groups.{longest_of, longest-none, longest-more, longest-small}
+use Rattle.workload.specs.Laws.Groups.{longest_of}
 use Rattle.workload.proofs.faults.longest_ahead.Given as goal
 
 abbrev pub invariant-loop-i : goal.invariant-loop-i

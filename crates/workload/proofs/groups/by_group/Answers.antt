@@ -1,10 +1,10 @@
-use Rattle.std.proofs.Common.{◌≡◌, ℕ, ◌+◌, ◌-◌, ◌≤◌, length, sym, refl, ◌∙◌, arith, length-set, rules}
+use Rattle.std.proofs.Common.{◌≡◌, ℕ, ◌+◌, ◌-◌, ◌≤◌, length, sym, refl, ◌∙◌, arith, length-set}
 use borrow.Rule.Slice.PartMut.{mid_of, put_mid, mid_len, same_len_mid}
 use Rattle.bus_model.specs.Pattern.{of_group}
 use Rattle.bus_model.specs.Bounds.{ahead}
 use Rattle.table_checks.specs.Frames.{frames_of}
 use Rattle.workload.specs.Prepared.{frames_in}
-use Rattle.workload.specs.Laws.Groups.{before-none, part-within, part-turn, part-read, ListedTo, listed-room, listed_more, listed-all}
+use Rattle.workload.specs.Laws.Groups.{before-none, part-within, part-turn, part-read, listed-room, listed_more, listed-all}
 use Rattle.workload.proofs.groups.by_group.Goals as goal
 use Rattle.workload.proofs.groups.by_group.Goals.{After-gather-count, In-loop-j}
 

@@ -1,8 +1,7 @@
-use Rattle.std.proofs.Common.{◌≡◌, ◌-◌, length, sym, refl, ap, ◌∙◌, ⊎_elim, arith, rules}
+use Rattle.std.proofs.Common.{sym, refl, ap, ◌∙◌, arith}
 use Rattle.arith.specs.Laws.Gathering.{gathered_none, gathered-room, gathered-put, gathered-skip}
-use Rattle.table_checks.specs.Frames.{frames_of}
 use Rattle.table_checks.specs.Laws.Accepted.{length-frames}
-use Rattle.workload.specs.Laws.Groups.{is_member, rows_few, RowsGathered, rows-gathered}
+use Rattle.workload.specs.Laws.Groups.{is_member, rows_few, rows-gathered}
 use Rattle.workload.proofs.groups.gather.Goals as goal
 use Rattle.workload.proofs.groups.gather.Goals.{then-belongs, else-belongs}
 

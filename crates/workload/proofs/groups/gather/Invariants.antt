@@ -1,9 +1,7 @@
 -- `workload::groups::gather` meets its contract: the invariant has the rows found and those still to come.
-use Rattle.std.proofs.Common.{◌≡◌, ◌-◌, length, sym, refl, ap, ◌∙◌, ⊎_elim, arith, rules}
-use Rattle.arith.specs.Laws.Gathering.{gathered_none, gathered-room, gathered-put, gathered-skip}
+use Rattle.std.proofs.Common.{◌≡◌, ◌-◌, length}
 use Rattle.table_checks.specs.Frames.{frames_of}
-use Rattle.table_checks.specs.Laws.Accepted.{length-frames}
-use Rattle.workload.specs.Laws.Groups.{is_member, rows_few, RowsGathered, rows-gathered}
+use Rattle.workload.specs.Laws.Groups.{RowsGathered}
 use Rattle.workload.proofs.groups.gather.Given as goal
 
 abbrev pub invariant-loop-i : goal.invariant-loop-i

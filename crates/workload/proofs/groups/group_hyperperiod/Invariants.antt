@@ -1,13 +1,8 @@
 -- The invariant has the least common multiple of the rows read, which is at most that of all.
-use Rattle.std.proofs.Common.{ℕ, ◌-◌, ◌<◌, ◌≤◌, eqb, List, length, refl, subst, arith, rules}
-use Rattle.arith.specs.Laws.Walks.{Down, down-end}
-use Rattle.bus_model.specs.declared.Frame.{Frame}
-use Rattle.bus_model.specs.Frame.{row}
-use Rattle.bus_model.specs.Pattern.{of_group}
-use Rattle.bus_model.specs.Theory.Hyperperiod.{hyper_of, common-none, hyper-more, hyper-le}
+use Rattle.std.proofs.Common.{◌≤◌}
+use Rattle.arith.specs.Laws.Walks.{Down}
+use Rattle.bus_model.specs.Theory.Hyperperiod.{hyper_of}
 use Rattle.table_checks.specs.Frames.{frames_of}
-use Rattle.table_checks.specs.Laws.Accepted.{length-frames}
-use Rattle.workload.specs.Prepared.{FineTable}
 use Rattle.workload.proofs.groups.group_hyperperiod.Given as goal
 
 abbrev pub invariant-loop-i : goal.invariant-loop-i

@@ -1,5 +1,5 @@
 -- Only a frame that counts is joined.
-use Rattle.std.proofs.Common.{arith, rules}
+use Rattle.std.proofs.Common.{arith}
 use Rattle.workload.proofs.groups.joined.Goals as goal
 
 pub overflow_cast-result : goal.overflow_cast-result

@@ -1,4 +1,4 @@
-use Rattle.std.proofs.Common.{◌≡◌, ◌-◌, ◌<◌, ◌≤◌, length, sym, refl, ap, ◌∙◌, subst, arith, rules}
+use Rattle.std.proofs.Common.{◌≡◌, ◌-◌, ◌<◌, length, sym, refl, ap, ◌∙◌, subst, arith, rules}
 use lib.ListN.{length-map, get_or-map}
 use Rattle.arith.specs.Laws.Walks.{Down, down-end}
 use Rattle.arith.specs.Laws.Members.{mem-get_d, get_d-within}

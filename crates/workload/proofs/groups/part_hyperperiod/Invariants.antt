@@ -1,13 +1,9 @@
 -- As for a group, through the rows of the part.
-use Rattle.std.proofs.Common.{◌≡◌, ◌-◌, ◌<◌, ◌≤◌, length, sym, refl, ap, ◌∙◌, subst, arith, rules}
-use lib.ListN.{length-map, get_or-map}
-use Rattle.arith.specs.Laws.Walks.{Down, down-end}
-use Rattle.arith.specs.Laws.Members.{mem-get_d, get_d-within}
-use Rattle.bus_model.specs.Frame.{no_frame, row}
+use Rattle.std.proofs.Common.{◌≤◌}
+use Rattle.arith.specs.Laws.Walks.{Down}
 use Rattle.bus_model.specs.Pattern.{hyperperiod}
 use Rattle.table_checks.specs.Frames.{frames_of}
 use Rattle.workload.specs.Prepared.{frames_in}
-use Rattle.workload.specs.Laws.Groups.{part_none, part-more, part-le}
 use Rattle.workload.proofs.groups.part_hyperperiod.Given as goal
 
 abbrev pub invariant-loop-i : goal.invariant-loop-i

@@ -1,4 +1,3 @@
-use Rattle.std.proofs.Common.{rules}
 use Rattle.workload.specs.Placed.{first_release}
 use Rattle.workload.proofs.placed.first_release.Goals as goal
 

@@ -1,5 +1,5 @@
 -- The frames, and the faults behind them.
-use Rattle.std.proofs.Common.{List, ◌++◌, ap, ◌∙◌, rules}
+use Rattle.std.proofs.Common.{List, ◌++◌, ap, ◌∙◌}
 use Rattle.workload.specs.Placed.{Placed, placed_faults}
 use Rattle.workload.proofs.placed.place.Goals as goal
 

@@ -1,5 +1,5 @@
 -- Where faults begin, the first after the lead is put behind the frames.
-use Rattle.std.proofs.Common.{◌≡◌, ℕ, ◌+◌, ◌-◌, ◌*◌, ◌≤◌, List, [], ◌∷◌, ◌++◌, take, sym, ap, ◌∙◌, append-nil, arith, rules}
+use Rattle.std.proofs.Common.{◌≡◌, ℕ, ◌+◌, ◌-◌, ◌*◌, ◌≤◌, List, [], ◌∷◌, ◌++◌, take, sym, ap, ◌∙◌, append-nil, arith}
 use Rattle.arith.specs.Releases.{releases_before}
 use Rattle.workload.specs.Faults.{FineFaults, lead_of}
 use Rattle.workload.specs.Placed.{Placed, placed_in, fault_frame, fault_frames}

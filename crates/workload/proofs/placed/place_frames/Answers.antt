@@ -1,8 +1,8 @@
-use Rattle.std.proofs.Common.{◌≡◌, ◌-◌, ◌<◌, length, sym, ap, ◌∙◌, ⊎_elim, arith, rules}
+use Rattle.std.proofs.Common.{◌<◌, length, sym, ap, ◌∙◌, arith}
 use Rattle.workload.specs.Prepared.{Fine, table_of}
 use Rattle.workload.specs.Placed.{Placed, placed_frame}
 use Rattle.workload.specs.Laws.Prepared.{length-table}
-use Rattle.workload.specs.Laws.Placed.{PlacedTo, place_none, place-put, place-skip, place-all}
+use Rattle.workload.specs.Laws.Placed.{place_none, place-put, place-skip, place-all}
 use Rattle.workload.proofs.placed.place_frames.Goals as goal
 use Rattle.workload.proofs.placed.place_frames.Goals.{After-row_at-r, then-is_load, else-is_load}
 

@@ -1,9 +1,7 @@
 -- The invariant has the frames that are placed, and those to come from the rows that are left.
-use Rattle.std.proofs.Common.{◌≡◌, ◌-◌, ◌<◌, length, sym, ap, ◌∙◌, ⊎_elim, arith, rules}
-use Rattle.workload.specs.Prepared.{Fine, table_of}
-use Rattle.workload.specs.Placed.{Placed, placed_frame}
-use Rattle.workload.specs.Laws.Prepared.{length-table}
-use Rattle.workload.specs.Laws.Placed.{PlacedTo, place_none, place-put, place-skip, place-all}
+use Rattle.std.proofs.Common.{◌≡◌, ◌-◌, length}
+use Rattle.workload.specs.Prepared.{table_of}
+use Rattle.workload.specs.Laws.Placed.{PlacedTo}
 use Rattle.workload.proofs.placed.place_frames.Given as goal
 
 abbrev pub invariant-loop-i : goal.invariant-loop-i

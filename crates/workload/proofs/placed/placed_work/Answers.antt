@@ -1,7 +1,7 @@
-use Rattle.std.proofs.Common.{◌≡◌, ℕ, ◌+◌, ◌-◌, ◌*◌, ◌/◌, ◌<◌, ◌≤◌, length, sym, ap, ◌∙◌, add-zero, zero-add, arith, rules}
+use Rattle.std.proofs.Common.{ℕ, ◌+◌, ◌/◌, ◌<◌, length, sym, ap, ◌∙◌, add-zero, zero-add, arith, rules}
 use Rattle.arith.specs.Lists.{sum}
 use Rattle.arith.specs.Laws.Members.{mem-get_d}
-use Rattle.arith.specs.Laws.Walks.{Through, through-start, through-more, through-end, sum_more}
+use Rattle.arith.specs.Laws.Walks.{through-start, through-more, through-end, sum_more}
 use Rattle.workload.specs.Placed.{no_placed, placed_at, placed_in, placed_demand, placed_work, FineOne}
 use Rattle.workload.specs.Laws.Placed.{length-placed, placed-at}
 use Rattle.workload.proofs.placed.placed_work.Goals as goal

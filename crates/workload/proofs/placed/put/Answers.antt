@@ -1,5 +1,5 @@
 -- The four numbers of a place.
-use Rattle.std.proofs.Common.{refl, arith, length-set, rules}
+use Rattle.std.proofs.Common.{refl, arith, length-set}
 use Rattle.workload.specs.Placed.{put_at}
 use Rattle.workload.proofs.placed.put.Goals as goal
 

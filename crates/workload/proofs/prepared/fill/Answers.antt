@@ -1,6 +1,6 @@
-use Rattle.std.proofs.Common.{◌-◌, ◌/◌, ◌<◌, length, arith, length-set, rules}
+use Rattle.std.proofs.Common.{◌<◌, arith, length-set}
 use Rattle.table_checks.specs.Laws.Accepted.{accepted-size, frame_row}
-use Rattle.workload.specs.Laws.Prepared.{FilledTo, filled_more, filled-all, priority-short}
+use Rattle.workload.specs.Laws.Prepared.{filled_more, filled-all, priority-short}
 use Rattle.workload.proofs.prepared.fill.Goals as goal
 use Rattle.workload.proofs.prepared.fill.Goals.{After-frame-g}
 

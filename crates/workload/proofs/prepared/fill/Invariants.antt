@@ -1,7 +1,6 @@
 -- The invariant has the rows whose numbers are put.
-use Rattle.std.proofs.Common.{◌-◌, ◌/◌, ◌<◌, length, arith, length-set, rules}
-use Rattle.table_checks.specs.Laws.Accepted.{accepted-size, frame_row}
-use Rattle.workload.specs.Laws.Prepared.{FilledTo, filled_more, filled-all, priority-short}
+use Rattle.std.proofs.Common.{◌-◌, ◌/◌, length}
+use Rattle.workload.specs.Laws.Prepared.{FilledTo}
 use Rattle.workload.proofs.prepared.fill.Given as goal
 
 abbrev pub invariant-loop-i : goal.invariant-loop-i

@@ -1,5 +1,5 @@
 -- As many rows as the group has.
-use Rattle.std.proofs.Common.{◌≡◌, ℕ, ◌+◌, ◌-◌, arith, rules}
+use Rattle.std.proofs.Common.{◌≡◌, ℕ, ◌+◌, ◌-◌, arith}
 use Rattle.workload.proofs.prepared.part_of.Goals as goal
 
 pub overflow_add-from : goal.overflow_add-from

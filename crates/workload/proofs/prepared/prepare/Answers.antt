@@ -1,5 +1,5 @@
 -- The lists, and behind them the numbers of the rows.
-use Rattle.std.proofs.Common.{◌≡◌, ◌-◌, length, ◌∙◌, arith, rules}
+use Rattle.std.proofs.Common.{◌≡◌, ◌-◌, length, ◌∙◌, arith}
 use borrow.Rule.Slice.PartMut.{put_mid, mid_len, same_len_mid}
 use Rattle.workload.specs.Laws.Prepared.{accepted-fine}
 use Rattle.workload.specs.Laws.Groups.{prepared-all}

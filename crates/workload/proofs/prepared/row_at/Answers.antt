@@ -1,5 +1,5 @@
 -- The numbers of the row, from the table and from the area.
-use Rattle.std.proofs.Common.{◌<◌, sym, ◌∙◌, arith, rules}
+use Rattle.std.proofs.Common.{◌<◌, sym, ◌∙◌, arith}
 use Rattle.workload.specs.Laws.Prepared.{length-table, table-row, table_none}
 use Rattle.workload.proofs.prepared.row_at.Goals as goal
 use Rattle.workload.proofs.prepared.row_at.Goals.{Else-rows-i}

@@ -1,5 +1,5 @@
 -- A product within the bounds of its factors.
-use Rattle.std.proofs.Common.{ℕ, ◌*◌, ◌≤◌, ap, mul-le-mul_left, arith, rules}
+use Rattle.std.proofs.Common.{ℕ, ◌*◌, ◌≤◌, ap, mul-le-mul_left, arith}
 use Rattle.workload.proofs.work.demand_from.Goals as goal
 use Rattle.workload.proofs.work.demand_from.Goals.{After-releases_before-times}
 

@@ -1,5 +1,5 @@
 -- The sum of phase and what is left of the period after a is below two periods, so that one is taken away at the most.
-use Rattle.std.proofs.Common.{◌≡◌, ℕ, ◌+◌, ◌-◌, ◌%◌, ◌<◌, ◌≤◌, sym, ◌∙◌, mod-eq_of_lt, arith, rules}
+use Rattle.std.proofs.Common.{◌≡◌, ℕ, ◌+◌, ◌-◌, ◌%◌, ◌<◌, ◌≤◌, sym, ◌∙◌, mod-eq_of_lt, arith}
 use native.Mathlib.Nat.{mod-eq-sub-mod}
 use Rattle.bus_model.specs.Bounds.{distance}
 use Rattle.workload.proofs.work.distance_from.Goals as goal

@@ -1,5 +1,5 @@
 -- The demand from the frame's distance.
-use Rattle.std.proofs.Common.{ℕ, ◌*◌, ap, ◌∙◌, arith, rules}
+use Rattle.std.proofs.Common.{ℕ, ◌*◌, ap, ◌∙◌, arith}
 use Rattle.arith.specs.Releases.{releases_before}
 use Rattle.bus_model.specs.Bounds.{demand}
 use Rattle.workload.proofs.work.frame_demand.Goals as goal

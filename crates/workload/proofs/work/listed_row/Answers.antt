@@ -1,5 +1,5 @@
 -- What the table has in the row that is listed there.
-use Rattle.std.proofs.Common.{ap, ◌∙◌, rules}
+use Rattle.std.proofs.Common.{ap, ◌∙◌}
 use mathlib.Core.List.{Memᴰ as Mem}
 use Rattle.bus_model.specs.Frame.{row}
 use Rattle.workload.specs.Prepared.{frames_in, table_of}

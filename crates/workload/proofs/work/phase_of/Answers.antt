@@ -1,5 +1,4 @@
 -- It is the remainder.
-use Rattle.std.proofs.Common.{rules}
 use Rattle.bus_model.specs.Bounds.{phase}
 use Rattle.workload.proofs.work.phase_of.Goals as goal
 

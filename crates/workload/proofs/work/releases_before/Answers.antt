@@ -1,5 +1,5 @@
 -- Up to d nothing is counted, and one release in the period after it; elsewhere the code computes the count as it is defined.
-use Rattle.std.proofs.Common.{◌≤◌, ◌≡◌, leb, arith, rules, leb-false, leb-true}
+use Rattle.std.proofs.Common.{◌≤◌, ◌≡◌, leb, arith, leb-false, leb-true}
 use Rattle.arith.specs.Releases.{releases_before}
 use Rattle.arith.specs.Laws.Releases.{count-le, count_small, counted}
 use Rattle.arith.specs.Laws.Tests.{by-test}

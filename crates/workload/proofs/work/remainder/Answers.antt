@@ -1,5 +1,5 @@
 -- What the whole p leave of x.
-use Rattle.std.proofs.Common.{◌≡◌, ◌-◌, ◌*◌, ◌%◌, ◌≤◌, sym, mod-lt, mod-eq_of_lt, div-mul-le_self, arith, rules}
+use Rattle.std.proofs.Common.{◌≡◌, ◌-◌, ◌*◌, ◌%◌, ◌≤◌, sym, mod-lt, mod-eq_of_lt, div-mul-le_self, arith}
 use native.Mathlib.Nat.{mod-eq-sub-div-mul}
 use Rattle.workload.proofs.work.remainder.Goals as goal
 use Rattle.workload.proofs.work.remainder.Goals.{After-quotient}

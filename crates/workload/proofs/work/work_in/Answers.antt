@@ -1,8 +1,7 @@
-use Rattle.std.proofs.Common.{ℕ, ◌-◌, length, ap, ◌∙◌, rules}
+use Rattle.std.proofs.Common.{ℕ, ap, ◌∙◌}
 use Rattle.bus_model.specs.declared.Frame.{Frame}
 use Rattle.bus_model.specs.Bounds.{demand, work_at}
-use Rattle.workload.specs.Prepared.{table_of}
-use Rattle.workload.specs.Laws.Fine.{SumTo, sum-none, sum-next, sum-all}
+use Rattle.workload.specs.Laws.Fine.{sum-none, sum-next, sum-all}
 use Rattle.workload.proofs.work.work_in.Goals as goal
 
 pub loop-i-init : goal.loop-i-init

@@ -1,9 +1,8 @@
 -- The loop goes through the rows and adds up the demand of the frame in each.
-use Rattle.std.proofs.Common.{ℕ, ◌-◌, length, ap, ◌∙◌, rules}
-use Rattle.bus_model.specs.declared.Frame.{Frame}
-use Rattle.bus_model.specs.Bounds.{demand, work_at}
+use Rattle.std.proofs.Common.{◌-◌, length}
+use Rattle.bus_model.specs.Bounds.{demand}
 use Rattle.workload.specs.Prepared.{table_of}
-use Rattle.workload.specs.Laws.Fine.{SumTo, sum-none, sum-next, sum-all}
+use Rattle.workload.specs.Laws.Fine.{SumTo}
 use Rattle.workload.proofs.work.work_in.Given as goal
 
 abbrev pub invariant-loop-i : goal.invariant-loop-i

@@ -1,12 +1,8 @@
-use Prim.Native.Nat.{◌/◌, ◌-◌, ◌≤◌}
-use mathlib.Core.Path.{◌≡◌, refl}
+use mathlib.Core.Path.{refl}
 use native.Mathlib.Omega.{arith}
-use borrow.Author.Rules.{rules}
-use lib.ListN.{length}
-use Rattle.table_checks.specs.Columns.{columns}
 use Rattle.table_checks.specs.Frames.{frames_of}
 use Rattle.table_checks.specs.Laws.Accepted.{length-frames}
-use Rattle.worst_case.specs.Laws.Last.{EarlyTo, late-found, early-next, early-end}
+use Rattle.worst_case.specs.Laws.Last.{late-found, early-next, early-end}
 use Rattle.worst_case.proofs.last.all_early.Goals as goal
 
 pub loop-i-init : goal.loop-i-init

@@ -1,13 +1,10 @@
 -- The loop finds no late offset before the row at which it stands.
 use Prim.Native.Nat.{◌/◌, ◌-◌, ◌≤◌}
-use mathlib.Core.Path.{◌≡◌, refl}
-use native.Mathlib.Omega.{arith}
-use borrow.Author.Rules.{rules}
+use mathlib.Core.Path.{◌≡◌}
 use lib.ListN.{length}
 use Rattle.table_checks.specs.Columns.{columns}
 use Rattle.table_checks.specs.Frames.{frames_of}
-use Rattle.table_checks.specs.Laws.Accepted.{length-frames}
-use Rattle.worst_case.specs.Laws.Last.{EarlyTo, late-found, early-next, early-end}
+use Rattle.worst_case.specs.Laws.Last.{EarlyTo}
 use Rattle.worst_case.proofs.last.all_early.Given as goal
 
 abbrev pub invariant-loop-i : goal.invariant-loop-i

@@ -1,12 +1,8 @@
-use Prim.Native.Nat.{◌/◌, ◌-◌, ◌≤◌}
 use mathlib.Core.Path.{◌≡◌, refl}
 use native.Mathlib.Omega.{arith}
-use borrow.Author.Rules.{rules}
 use lib.ListN.{length}
-use Rattle.table_checks.specs.Columns.{columns}
 use Rattle.table_checks.specs.Frames.{frames_of}
 use Rattle.table_checks.specs.Laws.Accepted.{length-frames, accepted-size, accepted-valid}
-use Rattle.worst_case.specs.Steps.{LastOf}
 use Rattle.worst_case.specs.Laws.Last.{last-start, last-next, last-end}
 use Rattle.worst_case.proofs.last.last_row.Goals as goal
 

@@ -1,14 +1,10 @@
 -- The loop keeps the row that ranks last of those before; after all rows it is the last.
 use Prim.Native.Nat.{◌/◌, ◌-◌, ◌≤◌}
-use mathlib.Core.Path.{◌≡◌, refl}
-use native.Mathlib.Omega.{arith}
-use borrow.Author.Rules.{rules}
+use mathlib.Core.Path.{◌≡◌}
 use lib.ListN.{length}
 use Rattle.table_checks.specs.Columns.{columns}
 use Rattle.table_checks.specs.Frames.{frames_of}
-use Rattle.table_checks.specs.Laws.Accepted.{length-frames, accepted-size, accepted-valid}
 use Rattle.worst_case.specs.Steps.{LastOf}
-use Rattle.worst_case.specs.Laws.Last.{last-start, last-next, last-end}
 use Rattle.worst_case.proofs.last.last_row.Given as goal
 
 abbrev pub invariant-loop-i : goal.invariant-loop-i

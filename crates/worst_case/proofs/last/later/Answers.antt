@@ -1,5 +1,4 @@
 -- By their priorities.
-use borrow.Author.Rules.{rules}
 use native.Mathlib.Omega.{arith}
 use Rattle.worst_case.specs.Laws.Last.{later_second, later_first}
 use Rattle.worst_case.proofs.last.later.Goals as goal

@@ -1,5 +1,4 @@
 -- The alignments give the starts, and that of the own group with the number the instance.
-use borrow.Author.Rules.{rules}
 use Rattle.worst_case.specs.Steps.{case_shown}
 use Rattle.worst_case.proofs.row.show.Goals as goal
 

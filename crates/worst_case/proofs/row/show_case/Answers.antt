@@ -1,7 +1,6 @@
 -- By its alignments and its number.
 use mathlib.Core.Path.{sym, ap, subst, ◌∙◌}
 use Prim.Native.Nat.{ℕ}
-use borrow.Author.Rules.{rules}
 use Rattle.worst_case.specs.Steps.{CaseWithin, case_shown}
 use Rattle.worst_case.proofs.row.show_case.Goals as goal
 

@@ -1,6 +1,5 @@
 -- By the test.
 use mathlib.Core.Path.{sym, ◌∙◌}
-use borrow.Author.Rules.{rules}
 use Rattle.worst_case.specs.Answer.{worst_row}
 use Rattle.worst_case.proofs.row.worst_row.Goals as goal
 

@@ -3,7 +3,6 @@ use Prim.Native.Nat.{◌+◌, ◌-◌}
 use native.Mathlib.Omega.{arith}
 use native.Mathlib.Nat.{div-le_self}
 use mathlib.Core.Path.{refl}
-use borrow.Author.Rules.{rules}
 use Rattle.arith.specs.Releases.{releases_before}
 use Rattle.bus_model.specs.Worst.{instance_from}
 use Rattle.worst_case.specs.Laws.Starts.{none-released}

@@ -1,9 +1,8 @@
-use Prim.Native.Nat.{◌-◌, ◌≤◌}
 use mathlib.Core.Path.{◌≡◌}
 use native.Mathlib.Omega.{arith}
 use borrow.Author.Rules.{rules}
 use lib.ListN.{length}
-use Rattle.worst_case.specs.Laws.Starts.{MostOf, most-none, most-next, most-all}
+use Rattle.worst_case.specs.Laws.Starts.{most-none, most-next, most-all}
 use Rattle.worst_case.proofs.starts.meeting_tick.Goals as goal
 use Rattle.worst_case.proofs.starts.meeting_tick.Goals.{Start}
 

@@ -1,10 +1,6 @@
 -- The loop keeps the greatest of the alignments before.
 use Prim.Native.Nat.{◌-◌, ◌≤◌}
-use mathlib.Core.Path.{◌≡◌}
-use native.Mathlib.Omega.{arith}
-use borrow.Author.Rules.{rules}
-use lib.ListN.{length}
-use Rattle.worst_case.specs.Laws.Starts.{MostOf, most-none, most-next, most-all}
+use Rattle.worst_case.specs.Laws.Starts.{MostOf}
 use Rattle.worst_case.proofs.starts.meeting_tick.Given as goal
 
 abbrev pub invariant-loop-i : goal.invariant-loop-i

@@ -1,10 +1,9 @@
-use Prim.Native.Nat.{◌-◌, ◌≤◌}
 use mathlib.Core.Path.{◌≡◌, refl}
 use native.Mathlib.Omega.{arith}
 use borrow.Author.Rules.{rules}
 use lib.ListN.{length}
 use Rattle.bus_model.specs.Theory.Reached.{alignment-before}
-use Rattle.worst_case.specs.Laws.Starts.{StartsTo, starts_none, starts-next, starts-all}
+use Rattle.worst_case.specs.Laws.Starts.{starts_none, starts-next, starts-all}
 use Rattle.worst_case.proofs.starts.starts_of.Goals as goal
 use Rattle.worst_case.proofs.starts.starts_of.Goals.{Start}
 

@@ -1,11 +1,6 @@
 -- The loop writes one start after the other.
 use Prim.Native.Nat.{◌-◌, ◌≤◌}
-use mathlib.Core.Path.{◌≡◌, refl}
-use native.Mathlib.Omega.{arith}
-use borrow.Author.Rules.{rules}
-use lib.ListN.{length}
-use Rattle.bus_model.specs.Theory.Reached.{alignment-before}
-use Rattle.worst_case.specs.Laws.Starts.{StartsTo, starts_none, starts-next, starts-all}
+use Rattle.worst_case.specs.Laws.Starts.{StartsTo}
 use Rattle.worst_case.proofs.starts.starts_of.Given as goal
 
 abbrev pub invariant-loop-i : goal.invariant-loop-i
