@@ -2,7 +2,6 @@
 use Prim.Native.Nat.{◌≤◌}
 use mathlib.Core.Path.{◌∙◌}
 use native.Mathlib.Omega.{arith}
-use borrow.Author.Rules.{rules}
 use borrow.Author.Tests.{ne_eqb}
 use Rattle.arith.specs.Laws.Signed.{to_z_pos, kept}
 use Rattle.log_load.specs.Returns.{answer_returns}
@@ -14,9 +13,6 @@ use Rattle.certifier.proofs.busiest_entry.encode_sheet.Goals.{In-Done}
 -- the count is small
 small : (c : In-Done) → c.in-Done.n ≤ 2711
 small c = c.requires _ c.in-Done.is
-
-pub overflow_cast-result : goal.overflow_cast-result
-overflow_cast-result c = record { sfits = omega (arith, small c) }
 
 pub returns-in-Done : goal.returns-in-Done
 unfolding encode_answered answer_returns

@@ -2,7 +2,6 @@
 use Prim.Native.Nat.{ℕ}
 use mathlib.Core.Path.{refl, ap, ◌∙◌}
 use mathlib.Core.List.{List}
-use borrow.Author.Rules.{rules}
 use Rattle.arith.specs.Laws.Signed.{kept}
 use Rattle.row_judgement.specs.Judge.{bound_row}
 use Rattle.certifier.specs.Encode.{bound_read, encode_bounded, encode_refusal}
@@ -13,12 +12,6 @@ use Rattle.certifier.proofs.encode.bound_table.Goals.{In-Done}
 -- what was read is the table
 table : (c : In-Done) → ReadRows c.args.table.now c.read-answer.new.rows c.in-Done.n
 table c = let r = c.read-answer in read-rows _ _ _ refl r.ensures.value _ _ r.ensures.rows_after c.in-Done.is
-
-pub slice_bounds-rows-end : goal.slice_bounds-rows-end
-slice_bounds-rows-end c = (table c).room
-
-pub slice_bounds-bound_accepted-end : goal.slice_bounds-bound_accepted-end
-slice_bounds-bound_accepted-end c = (table (goal.at.slice_bounds-bound_accepted-end c).In-Done).size
 
 pub bound_accepted-requires : goal.bound_accepted-requires
 bound_accepted-requires c = (c.requires, (table (goal.at.bound_accepted-requires c).In-Done).accepted)

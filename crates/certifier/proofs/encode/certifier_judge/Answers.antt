@@ -6,7 +6,6 @@ use Rattle.arith.specs.Laws.Signed.{kept}
 use Rattle.frame_table.specs.Table.{read_check}
 use Rattle.certifier.specs.Encode.{judge_file, judge_read, encode_judged, encode_refusal}
 use Rattle.lengths_file.proofs.Laws.Input.{ReadLengths, lengths_read, lengths-refused}
-use borrow.Author.Rules.{rules}
 use Rattle.certifier.proofs.encode.certifier_judge.Goals as goal
 use Rattle.certifier.proofs.encode.certifier_judge.Goals.{After-lengths_of}
 

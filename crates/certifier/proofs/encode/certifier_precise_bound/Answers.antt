@@ -6,7 +6,6 @@ use Rattle.arith.specs.Laws.Signed.{kept}
 use Rattle.frame_table.specs.Table.{read_check}
 use Rattle.certifier.specs.Encode.{bound_file, bound_read, encode_bounded, encode_refusal}
 use Rattle.lengths_file.proofs.Laws.Input.{ReadLengths, lengths_read, lengths-refused}
-use borrow.Author.Rules.{rules}
 use Rattle.certifier.proofs.encode.certifier_precise_bound.Goals as goal
 use Rattle.certifier.proofs.encode.certifier_precise_bound.Goals.{After-lengths_of}
 

@@ -2,7 +2,6 @@
 use Prim.Native.Nat.{◌^◌, ◌<◌}
 use mathlib.Core.Path.{ap, subst, ◌∙◌}
 use native.Mathlib.Omega.{arith}
-use borrow.Author.Rules.{rules}
 use Rattle.arith.specs.Laws.Signed.{to_z_pos, kept}
 use Rattle.certifier.specs.Encode.{encode_refusal, encode_answer}
 use Rattle.certifier.specs.Steps.{Countable}
@@ -12,9 +11,6 @@ use Rattle.certifier.proofs.encode.encode_answer.Goals.{In-Done}
 -- the count is small
 small : (c : In-Done) → c.in-Done.n < 2 ^ 63
 small c = subst Countable c.in-Done.is c.requires
-
-pub overflow_cast-result : goal.overflow_cast-result
-overflow_cast-result c = record { sfits = omega (arith, small c) }
 
 pub returns-in-Done : goal.returns-in-Done
 unfolding encode_answer

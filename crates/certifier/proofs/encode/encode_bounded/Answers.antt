@@ -1,7 +1,6 @@
 -- A bound has 32 bits and is read as signed as it stands; a refusal is encoded by its own function.
 use mathlib.Core.Path.{◌∙◌}
 use native.Mathlib.Omega.{arith}
-use borrow.Author.Rules.{rules}
 use Rattle.arith.specs.Laws.Signed.{to_z_pos, kept}
 use Rattle.certifier.specs.Encode.{encode_bounded}
 use Rattle.certifier.proofs.encode.encode_bounded.Goals as goal

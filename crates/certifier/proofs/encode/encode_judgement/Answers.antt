@@ -11,22 +11,10 @@ use Rattle.certifier.proofs.Laws.Encoding.{verdict-max, judgement-number}
 use Rattle.certifier.proofs.encode.encode_judgement.Goals as goal
 use Rattle.certifier.proofs.encode.encode_judgement.Goals.{After-shifted-low}
 
-pub overflow_mul-high : goal.overflow_mul-high
-overflow_mul-high c = record { fits = omega (arith, c.verdict.ensures, verdict-max c.args.judgement.outcome) }
-
-pub overflow_add-high : goal.overflow_add-high
-overflow_add-high c = record { fits = omega (arith, c.verdict.ensures, verdict-max c.args.judgement.outcome, c.requires.0) }
-
 -- the parts are small
 limits : (c : After-shifted-low) → (c.verdict.result ≤ 12) × (c.args.judgement.bound ≤ 1000000) × (c.shifted-low.result ≤ 2000000)
 limits c =
     (rw c.verdict.ensures (verdict-max c.args.judgement.outcome), c.requires.0, c.shifted-low.ensures.1)
-
-pub overflow_add-result : goal.overflow_add-result
-overflow_add-result c = record { fits = omega (arith, limits c) }
-
-pub overflow_cast-result : goal.overflow_cast-result
-overflow_cast-result c = record { sfits = omega (arith, limits c) }
 
 pub returns : goal.returns
 returns c =

@@ -1,14 +1,8 @@
 -- Every judgement of a row can be encoded.
-use mathlib.Core.Path.{sym, ap, subst, ◌∙◌}
-use borrow.Author.Rules.{rules}
-use Rattle.arith.specs.Laws.Signed.{kept}
-use Rattle.certifier.specs.Encode.{encode_judged}
+use mathlib.Core.Path.{sym, subst}
 use Rattle.certifier.specs.Steps.{Encodable}
 use Rattle.certifier.proofs.Laws.Small.{judged-encodable}
 use Rattle.certifier.proofs.encode.encode_judgement_of.Goals as goal
 
 pub encode_judged-requires : goal.encode_judged-requires
 encode_judged-requires c = subst Encodable (sym c.judge.ensures.value) (judged-encodable _ _ _)
-
-pub returns : goal.returns
-returns c = kept _ c.encode_judged.type_inv ∙ c.encode_judged.ensures ∙ ap encode_judged c.judge.ensures.value

@@ -1,6 +1,5 @@
 -- Number and place are those of the refusal.
 use mathlib.Core.Path.{◌∙◌}
-use borrow.Author.Rules.{rules}
 use Rattle.arith.specs.Laws.Signed.{kept}
 use Rattle.certifier.specs.Encode.{encode_refusal}
 use Rattle.certifier.proofs.encode.encode_refusal.Goals as goal

@@ -1,6 +1,5 @@
 -- The file is read into rows of its own; a refusal of the file is encoded, and in a table that was read the row is explained.
 use mathlib.Core.Path.{refl, sym, subst, ◌∙◌}
-use borrow.Author.Rules.{rules}
 use Rattle.arith.specs.Laws.Signed.{kept}
 use Rattle.frame_table.specs.Table.{read_check}
 use Rattle.frame_table.specs.Laws.Reading.{ReadRows, read-refused, read-rows}
@@ -16,12 +15,6 @@ use Rattle.certifier.proofs.explain_entry.explain_table.Goals.{In-Done}
 -- what was read is the table
 table : (c : In-Done) → ReadRows c.args.table.now c.read-answer.new.rows c.in-Done.n
 table c = read-rows _ _ _ refl c.read-answer.ensures.value _ _ c.read-answer.ensures.rows_after c.in-Done.is
-
-pub slice_bounds-rows-end : goal.slice_bounds-rows-end
-slice_bounds-rows-end c = (table (c)).room
-
-pub slice_bounds-explain-end : goal.slice_bounds-explain-end
-slice_bounds-explain-end c = (table (goal.at.slice_bounds-explain-end c).In-Done).size
 
 pub show-requires : goal.show-requires
 unfolding explain_row

@@ -1,14 +1,10 @@
-use Prim.Native.Nat.{◌-◌, ◌≤◌}
 use mathlib.Core.Path.{◌≡◌, refl}
 use native.Mathlib.Omega.{arith}
 use borrow.Author.Rules.{rules}
-use lib.ListN.{length, length-set}
-use Rattle.arith.specs.Laws.Overwriting.{over, over-element, over-all, begun-element}
+use lib.ListN.{length}
+use Rattle.arith.specs.Laws.Overwriting.{over-element, over-all, begun-element}
 use Rattle.certifier.proofs.explain_entry.write_case.Goals as goal
 use Rattle.certifier.proofs.explain_entry.write_case.Goals.{Start}
-
-pub loop-i-init : goal.loop-i-init
-loop-i-init c = (refl, search rules, refl)
 
 -- the alignments are as many as the groups
 long : (s : Start) → length s.args.alignments ≡ 16
@@ -16,9 +12,6 @@ long s = search rules
 
 pub loop-i-preserved : goal.loop-i-preserved
 loop-i-preserved c = (over-element _ _ _ 16 (long (goal.at.loop-i-preserved c).Start) _ _ c.loop-i.invariant.0 c.loop-i-test.true (search rules) refl, search rules, search rules)
-
-pub shape_of-shown : goal.shape_of-shown
-shape_of-shown c = simp length-set (search rules)
 
 pub returns : goal.returns
 returns c =

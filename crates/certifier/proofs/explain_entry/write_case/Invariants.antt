@@ -1,10 +1,8 @@
 -- After i turns the first i alignments stand over the first i numbers of the area; the instance comes last.
 use Prim.Native.Nat.{◌-◌, ◌≤◌}
-use mathlib.Core.Path.{◌≡◌, refl}
-use native.Mathlib.Omega.{arith}
-use borrow.Author.Rules.{rules}
-use lib.ListN.{length, length-set}
-use Rattle.arith.specs.Laws.Overwriting.{over, over-element, over-all, begun-element}
+use mathlib.Core.Path.{◌≡◌}
+use lib.ListN.{length}
+use Rattle.arith.specs.Laws.Overwriting.{over}
 use Rattle.certifier.proofs.explain_entry.write_case.Given as goal
 
 abbrev pub invariant-loop-i : goal.invariant-loop-i

@@ -1,6 +1,5 @@
 -- A refusal of the lengths is encoded; with lengths that were read the row is explained.
 use mathlib.Core.Path.{◌∙◌}
-use borrow.Author.Rules.{rules}
 use Rattle.arith.specs.Laws.Signed.{kept}
 use Rattle.lengths_file.proofs.Laws.Input.{ReadLengths, lengths_read, lengths-refused}
 use Rattle.certifier.specs.FaultsEntry.{explain_faults_file, explain_faults_read}

@@ -7,7 +7,6 @@ use Rattle.frame_table.specs.Table.{read_check}
 use Rattle.certifier.specs.Encode.{encode_judged, encode_refusal}
 use Rattle.certifier.specs.FaultsEntry.{judge_faults_file, judge_faults_read}
 use Rattle.lengths_file.proofs.Laws.Input.{ReadLengths, lengths_read, lengths-refused}
-use borrow.Author.Rules.{rules}
 use Rattle.certifier.proofs.faults_entry.certifier_judge_faults.Goals as goal
 use Rattle.certifier.proofs.faults_entry.certifier_judge_faults.Goals.{After-lengths_of}
 

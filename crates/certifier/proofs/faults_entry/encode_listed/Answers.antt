@@ -2,7 +2,6 @@
 use Prim.Native.Nat.{◌^◌, ◌<◌}
 use mathlib.Core.Path.{subst, ◌∙◌}
 use native.Mathlib.Omega.{arith}
-use borrow.Author.Rules.{rules}
 use borrow.Author.Tests.{ne_eqb}
 use Rattle.arith.specs.Laws.Signed.{to_z_pos, kept}
 use Rattle.row_judgement.specs.Laws.Returns.{number-some}
@@ -16,9 +15,6 @@ use Rattle.certifier.proofs.faults_entry.encode_listed.Goals.{In-Written}
 -- the count is small
 small : (c : In-Written) → c.in-Written.n < 2 ^ 63
 small c = subst CountableListing c.in-Written.is c.requires
-
-pub overflow_cast-result : goal.overflow_cast-result
-overflow_cast-result c = record { sfits = omega (arith, small c) }
 
 pub returns-in-Written : goal.returns-in-Written
 unfolding encode_answered listed_returns

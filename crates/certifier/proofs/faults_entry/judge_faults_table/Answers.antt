@@ -2,7 +2,6 @@
 use Prim.Native.Nat.{ℕ}
 use mathlib.Core.Path.{refl, sym, ap, subst, ◌∙◌}
 use mathlib.Core.List.{List}
-use borrow.Author.Rules.{rules}
 use Rattle.arith.specs.Laws.Signed.{kept}
 use Rattle.row_judgement.specs.Judge.{judge_faults}
 use Rattle.certifier.specs.Encode.{encode_judged, encode_refusal}
@@ -16,12 +15,6 @@ use Rattle.certifier.proofs.faults_entry.judge_faults_table.Goals.{In-Done}
 -- what was read is the table
 table : (c : In-Done) → ReadRows c.args.table.now c.read-answer.new.rows c.in-Done.n
 table c = let r = c.read-answer in read-rows _ _ _ refl r.ensures.value _ _ r.ensures.rows_after c.in-Done.is
-
-pub slice_bounds-rows-end : goal.slice_bounds-rows-end
-slice_bounds-rows-end c = (table c).room
-
-pub slice_bounds-judge_faults_accepted-end : goal.slice_bounds-judge_faults_accepted-end
-slice_bounds-judge_faults_accepted-end c = (table (goal.at.slice_bounds-judge_faults_accepted-end c).In-Done).size
 
 pub judge_faults_accepted-requires : goal.judge_faults_accepted-requires
 judge_faults_accepted-requires c = (c.requires, (table (goal.at.judge_faults_accepted-requires c).In-Done).accepted)

@@ -1,6 +1,5 @@
 -- A refusal of the lengths is answered; with lengths that were read the table is listed.
 use mathlib.Core.Path.{refl, ap}
-use borrow.Author.Rules.{rules}
 use Rattle.lengths_file.proofs.Laws.Input.{ReadLengths, lengths_read, lengths-refused}
 use Rattle.certifier.specs.declared.Listed.TheVariants.{NotListed}
 use Rattle.certifier.specs.FaultsListing.{list_faults_read, listed_read}

@@ -1,13 +1,11 @@
 -- A gap outside its limits is refused; under any other the rows are listed.
-use native.Mathlib.Omega.{arith}
 use mathlib.Core.Bool.{true}
 use mathlib.Core.Path.{◌≡◌, refl, sym, ap, ◌∙◌}
-use borrow.Author.Rules.{rules}
 use Rattle.bus_model.specs.declared.Faults.TheVariants.{Apart}
 use Rattle.frame_table.specs.declared.Answer.{Answer}
 use Rattle.frame_table.specs.Table.{area_after}
 use Rattle.row_judgement.specs.Judge.{is_gap}
-use Rattle.row_judgement.specs.Laws.Judged.{gap_within, gap-fine}
+use Rattle.row_judgement.specs.Laws.Judged.{gap-fine}
 use Rattle.certifier.specs.Listing.{listing_of}
 use Rattle.certifier.specs.FaultsListing.{listed_by, list_faults_rows, listed_rows}
 use Rattle.certifier.proofs.faults_listing.list_faults_rows.Goals as goal
@@ -16,9 +14,6 @@ use Rattle.certifier.proofs.faults_listing.list_faults_rows.Goals.{Then-is_gap}
 -- the gap is one
 gap : (c : Then-is_gap) → is_gap c.args.gap ≡ true
 gap c = sym c.is_gap.ensures ∙ c.if-is_gap.true
-
-pub overflow_cast-ticks : goal.overflow_cast-ticks
-overflow_cast-ticks c = omega (arith, gap_within c.args.gap (gap c))
 
 pub list_rows-answer-requires : goal.list_rows-answer-requires
 list_rows-answer-requires c = record { loadable = c.requires; fine_faults = gap-fine c.args.gap (gap (goal.at.list_rows-answer-requires c).Then-is_gap) }

@@ -1,6 +1,5 @@
 -- The file is read into rows of its own; a refusal of the file is answered, and a table that was read is listed.
 use mathlib.Core.Path.{refl, ap}
-use borrow.Author.Rules.{rules}
 use Rattle.frame_table.specs.Laws.Reading.{ReadRows, read-refused, read-rows}
 use Rattle.certifier.specs.declared.Listed.TheVariants.{NotListed}
 use Rattle.certifier.specs.FaultsListing.{list_faults_read, listed_read}
@@ -10,12 +9,6 @@ use Rattle.certifier.proofs.faults_listing.list_faults_table.Goals.{In-Done}
 -- what was read is the table
 table : (c : In-Done) → ReadRows c.args.table.now c.read-answer.new.rows c.in-Done.n
 table c = read-rows _ _ _ refl c.read-answer.ensures.value _ _ c.read-answer.ensures.rows_after c.in-Done.is
-
-pub slice_bounds-rows-end : goal.slice_bounds-rows-end
-slice_bounds-rows-end c = (table c).room
-
-pub slice_bounds-list_faults_rows-end : goal.slice_bounds-list_faults_rows-end
-slice_bounds-list_faults_rows-end c = (table (goal.at.slice_bounds-list_faults_rows-end c).In-Done).size
 
 pub list_faults_rows-requires : goal.list_faults_rows-requires
 list_faults_rows-requires c = (c.requires, (table (goal.at.list_faults_rows-requires c).In-Done).accepted)

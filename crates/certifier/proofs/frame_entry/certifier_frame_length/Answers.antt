@@ -1,5 +1,4 @@
 -- `certifier::frame_entry::certifier_frame_length` meets its contract: the number goes by what was measured.
-use borrow.Author.Rules.{rules}
 use native.Mathlib.Omega.{arith}
 use Rattle.arith.specs.Laws.Signed.{to_z_pos}
 use Rattle.frame_length.specs.FrameLength.{measured_returns}

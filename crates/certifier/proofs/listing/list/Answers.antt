@@ -2,7 +2,6 @@
 use mathlib.Core.Path.{refl}
 use Rattle.frame_table.specs.Laws.Areas.{area-refused}
 use Rattle.lengths_file.proofs.Laws.Input.{ReadLengths, lengths_read, lengths-refused, input-told}
-use borrow.Author.Rules.{rules}
 use Rattle.certifier.proofs.listing.list.Goals as goal
 use Rattle.certifier.proofs.listing.list.Goals.{After-lengths_of}
 

@@ -2,7 +2,6 @@
 use Prim.Native.Nat.{ℕ}
 use mathlib.Core.List.{List}
 use Rattle.lengths_file.proofs.Laws.Input.{first_part, second-part}
-use borrow.Author.Rules.{rules}
 use Rattle.certifier.proofs.listing.list_input.Goals as goal
 
 pub returns : goal.returns

@@ -1,7 +1,6 @@
 -- `certifier::listing::list_rows` meets its contract: the lines are written where they have room, and else the area is left.
 use mathlib.Core.Path.{refl}
 use native.Mathlib.Omega.{arith}
-use borrow.Author.Rules.{rules}
 use Rattle.table_checks.specs.declared.Checked.TheVariants.{Passed}
 use Rattle.frame_table.specs.Laws.Areas.{area-short, area-written}
 use Rattle.certifier.specs.Listing.{listing_of}

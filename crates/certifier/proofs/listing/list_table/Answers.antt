@@ -1,6 +1,5 @@
 -- `certifier::listing::list_table` meets its contract: what the file is read into is its table, and a file that is turned back is answered with its refusal.
 use mathlib.Core.Path.{refl}
-use borrow.Author.Rules.{rules}
 use Rattle.frame_table.specs.Laws.Areas.{area-refused}
 use Rattle.frame_table.specs.Laws.Reading.{ReadRows, read-rows, read-refused}
 use Rattle.workload.proofs.Laws.Groups.{fine-never}
@@ -13,23 +12,9 @@ read c =
     let both = c.read-answer.ensures in
     read-rows _ _ _ refl both.value _ _ both.rows_after c.in-Done.is
 
-pub slice_bounds-rows-end : goal.slice_bounds-rows-end
-slice_bounds-rows-end c = (read c).room
-
-pub slice_bounds-list_rows-end : goal.slice_bounds-list_rows-end
-slice_bounds-list_rows-end c = (read (goal.at.slice_bounds-list_rows-end c).In-Done).size
-
 pub list_rows-requires : goal.list_rows-requires
 list_rows-requires c = record { loadable = (c.requires, (read (goal.at.list_rows-requires c).In-Done).accepted); fine_faults = fine-never }
 
 pub returns-in-Refused : goal.returns-in-Refused
 returns-in-Refused c =
     let answer = area-refused _ _ _ _ _ (read-refused _ _ _ refl c.read-answer.ensures.value _ c.in-Refused.is) c.in-Refused.is in record { value = answer.0; out_after = answer.1 }
-
-pub returns-in-Done : goal.returns-in-Done
-returns-in-Done c =
-    let table = read (goal.at.returns-in-Done c).In-Done in
-    record {
-      value = rw (table.passed, ← table.rows) c.list_rows.ensures.value;
-      out_after = rw (← table.rows) c.list_rows.ensures.out_after;
-    }

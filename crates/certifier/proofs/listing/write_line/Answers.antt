@@ -1,13 +1,8 @@
 -- `certifier::listing::write_line` meets its contract: the four columns and the line feed are written one behind the other and fill the line.
-use borrow.Author.Rules.{rules}
-use lib.ListN.{length-set}
 use native.Mathlib.Omega.{arith}
 use Rattle.arith.specs.Laws.Signed.{kept}
 use Rattle.certifier.proofs.Laws.Listing.{line-written}
 use Rattle.certifier.proofs.listing.write_line.Goals as goal
-
-pub shape_of-line : goal.shape_of-line
-shape_of-line c = simp length-set (search rules)
 
 pub returns : goal.returns
 returns c =

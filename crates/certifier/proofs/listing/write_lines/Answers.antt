@@ -1,20 +1,7 @@
-use Prim.Native.Nat.{◌-◌, ◌*◌, ◌≤◌}
-use mathlib.Core.Path.{◌≡◌, refl}
-use native.Mathlib.Omega.{arith}
 use borrow.Author.Rules.{rules}
-use lib.ListN.{length, length-take, length-drop}
-use Rattle.arith.specs.Laws.Overwriting.{over}
 use Rattle.arith.specs.Laws.Lines.{line-over, lines-over}
-use Rattle.certifier.specs.Listing.{lines_from}
 use Rattle.certifier.proofs.Laws.Listing.{listing-lines}
 use Rattle.certifier.proofs.listing.write_lines.Goals as goal
-
-pub loop-i-init : goal.loop-i-init
-loop-i-init c = (refl, search rules, refl)
-
-pub write_row-requires : goal.write_row-requires
-write_row-requires c =
-    record { loadable = c.requires.loadable; fine_faults = c.requires.fine_faults; i_in_bounds = (search rules, simp (length-take, length-drop) (omega (arith, c.loop-i.invariant, c.loop-i-test.true, c.requires.lines_value))) }
 
 pub loop-i-preserved : goal.loop-i-preserved
 loop-i-preserved c =

@@ -1,13 +1,9 @@
 -- `certifier::listing::write_lines` meets its contract: after i turns the first i lines are written, and the rest is as it was.
 use Prim.Native.Nat.{◌-◌, ◌*◌, ◌≤◌}
-use mathlib.Core.Path.{◌≡◌, refl}
-use native.Mathlib.Omega.{arith}
-use borrow.Author.Rules.{rules}
-use lib.ListN.{length, length-take, length-drop}
+use mathlib.Core.Path.{◌≡◌}
+use lib.ListN.{length}
 use Rattle.arith.specs.Laws.Overwriting.{over}
-use Rattle.arith.specs.Laws.Lines.{line-over, lines-over}
 use Rattle.certifier.specs.Listing.{lines_from}
-use Rattle.certifier.proofs.Laws.Listing.{listing-lines}
 use Rattle.certifier.proofs.listing.write_lines.Given as goal
 
 abbrev pub invariant-loop-i : goal.invariant-loop-i

@@ -1,5 +1,4 @@
 -- `certifier::listing::write_refusal` meets its contract: number and place are those of the refusal.
-use borrow.Author.Rules.{rules}
 use Rattle.table_checks.specs.declared.Checked.TheVariants.{Passed}
 use Rattle.table_checks.specs.Refusal.{check_returns}
 use Rattle.frame_table.specs.Laws.Returns.{answer-told}

@@ -1,7 +1,5 @@
 -- `certifier::listing::write_refusal_line` meets its contract: the two columns and the line feed are written where they have room, and else the area is left.
 use mathlib.Core.Path.{refl}
-use borrow.Author.Rules.{rules}
-use lib.ListN.{length-set}
 use Rattle.table_checks.specs.declared.Checked.TheVariants.{Passed}
 use Rattle.frame_table.specs.Laws.Areas.{area-short, area-written}
 use Rattle.certifier.specs.Listing.{refusal_line}
@@ -10,9 +8,6 @@ use Rattle.certifier.proofs.listing.write_refusal_line.Goals as goal
 
 pub returns-then-out-lt-REFUSAL_LINE : goal.returns-then-out-lt-REFUSAL_LINE
 returns-then-out-lt-REFUSAL_LINE c = let answer = area-short Passed _ _ _ _ (length-refusal _ _) refl c.if-out-lt-REFUSAL_LINE.true c.no_room.ensures in record { value = answer.0; out_after = answer.1 }
-
-pub shape_of-out : goal.shape_of-out
-shape_of-out c = simp length-set (search rules)
 
 pub returns : goal.returns
 returns c =

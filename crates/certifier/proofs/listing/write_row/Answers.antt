@@ -1,7 +1,6 @@
 -- `certifier::listing::write_row` meets its contract: the line is written from the identifier of the row and from its judgement.
 use mathlib.Core.Path.{ap, ◌∙◌}
 use native.Mathlib.Omega.{arith}
-use borrow.Author.Rules.{rules}
 use Rattle.table_checks.proofs.Laws.Accepted.{length-frames}
 use Rattle.certifier.specs.Listing.{listing_line, line_of}
 use Rattle.certifier.proofs.listing.write_row.Goals as goal

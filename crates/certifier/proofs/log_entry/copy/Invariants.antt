@@ -1,9 +1,8 @@
 -- `certifier::log_entry::copy` meets its contract: after i turns the first i starts stand over the first i numbers of the area.
 use Prim.Native.Nat.{◌-◌, ◌≤◌}
-use mathlib.Core.Path.{◌≡◌, refl}
-use borrow.Author.Rules.{rules}
+use mathlib.Core.Path.{◌≡◌}
 use lib.ListN.{length}
-use Rattle.arith.specs.Laws.Overwriting.{over, over-element, over-all}
+use Rattle.arith.specs.Laws.Overwriting.{over}
 use Rattle.certifier.proofs.log_entry.copy.Given as goal
 
 abbrev pub invariant-loop-i : goal.invariant-loop-i

@@ -1,5 +1,4 @@
 -- `certifier::log_entry::store` meets its contract.
-use borrow.Author.Rules.{rules}
 use mathlib.Core.Path.{◌∙◌}
 use Rattle.arith.specs.Laws.Signed.{kept}
 use Rattle.certifier.proofs.Laws.LogEntry.{stored-not, stored-shown}

@@ -1,5 +1,4 @@
 -- `certifier::log_entry::store_starts` meets its contract: in a shorter area nothing is stored.
-use borrow.Author.Rules.{rules}
 use mathlib.Core.Path.{◌∙◌}
 use Rattle.certifier.proofs.Laws.LogEntry.{stored_short, stored-all}
 use Rattle.certifier.proofs.log_entry.store_starts.Goals as goal

@@ -1,15 +1,8 @@
 -- No log is too long for its length to be answered.
-use mathlib.Core.Path.{sym, subst, ◌∙◌}
-use borrow.Author.Rules.{rules}
-use Rattle.arith.specs.Laws.Signed.{kept}
+use mathlib.Core.Path.{sym, subst}
 use Rattle.certifier.specs.SimulateEntry.{CountableLog}
-use Rattle.certifier.proofs.Laws.SimulateEntry.{answer-countable, log-named}
+use Rattle.certifier.proofs.Laws.SimulateEntry.{answer-countable}
 use Rattle.certifier.proofs.simulate_entry.certifier_simulate.Goals as goal
 
 pub encode_simulated-requires : goal.encode_simulated-requires
 encode_simulated-requires c = subst CountableLog (sym c.simulate_files.ensures.value) (answer-countable _ _ _ _ _)
-
-pub returns : goal.returns
-returns c =
-    let both = c.simulate_files.ensures in
-    let answer = log-named _ _ both.value (kept _ c.encode_simulated.type_inv ∙ c.encode_simulated.ensures) both.out_after in record { value = answer.0; out_after = answer.1 }

@@ -1,15 +1,10 @@
 -- An answer is encoded by its own function; 21 and 22 are numbers.
-use mathlib.Core.Path.{subst, ◌∙◌}
-use borrow.Author.Rules.{rules}
+use mathlib.Core.Path.{◌∙◌}
 use Rattle.arith.specs.Laws.Signed.{kept}
 use Rattle.simulator.specs.Simulate.{simulated_returns}
 use Rattle.certifier.specs.LogEntry.{encode_answered}
-use Rattle.certifier.specs.SimulateEntry.{CountableLog}
 use Rattle.certifier.proofs.Laws.SimulateEntry.{answer-encoded}
 use Rattle.certifier.proofs.simulate_entry.encode_simulated.Goals as goal
-
-pub encode_answer-requires : goal.encode_answer-requires
-encode_answer-requires c = subst CountableLog c.in-Answered.is c.requires
 
 pub returns-in-Answered : goal.returns-in-Answered
 unfolding simulated_returns

@@ -1,6 +1,5 @@
 -- A refusal of the lengths is encoded; by lengths that were read the last frame is judged and shown.
 use mathlib.Core.Path.{◌∙◌}
-use borrow.Author.Rules.{rules}
 use Rattle.arith.specs.Laws.Signed.{kept}
 use Rattle.lengths_file.proofs.Laws.Input.{ReadLengths, lengths_read, lengths-refused}
 use Rattle.certifier.specs.WorstEntry.{worst_file, worst_read}

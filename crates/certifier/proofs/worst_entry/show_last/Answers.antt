@@ -1,18 +1,11 @@
 -- By the response, and the room.
 use mathlib.Core.Path.{◌∙◌}
-use borrow.Author.Rules.{rules}
 use Rattle.arith.specs.Laws.Signed.{kept}
 use Rattle.certifier.proofs.Laws.WorstEntry.{last_none, last-short, last-all}
 use Rattle.certifier.proofs.worst_entry.show_last.Goals as goal
 
-pub encode_judged-requires : goal.encode_judged-requires
-encode_judged-requires c = c.requires
-
 pub returns-then-shown-lt-SHOWN : goal.returns-then-shown-lt-SHOWN
 returns-then-shown-lt-SHOWN c = let answer = last-short c.args.last c.args.shown.now _ c.in-At.is c.if-shown-lt-SHOWN.true in record { value = answer.0; shown_after = answer.1 }
-
-pub encode_judged-requires-in-At : goal.encode_judged-requires-in-At
-encode_judged-requires-in-At c = c.requires
 
 pub returns-in-Nothing : goal.returns-in-Nothing
 returns-in-Nothing c =

@@ -3,13 +3,10 @@ use mathlib.Core.Path.{◌≡◌, ◌∙◌}
 use mathlib.Core.List.{[], ◌∷◌, ◌++◌}
 use native.Mathlib.Omega.{arith}
 use borrow.Author.Rules.{rules}
-use lib.ListN.{length, length-append, length-set}
+use lib.ListN.{length, length-append}
 use Rattle.certifier.proofs.Laws.WorstEntry.{response-behind}
 use Rattle.certifier.proofs.worst_entry.write_worst.Goals as goal
 use Rattle.certifier.proofs.worst_entry.write_worst.Goals.{Start}
-
-pub shape_of-shown : goal.shape_of-shown
-shape_of-shown c = simp length-set (search rules)
 
 -- the starts are as many as the groups
 long : (s : Start) → length s.args.starts ≡ 16
