@@ -14,4 +14,4 @@ pub returns-in-Failed : goal.returns-in-Failed
 unfolding encode_checked
 returns-in-Failed c =
     rw (sym c.check-checked.ensures.value ∙ c.in-Failed.is)
-    (kept _ c.encode_refusal.type-inv ∙ c.encode_refusal.ensures ∙ ap encode_refusal c.of_table.ensures)
+    (kept _ c.encode_refusal.type_inv ∙ c.encode_refusal.ensures ∙ ap encode_refusal c.of_table.ensures)

@@ -11,5 +11,5 @@ use Rattle.test_entries.proofs.test_judge.Goals as goal
 pub returns : goal.returns
 returns c =
     let a = c.args in
-    kept _ c.encode_judgement_of.type-inv ∙ c.encode_judgement_of.ensures
+    kept _ c.encode_judgement_of.type_inv ∙ c.encode_judgement_of.ensures
     ∙ ap (λ (ls : List (List ℕ)). encode_judged (judge_row ls a.rows.now a.row)) c.array.ensures

@@ -11,5 +11,5 @@ use Rattle.test_entries.proofs.test_precise_bound.Goals as goal
 pub returns : goal.returns
 returns c =
     let a = c.args in
-    kept _ c.encode_bounded.type-inv ∙ c.encode_bounded.ensures ∙ ap encode_bounded c.precise_bound.ensures.value
+    kept _ c.encode_bounded.type_inv ∙ c.encode_bounded.ensures ∙ ap encode_bounded c.precise_bound.ensures.value
     ∙ ap (λ (ls : List (List ℕ)). encode_bounded (bound_row ls a.rows.now a.row)) c.array.ensures

@@ -13,4 +13,4 @@ encode_answer-requires c = subst Countable (sym c.write.ensures.value) (write-co
 pub returns : goal.returns
 returns c =
     let both = c.write.ensures in
-    let answer = named _ _ both.value (kept _ c.encode_answer.type-inv ∙ c.encode_answer.ensures) both.file_after in record { value = answer.0; file_after = answer.1 }
+    let answer = named _ _ both.value (kept _ c.encode_answer.type_inv ∙ c.encode_answer.ensures) both.file_after in record { value = answer.0; file_after = answer.1 }

@@ -13,7 +13,5 @@ encode_answer-requires c = subst Countable (sym c.write.ensures.value) (lengths-
 pub returns : goal.returns
 returns c =
     let both = c.write.ensures in
-    record {
-      value = rw (← c.array.ensures) (named _ _ both.value (kept _ c.encode_answer.type-inv ∙ c.encode_answer.ensures) both.file_after).0;
-      file_after = rw (← c.array.ensures) (named _ _ both.value (kept _ c.encode_answer.type-inv ∙ c.encode_answer.ensures) both.file_after).1;
-    }
+    let answer = named _ _ both.value (kept _ c.encode_answer.type_inv ∙ c.encode_answer.ensures) both.file_after in
+    record { value = rw (← c.array.ensures) answer.0; file_after = rw (← c.array.ensures) answer.1 }

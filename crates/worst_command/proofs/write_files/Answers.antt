@@ -21,5 +21,5 @@ returns-in-Passed c =
     let l = loaded (goal.at.returns-in-Passed c).After-lengths_of in
     record {
       value = rw (l.passed, ← l.is) c.write_table.ensures.value;
-      out_after = rw (l.passed, ← l.is) c.write_table.ensures.out_after;
+      out_after = rw (← l.is) c.write_table.ensures.out_after;
     }

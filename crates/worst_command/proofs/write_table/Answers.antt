@@ -27,5 +27,5 @@ returns-in-Done c =
     let table = read (goal.at.returns-in-Done c).In-Done in
     record {
       value = rw (table.passed, ← table.rows) c.write_last.ensures.value;
-      out_after = rw (table.passed, ← table.rows) c.write_last.ensures.out_after;
+      out_after = rw (← table.rows) c.write_last.ensures.out_after;
     }
