@@ -2,7 +2,6 @@
 use Prim.Native.Nat.{ℕ}
 use mathlib.Core.List.{List}
 use Rattle.lengths_file.specs.Laws.Input.{first_part, second-part}
-use borrow.Author.Rules.{rules}
 use Rattle.log_command.proofs.write_input.Goals as goal
 
 pub returns : goal.returns
