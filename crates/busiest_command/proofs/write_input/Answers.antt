@@ -1,6 +1,5 @@
 -- `busiest_command::write_input` meets its contract: the width is read, and the text is that for it.
 use mathlib.Core.Path.{refl, ap}
-use borrow.Author.Rules.{rules}
 use Rattle.certifier.specs.declared.Reply.TheVariants.{Answered}
 use Rattle.busiest_command.proofs.write_input.Goals as goal
 

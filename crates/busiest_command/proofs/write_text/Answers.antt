@@ -1,5 +1,4 @@
 -- `busiest_command::write_text` meets its contract: the text goes by the answer.
-use borrow.Author.Rules.{rules}
 use Rattle.busiest_command.specs.Laws.Text.{text-refused, text-done}
 use Rattle.busiest_command.proofs.write_text.Goals as goal
 

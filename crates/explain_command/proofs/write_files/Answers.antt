@@ -1,5 +1,4 @@
 -- Lengths that are turned back are answered with their refusal; by lengths that were read the row is explained.
-use borrow.Author.Rules.{rules}
 use Rattle.table_checks.specs.Columns.{field, identifier_column}
 use Rattle.frame_table.specs.Text.{fields_of}
 use Rattle.lengths_file.proofs.Laws.Input.{ReadLengths, lengths_read, lengths-refused}

@@ -1,6 +1,5 @@
 -- The row is read, and the text is that for it.
 use mathlib.Core.Path.{refl, ap}
-use borrow.Author.Rules.{rules}
 use Rattle.certifier.specs.declared.Reply.TheVariants.{Answered}
 use Rattle.explain_command.proofs.write_input.Goals as goal
 

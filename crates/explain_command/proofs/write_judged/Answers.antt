@@ -1,5 +1,4 @@
 -- By the instance.
-use borrow.Author.Rules.{rules}
 use Rattle.explain_command.specs.Laws.Text.{text-none, text-case}
 use Rattle.explain_command.proofs.write_judged.Goals as goal
 

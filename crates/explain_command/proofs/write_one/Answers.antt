@@ -1,6 +1,5 @@
 -- The line is written where it has room, and else the area is left.
 use mathlib.Core.Path.{refl}
-use borrow.Author.Rules.{rules}
 use Rattle.table_checks.specs.declared.Checked.TheVariants.{Passed}
 use Rattle.frame_table.specs.Laws.Areas.{area-short, area-written}
 use Rattle.certifier.specs.Listing.{listing_line}

@@ -2,7 +2,6 @@
 use Prim.Native.Nat.{◌/◌, ◌≤◌, ◌<◌}
 use mathlib.Core.Path.{sym, ap, ◌∙◌}
 use native.Mathlib.Omega.{arith}
-use borrow.Author.Rules.{rules}
 use lib.ListN.{length}
 use Rattle.table_checks.specs.Columns.{columns, most_numbers}
 use Rattle.table_checks.proofs.Laws.Accepted.{accepted-size}

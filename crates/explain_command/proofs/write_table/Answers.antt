@@ -1,6 +1,5 @@
 -- A file that is turned back is answered with its refusal; in a table that was read the row is explained.
 use mathlib.Core.Path.{refl}
-use borrow.Author.Rules.{rules}
 use Rattle.table_checks.specs.Columns.{field, identifier_column}
 use Rattle.frame_table.specs.Text.{fields_of}
 use Rattle.frame_table.specs.Laws.Reading.{ReadRows, read-refused, read-rows}

@@ -1,6 +1,5 @@
 -- The gap is read, and the listing is that under it.
 use mathlib.Core.Path.{refl, ap}
-use borrow.Author.Rules.{rules}
 use Rattle.certifier.specs.declared.Reply.TheVariants.{Answered}
 use Rattle.faults_command.proofs.write_input.Goals as goal
 

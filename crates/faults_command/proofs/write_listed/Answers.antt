@@ -1,6 +1,5 @@
 -- A listing stands in the area already; a refusal is written as such.
 use mathlib.Core.Path.{refl}
-use borrow.Author.Rules.{rules}
 use Rattle.faults_command.proofs.write_listed.Goals as goal
 
 pub returns-in-Written : goal.returns-in-Written

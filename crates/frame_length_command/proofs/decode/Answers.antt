@@ -1,10 +1,9 @@
 use borrow.Author.Rules.{rules}
-use Prim.Native.Nat.{ℕ, ◌+◌, ◌-◌, ◌*◌, ◌/◌, ◌≤◌}
+use Prim.Native.Nat.{ℕ, ◌+◌, ◌*◌}
 use mathlib.Core.Path.{◌≡◌, refl, sym, ap₂, ◌∙◌}
 use native.Mathlib.Omega.{arith}
-use lib.ListN.{length}
-use Rattle.arith.specs.Laws.Overwriting.{over, over-element, over-all}
-use Rattle.frame_length_command.specs.Command.{byte_at, payload_of}
+use Rattle.arith.specs.Laws.Overwriting.{over-element, over-all}
+use Rattle.frame_length_command.specs.Command.{byte_at}
 use Rattle.frame_length_command.specs.Steps.{Digits}
 use Rattle.frame_length_command.specs.Laws.Digits.{length-payload, payload-at}
 use Rattle.frame_length_command.proofs.decode.Goals as goal

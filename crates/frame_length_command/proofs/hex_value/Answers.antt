@@ -1,5 +1,4 @@
 -- `frame_length_command::hex_value` meets its contract: it goes by the same three ranges.
-use borrow.Author.Rules.{rules}
 use mathlib.Core.Path.{sym, ◌∙◌}
 use native.Mathlib.Omega.{arith}
 use Rattle.frame_length_command.specs.Command.{hex_value}

@@ -1,10 +1,9 @@
-use borrow.Author.Rules.{rules}
-use Prim.Native.Nat.{◌-◌, ◌≤◌, ◌<◌}
-use mathlib.Core.Path.{◌≡◌, refl, sym, ◌∙◌}
+use Prim.Native.Nat.{◌≤◌, ◌<◌}
+use mathlib.Core.Path.{refl, sym, ◌∙◌}
 use native.Mathlib.Omega.{arith}
 use borrow.Author.Tests.{le-leb, lt-leb}
-use lib.ListN.{length, get_or, drop}
-use Rattle.frame_length_command.specs.Command.{hex_value, is_hex}
+use lib.ListN.{get_or}
+use Rattle.frame_length_command.specs.Command.{hex_value}
 use Rattle.frame_length_command.specs.Laws.Digits.{hex-more, hex-stop, hex-end}
 use Rattle.frame_length_command.proofs.is_hex.Goals as goal
 

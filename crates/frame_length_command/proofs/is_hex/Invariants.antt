@@ -1,12 +1,8 @@
 -- `frame_length_command::is_hex` meets its contract. The loop's invariant: the characters that are left decide.
-use borrow.Author.Rules.{rules}
-use Prim.Native.Nat.{◌-◌, ◌≤◌, ◌<◌}
-use mathlib.Core.Path.{◌≡◌, refl, sym, ◌∙◌}
-use native.Mathlib.Omega.{arith}
-use borrow.Author.Tests.{le-leb, lt-leb}
-use lib.ListN.{length, get_or, drop}
-use Rattle.frame_length_command.specs.Command.{hex_value, is_hex}
-use Rattle.frame_length_command.specs.Laws.Digits.{hex-more, hex-stop, hex-end}
+use Prim.Native.Nat.{◌-◌, ◌≤◌}
+use mathlib.Core.Path.{◌≡◌}
+use lib.ListN.{length, drop}
+use Rattle.frame_length_command.specs.Command.{is_hex}
 use Rattle.frame_length_command.proofs.is_hex.Given as goal
 
 abbrev pub invariant-loop-i : goal.invariant-loop-i

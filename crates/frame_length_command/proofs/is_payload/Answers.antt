@@ -1,5 +1,4 @@
 -- `frame_length_command::is_payload` meets its contract: one test after the other.
-use borrow.Author.Rules.{rules}
 use borrow.Author.Tests.{eq-eqb, ne_eqb}
 use Rattle.frame_length_command.specs.Command.{is_payload}
 use Rattle.frame_length_command.proofs.is_payload.Goals as goal

@@ -1,5 +1,4 @@
 -- `frame_length_command::measure_hex` meets its contract: what is measured is the payload that the digits give.
-use borrow.Author.Rules.{rules}
 use mathlib.Core.Path.{sym, ap, ◌∙◌}
 use mathlib.Core.List.{List}
 use Prim.Native.Nat.{ℕ, ◌/◌}

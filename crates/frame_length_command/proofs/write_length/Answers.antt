@@ -1,5 +1,4 @@
 -- `frame_length_command::write_length` meets its contract: the line is written where it has room, and else the area is left.
-use borrow.Author.Rules.{rules}
 use mathlib.Core.Path.{refl}
 use Rattle.table_checks.specs.declared.Checked.TheVariants.{Passed}
 use Rattle.frame_table.specs.Laws.Areas.{area-short, area-written}

@@ -1,5 +1,4 @@
 -- `frame_length_command::write_line` meets its contract: each argument is read, and the line is that of the frame that they name.
-use borrow.Author.Rules.{rules}
 use mathlib.Core.Path.{refl, sym, ◌∙◌}
 use Rattle.frame_length_command.specs.Command.{is_asked, line_for, reply_for}
 use Rattle.frame_length_command.specs.Laws.Digits.{payload-digits}

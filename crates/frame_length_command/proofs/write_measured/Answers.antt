@@ -1,5 +1,4 @@
 -- `frame_length_command::write_measured` meets its contract: the line goes by what was measured.
-use borrow.Author.Rules.{rules}
 use Rattle.frame_length.specs.FrameLength.{measured_returns}
 use Rattle.frame_length_command.specs.Command.{line_of}
 use Rattle.frame_length_command.proofs.write_measured.Goals as goal

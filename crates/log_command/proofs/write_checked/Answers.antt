@@ -1,5 +1,4 @@
 -- `log_command::write_checked` meets its contract: the text goes by the outcome.
-use borrow.Author.Rules.{rules}
 use Rattle.log_command.specs.Laws.Lines.{text-accepted, text-refused}
 use Rattle.log_command.proofs.write_checked.Goals as goal
 

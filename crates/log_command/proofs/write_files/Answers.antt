@@ -1,5 +1,4 @@
 -- `log_command::write_files` meets its contract: the numbers of the check are printed.
-use borrow.Author.Rules.{rules}
 use Rattle.log_command.proofs.write_files.Goals as goal
 
 pub returns : goal.returns

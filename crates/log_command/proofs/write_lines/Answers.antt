@@ -1,9 +1,7 @@
-use Prim.Native.Nat.{◌-◌, ◌*◌, ◌≤◌}
-use mathlib.Core.Path.{◌≡◌, refl}
+use mathlib.Core.Path.{refl}
 use native.Mathlib.Omega.{arith}
 use borrow.Author.Rules.{rules}
-use lib.ListN.{length, length-take, length-drop}
-use Rattle.arith.specs.Laws.Overwriting.{over}
+use lib.ListN.{length-take, length-drop}
 use Rattle.arith.specs.Laws.Lines.{line-over, lines-over}
 use Rattle.decimal.specs.Numbered.{numbered_at}
 use Rattle.decimal.specs.Laws.{numbered-lines}

@@ -1,13 +1,8 @@
 -- `log_command::write_lines` meets its contract: after i turns the first i lines are written, and the rest is as it was.
 use Prim.Native.Nat.{◌-◌, ◌*◌, ◌≤◌}
-use mathlib.Core.Path.{◌≡◌, refl}
-use native.Mathlib.Omega.{arith}
-use borrow.Author.Rules.{rules}
-use lib.ListN.{length, length-take, length-drop}
+use mathlib.Core.Path.{◌≡◌}
+use lib.ListN.{length}
 use Rattle.arith.specs.Laws.Overwriting.{over}
-use Rattle.arith.specs.Laws.Lines.{line-over, lines-over}
-use Rattle.decimal.specs.Numbered.{numbered_at}
-use Rattle.decimal.specs.Laws.{numbered-lines}
 use Rattle.log_command.specs.Command.{starts_text}
 use Rattle.log_command.proofs.write_lines.Given as goal
 

@@ -1,5 +1,4 @@
 -- `log_command::write_starts` meets its contract: the lines are written where they have room, and else the area is left.
-use borrow.Author.Rules.{rules}
 use mathlib.Core.Path.{refl}
 use Rattle.table_checks.specs.declared.Checked.TheVariants.{Passed}
 use Rattle.frame_table.specs.Laws.Areas.{area-short, area-written}

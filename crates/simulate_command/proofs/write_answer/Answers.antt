@@ -1,6 +1,5 @@
 -- `simulate_command::write_answer` meets its contract: 21 and 22 are lines, and else the answer decides.
 use native.Mathlib.Omega.{arith}
-use borrow.Author.Rules.{rules}
 use Rattle.simulator.specs.declared.Simulated.TheVariants.{ZeroSeed, LineCount}
 use Rattle.simulator.specs.Simulate.{simulated_returns}
 use Rattle.simulate_command.specs.Laws.Printed.{line-printed}

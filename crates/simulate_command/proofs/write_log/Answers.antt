@@ -1,7 +1,6 @@
 -- `simulate_command::write_log` meets its contract: the arguments decide whether anything is simulated.
 use mathlib.Core.Path.{refl}
 use borrow.Author.Tests.{le-leb, lt-leb}
-use borrow.Author.Rules.{rules}
 use Rattle.simulate_command.specs.Command.{reply_for, text_for}
 use Rattle.simulate_command.proofs.write_log.Goals as goal
 

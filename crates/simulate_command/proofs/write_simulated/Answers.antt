@@ -1,5 +1,4 @@
 -- `simulate_command::write_simulated` meets its contract.
-use borrow.Author.Rules.{rules}
 use Rattle.simulate_command.specs.Laws.Printed.{input-printed}
 use Rattle.simulate_command.proofs.write_simulated.Goals as goal
 

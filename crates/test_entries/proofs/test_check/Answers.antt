@@ -1,6 +1,5 @@
 -- A passed check answers 0, a refusal is encoded as certifier does.
 use mathlib.Core.Path.{sym, ap, ◌∙◌}
-use borrow.Author.Rules.{rules}
 use Rattle.arith.specs.Laws.Signed.{kept}
 use Rattle.certifier.specs.Encode.{encode_refusal}
 use Rattle.test_entries.specs.Encode.{encode_checked}

@@ -2,7 +2,6 @@
 use Prim.Native.Nat.{ℕ}
 use mathlib.Core.Path.{ap, ◌∙◌}
 use mathlib.Core.List.{List}
-use borrow.Author.Rules.{rules}
 use Rattle.arith.specs.Laws.Signed.{kept}
 use Rattle.row_judgement.specs.Judge.{judge_row}
 use Rattle.certifier.specs.Encode.{encode_judged}

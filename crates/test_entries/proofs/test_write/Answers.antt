@@ -1,6 +1,5 @@
 -- The text of accepted rows is short enough for its length to be answered.
 use mathlib.Core.Path.{sym, subst, ◌∙◌}
-use borrow.Author.Rules.{rules}
 use Rattle.arith.specs.Laws.Signed.{kept}
 use Rattle.certifier.specs.Steps.{Countable}
 use Rattle.certifier.proofs.Laws.Answers.{named}

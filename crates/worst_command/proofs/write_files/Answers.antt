@@ -1,6 +1,5 @@
 -- Lengths that are turned back are answered with their refusal; by lengths that were read the last frame is shown.
 use mathlib.Core.Path.{refl}
-use borrow.Author.Rules.{rules}
 use Rattle.frame_table.specs.Laws.Areas.{area-refused}
 use Rattle.lengths_file.proofs.Laws.Input.{ReadLengths, lengths_read, lengths-refused}
 use Rattle.worst_command.proofs.write_files.Goals as goal

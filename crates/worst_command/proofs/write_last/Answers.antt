@@ -1,6 +1,5 @@
 -- The last row, and what is shown of it.
-use borrow.Author.Rules.{rules}
-use Rattle.table_checks.proofs.Laws.Accepted.{length-frames}
+use Rattle.table_checks.specs.Laws.Accepted.{length-frames}
 use Rattle.worst_command.specs.Command.{text_of}
 use Rattle.worst_command.proofs.write_last.Goals as goal
 

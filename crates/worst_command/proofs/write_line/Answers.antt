@@ -1,7 +1,6 @@
 -- The line is written where it has room, and else the area is left.
 use mathlib.Core.Path.{refl}
 use native.Mathlib.Omega.{arith}
-use borrow.Author.Rules.{rules}
 use lib.ListN.{length-take, length-drop}
 use Rattle.table_checks.specs.declared.Checked.TheVariants.{Passed}
 use Rattle.workload.proofs.Laws.Groups.{fine-never}

@@ -1,6 +1,5 @@
 -- A file that is turned back is answered with its refusal; of a table that was read the last frame is shown.
 use mathlib.Core.Path.{refl}
-use borrow.Author.Rules.{rules}
 use Rattle.frame_table.specs.Laws.Areas.{area-refused}
 use Rattle.frame_table.specs.Laws.Reading.{ReadRows, read-rows, read-refused}
 use Rattle.worst_command.proofs.write_table.Goals as goal

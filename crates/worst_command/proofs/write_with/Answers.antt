@@ -1,5 +1,4 @@
 -- By the response.
-use borrow.Author.Rules.{rules}
 use Rattle.bus_model.specs.declared.Faults.TheVariants.{Never}
 use Rattle.certifier.specs.Listing.{line_of}
 use Rattle.worst_command.specs.Laws.Text.{text-none, text-shown}

@@ -1,10 +1,7 @@
-use Prim.Native.Nat.{◌-◌, ◌≤◌}
-use mathlib.Core.Path.{◌≡◌, refl, sym, ◌∙◌}
+use mathlib.Core.Path.{refl, sym, ◌∙◌}
 use mathlib.Core.List.{append-nil}
 use borrow.Author.Rules.{rules}
-use lib.ListN.{length}
-use Rattle.arith.specs.Laws.Overwriting.{over, over-element, over-all}
-use Rattle.test_entries.specs.Lengths.{line_from}
+use Rattle.arith.specs.Laws.Overwriting.{over-element, over-all}
 use Rattle.test_entries.specs.Laws.{length-from, number-from}
 use Rattle.test_entries.proofs.lengths.line.Goals as goal
 

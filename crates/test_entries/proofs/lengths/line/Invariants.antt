@@ -1,12 +1,9 @@
 -- `test_entries::lengths::line` meets its contract: after s turns the first s numbers are in the line.
 use Prim.Native.Nat.{◌-◌, ◌≤◌}
-use mathlib.Core.Path.{◌≡◌, refl, sym, ◌∙◌}
-use mathlib.Core.List.{append-nil}
-use borrow.Author.Rules.{rules}
+use mathlib.Core.Path.{◌≡◌}
 use lib.ListN.{length}
-use Rattle.arith.specs.Laws.Overwriting.{over, over-element, over-all}
+use Rattle.arith.specs.Laws.Overwriting.{over}
 use Rattle.test_entries.specs.Lengths.{line_from}
-use Rattle.test_entries.specs.Laws.{length-from, number-from}
 use Rattle.test_entries.proofs.lengths.line.Given as goal
 
 abbrev pub invariant-loop-s : goal.invariant-loop-s

@@ -1,7 +1,6 @@
 -- `test_entries::lengths::number` meets its contract: beyond the end there is nothing.
 use mathlib.Core.Path.{sym}
 use Rattle.arith.specs.Laws.Members.{get_d_beyond}
-use borrow.Author.Rules.{rules}
 use Rattle.test_entries.proofs.lengths.number.Goals as goal
 
 pub returns-else-at-numbers : goal.returns-else-at-numbers
