@@ -83,7 +83,8 @@ fn refine(
     let choices = with_choice(coarser, fixing.group, fixing.alignment);
     let best = known.best;
     let reach = known.reach;
-    if left == 0 {
+    let is_deepest = left == 0;
+    if is_deepest {
         return max_with_scenario(rows, prepared, target, choices, reach, best, memory);
     }
     let next = next_open(target.frame, choices);
@@ -96,9 +97,10 @@ fn refine(
     let mut a = or_zero(next_of(rows, prepared, target, group, 0));
     let mut asked = !is_last(rows, prepared, target, group, a);
     let mut rest = reach;
-    loop {
+    'alignments: loop {
         rest = reach_now(rows, prepared, target, choices, rest, most, asked, memory);
-        if rest == 0 {
+        let is_shown = rest == 0;
+        if is_shown {
             return most;
         }
         let finer = Fixing {

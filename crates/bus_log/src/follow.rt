@@ -161,6 +161,7 @@ fn due_with(p: Progress, own: Frame, e: Entry) -> u64
 }
 
 // Whether the line's instance is due, and has a length that its frame can have.
+#[tactic(auto, unfolding(crate::specs::Follow::is_due))]
 fn is_due(p: Progress, own: Frame, e: Entry) -> bool
     requires { (e.frame < 64) × (own.group < 17) × (e.release < 2 ^ 40) }
     ensures { result ≡ is_due p own e }

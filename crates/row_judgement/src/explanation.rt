@@ -100,7 +100,8 @@ fn explain_row(lengths: [[u32; 9]; 2], rows: &[u32], i: usize, faults: Faults) -
     let bound = bounds::find(rows, &prepared, target, Found::At(claim), &mut memory);
     let judgement = judged_by(bound, claim);
     let outcome = judgement.outcome;
-    if verdict(outcome) == 3 {
+    let is_small = verdict(outcome) == 3;
+    if is_small {
         let breaking = bounds::first_case(rows, &prepared, target, claim, &mut memory);
         return Explained {
             judged: Judged::Verdict(judgement),

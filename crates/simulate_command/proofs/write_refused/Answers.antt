@@ -1,6 +1,6 @@
 -- `simulate_command::write_refused` meets its contract.
 use mathlib.Core.Path.{refl}
-use Rattle.table_checks.specs.Laws.Returns.{number-some}
+use Rattle.table_checks.proofs.Laws.Returns.{number-some}
 use Rattle.frame_table.specs.declared.Answer.TheVariants.{Refused}
 use Rattle.frame_table.specs.Table.{answer_returns}
 use Rattle.simulator.specs.Simulate.{simulated_returns}

@@ -1,7 +1,7 @@
 -- The two parts that are read are those of the input.
 use Prim.Native.Nat.{ℕ}
 use mathlib.Core.List.{List}
-use Rattle.lengths_file.specs.Laws.Input.{first_part, second-part}
+use Rattle.lengths_file.proofs.Laws.Input.{first_part, second-part}
 use Rattle.worst_command.proofs.write_input.Goals as goal
 
 pub returns : goal.returns

@@ -1,5 +1,5 @@
 -- The last row, and what is shown of it.
-use Rattle.table_checks.specs.Laws.Accepted.{length-frames}
+use Rattle.table_checks.proofs.Laws.Accepted.{length-frames}
 use Rattle.worst_command.specs.Command.{text_of}
 use Rattle.worst_command.proofs.write_last.Goals as goal
 

@@ -37,14 +37,14 @@ told t c r found =
     let x = c.args in
     subst (λ (cs : List Choice). Settles x.enough (max x.known.best (fixing_more x.target.faults (table_of x.rows.now x.prepared.now) x.target.frame x.left cs)) r) c.with_choice-choices.ensures found
 
-pub returns-then-left-eq0-clause-settles : goal.returns-then-left-eq0-clause-settles
-returns-then-left-eq0-clause-settles t c =
+pub returns-then-is_deepest-clause-settles : goal.returns-then-is_deepest-clause-settles
+returns-then-is_deepest-clause-settles t c =
     let p = c.requires.ready_2 in
-    let w = (goal.at.returns-then-left-eq0-clause-settles t c).After-with_choice-choices in
+    let w = (goal.at.returns-then-is_deepest-clause-settles t c).After-with_choice-choices in
     let x = c.args in
     let fs = table_of x.rows.now x.prepared.now in
     let cs = c.with_choice-choices.result in
-    let end : fixing_more x.target.faults fs x.target.frame x.left cs ≡ scenario_response x.target.faults fs x.target.frame cs = rw c.if-left-eq0.true (open-end p.prepared.filled.table p.listed cs (long t w) _) in
+    let end : fixing_more x.target.faults fs x.target.frame x.left cs ≡ scenario_response x.target.faults fs x.target.frame cs = rw c.if-is_deepest.true (open-end p.prepared.filled.table p.listed cs (long t w) _) in
     told t w _ (ap (min (suc x.enough)) (c.max_with_scenario.ensures.value ∙ ap (max x.known.best) (sym end)))
 
 pub returns-in_default-clause-settles : goal.returns-in_default-clause-settles
@@ -95,68 +95,68 @@ is_last-asked-requires-clause-le_group t c =
     let n = group t (goal.at.is_last-asked-requires-clause-le_group t c).In-At in
     (n.0, n.1, (first t c).walk.inside)
 
-pub loop-rest-init : goal.loop-rest-init
-loop-rest-init t c =
-    (first t (goal.at.loop-rest-init t c).After-or_zero-a, omega arith, known t (goal.at.loop-rest-init t c).After-with_choice-choices, c.requires.ready_2)
+pub alignments-init : goal.alignments-init
+alignments-init t c =
+    (first t (goal.at.alignments-init t c).After-or_zero-a, omega arith, known t (goal.at.alignments-init t c).After-with_choice-choices, c.requires.ready_2)
 
 pub reach_now-rest-requires-clause-ready_2 : goal.reach_now-rest-requires-clause-ready_2
-reach_now-rest-requires-clause-ready_2 t c = c.loop-rest.invariant.3
+reach_now-rest-requires-clause-ready_2 t c = c.alignments.invariant.3
 
 pub reach_now-rest-requires-clause-own_fixed : goal.reach_now-rest-requires-clause-own_fixed
 reach_now-rest-requires-clause-own_fixed t c = own t (goal.at.reach_now-rest-requires-clause-own_fixed t c).After-with_choice-choices
 
 pub reach_now-rest-requires-clause-reaches : goal.reach_now-rest-requires-clause-reaches
-reach_now-rest-requires-clause-reaches t c = c.loop-rest.invariant.2
+reach_now-rest-requires-clause-reaches t c = c.alignments.invariant.2
 
-pub returns-then-rest-eq0-clause-settles : goal.returns-then-rest-eq0-clause-settles
-returns-then-rest-eq0-clause-settles t c =
+pub returns-then-is_shown-clause-settles : goal.returns-then-is_shown-clause-settles
+returns-then-is_shown-clause-settles t c =
     let p = c.requires.ready_2 in
-    let w = (goal.at.returns-then-rest-eq0-clause-settles t c).After-with_choice-choices in
-    let none = reach-none _ _ _ _ (rw c.if-rest-eq0.true at c.reach_now-rest.ensures.reaches_2) in
+    let w = (goal.at.returns-then-is_shown-clause-settles t c).After-with_choice-choices in
+    let none = reach-none _ _ _ _ (rw c.if-is_shown.true at c.reach_now-rest.ensures.reaches_2) in
     let pruned = open-pruned p.prepared.filled.table p.listed c.with_choice-choices.result (long t w) (own t w) (known t w) c.args.left in
-    told t w _ (ap (min (suc c.args.enough)) (best-over _ _ _ _ c.loop-rest.invariant.0 c.loop-rest.invariant.1 (whole t (goal.at.returns-then-rest-eq0-clause-settles t c).In-At) (omega (arith, none, pruned))))
+    told t w _ (ap (min (suc c.args.enough)) (best-over _ _ _ _ c.alignments.invariant.0 c.alignments.invariant.1 (whole t (goal.at.returns-then-is_shown-clause-settles t c).In-At) (omega (arith, none, pruned))))
 
 pub refine-more-requires : goal.refine-more-requires
 refine-more-requires t c =
     let w = (goal.at.refine-more-requires t c).After-with_choice-choices in
     let i = (goal.at.refine-more-requires t c).In-At in
-    let (fixed, left) = deeper t i (own t w) c.loop-rest.invariant.0.listed c.reach_now-rest.ensures.reaches_2 in
+    let (fixed, left) = deeper t i (own t w) c.alignments.invariant.0.listed c.reach_now-rest.ensures.reaches_2 in
     (omega (arith, c.decreases, fewer t i), (c.reach_now-rest.ensures.ready, (group t i, (fixed, left))))
 
 pub returns-then-enough-more-clause-settles : goal.returns-then-enough-more-clause-settles
 returns-then-enough-more-clause-settles t c =
     told t (goal.at.returns-then-enough-more-clause-settles t c).After-with_choice-choices _
-    (best-above _ _ _ _ c.loop-rest.invariant.0 (whole t (goal.at.returns-then-enough-more-clause-settles t c).In-At) c.refine-more.ensures.settles c.if-enough-more.true)
+    (best-above _ _ _ _ c.alignments.invariant.0 (whole t (goal.at.returns-then-enough-more-clause-settles t c).In-At) c.refine-more.ensures.settles c.if-enough-more.true)
 
 -- what is not above `enough` is the greatest
 exact : (t : ℕ) (c : Else-enough-more t) → let x = c.args in
-    c.refine-more.result ≡ max c.loop-rest.most (fixing_more x.target.faults (table_of x.rows.now x.prepared.now) x.target.frame (x.left - 1) (set c.with_choice-choices.result (c.in-At.j - 1) (Fixed c.loop-rest.a)))
+    c.refine-more.result ≡ max c.alignments.most (fixing_more x.target.faults (table_of x.rows.now x.prepared.now) x.target.frame (x.left - 1) (set c.with_choice-choices.result (c.in-At.j - 1) (Fixed c.alignments.a)))
 exact t c = omega (arith, c.refine-more.ensures.settles, c.if-enough-more.false)
 
 pub overflow_add-a : goal.overflow_add-a
 overflow_add-a t c =
     let n = group t (goal.at.overflow_add-a t c).In-At in
     let table = c.requires.ready_2.prepared.filled.table in
-    omega (arith, c.loop-rest.invariant.0.walk.inside, table.hyper _ n.0 n.1, turn-le table.valid c.args.target.frame c.in-At.j)
+    omega (arith, c.alignments.invariant.0.walk.inside, table.hyper _ n.0 n.1, turn-le table.valid c.args.target.frame c.in-At.j)
 
 pub next_of-found-requires-clause-le_group : goal.next_of-found-requires-clause-le_group
 next_of-found-requires-clause-le_group t c =
     let n = group t (goal.at.next_of-found-requires-clause-le_group t c).In-At in
-    (n.0, n.1, omega (arith, c.loop-rest.invariant.0.walk.inside))
+    (n.0, n.1, omega (arith, c.alignments.invariant.0.walk.inside))
 
 pub returns-in_default-found-clause-settles : goal.returns-in_default-found-clause-settles
 returns-in_default-found-clause-settles t c =
-    told t (goal.at.returns-in_default-found-clause-settles t c).After-with_choice-choices _ (ap (min (suc c.args.enough)) (best-end _ _ _ _ c.loop-rest.invariant.0 (exact t (goal.at.returns-in_default-found-clause-settles t c).Else-enough-more) (sym c.next_of-found.ensures ∙ c.in_default-found.is)
+    told t (goal.at.returns-in_default-found-clause-settles t c).After-with_choice-choices _ (ap (min (suc c.args.enough)) (best-end _ _ _ _ c.alignments.invariant.0 (exact t (goal.at.returns-in_default-found-clause-settles t c).Else-enough-more) (sym c.next_of-found.ensures ∙ c.in_default-found.is)
     ∙ ap (max c.args.known.best) (whole t (goal.at.returns-in_default-found-clause-settles t c).In-At)))
 
-pub loop-rest-smaller : goal.loop-rest-smaller
-loop-rest-smaller t c = walk-less _ _ _ _ _ c.loop-rest.invariant.0.walk (sym c.next_of-found.ensures ∙ c.in-At-found.is)
+pub alignments-smaller : goal.alignments-smaller
+alignments-smaller t c = walk-less _ _ _ _ _ c.alignments.invariant.0.walk (sym c.next_of-found.ensures ∙ c.in-At-found.is)
 
-pub loop-rest-preserved : goal.loop-rest-preserved
-loop-rest-preserved t c =
-    let is = exact t (goal.at.loop-rest-preserved t c).Else-enough-more in (
-      best-more _ _ _ _ c.loop-rest.invariant.0 is c.requires.ready_2.prepared.filled.table.valid (sym c.next_of-found.ensures ∙ c.in-At-found.is),
-      omega (arith, c.loop-rest.invariant.1, is),
+pub alignments-preserved : goal.alignments-preserved
+alignments-preserved t c =
+    let is = exact t (goal.at.alignments-preserved t c).Else-enough-more in (
+      best-more _ _ _ _ c.alignments.invariant.0 is c.requires.ready_2.prepared.filled.table.valid (sym c.next_of-found.ensures ∙ c.in-At-found.is),
+      omega (arith, c.alignments.invariant.1, is),
       reach-more (omega (arith, is)) c.reach_now-rest.ensures.reaches_2,
       c.refine-more.ensures.ready,
     )

@@ -13,10 +13,10 @@ use Rattle.bounds.proofs.refine.+refine.Given as goal
 abbrev pub decreases-refine : goal.decreases-refine
 decreases-refine l = l.left
 
-abbrev pub invariant-loop-rest : goal.invariant-loop-rest
-invariant-loop-rest l =
+abbrev pub invariant-alignments : goal.invariant-alignments
+invariant-alignments l =
     Best (table_of l.rows l.prepared) l.target.frame l.group (λ b. fixing_more l.target.faults (table_of l.rows l.prepared) l.target.frame (l.left - 1) (set l.choices (l.group - 1) (Fixed b))) l.best l.most l.a × (l.best ≤ l.most)
     × Reaches l.target.faults (table_of l.rows l.prepared) l.target.frame l.choices l.most l.rest × Ready l.rows l.prepared l.target l.memory
 
-abbrev pub decreases-loop-rest : goal.decreases-loop-rest
-decreases-loop-rest l = turn (table_of l.rows l.prepared) l.target.frame l.group - l.a
+abbrev pub decreases-alignments : goal.decreases-alignments
+decreases-alignments l = turn (table_of l.rows l.prepared) l.target.frame l.group - l.a

@@ -18,7 +18,7 @@ use Rattle.row_judgement.specs.Explain.{beside}
 use Rattle.row_judgement.specs.Laws.Judged.{claim-inside}
 use Rattle.row_judgement.specs.Laws.Explain.{ready-new, judged-row, small-has, small-beside, other-beside}
 use Rattle.row_judgement.proofs.explanation.explain_row.Goals as goal
-use Rattle.row_judgement.proofs.explanation.explain_row.Goals.{After-judged_by-judgement, After-prepare_row-target, Start, Then-verdict-eq3}
+use Rattle.row_judgement.proofs.explanation.explain_row.Goals.{After-judged_by-judgement, After-prepare_row-target, Start, Then-is_small}
 
 place : (c : Start) → (columns * c.args.i + claim_column < length c.args.rows.now) × (length c.args.rows.now ≤ most_numbers)
 place c = claim-inside c.args.lengths c.args.rows.now c.requires.loadable.1 c.requires.i_in_bounds
@@ -51,29 +51,29 @@ judged c =
     judged-row prepared.result.faults a.lengths a.rows.now a.i prepared.ensures.prepared_after prepared.ensures.target.0 c.find-bound.ensures.value c.judged_by-judgement.ensures
 
 -- its verdict is 3
-small : (c : Then-verdict-eq3) → verdict c.judged_by-judgement.result.outcome ≡ 3
-small c = omega (arith, c.verdict.ensures, c.if-verdict-eq3.true)
+small : (c : Then-is_small) → verdict c.judged_by-judgement.result.outcome ≡ 3
+small c = omega (arith, c.verdict.ensures, c.if-is_small.true)
 
 pub first_case-breaking-requires : goal.first_case-breaking-requires
 first_case-breaking-requires c =
     let a = c.args in
     let prepared = c.prepare_row-target in
-    record { ready = c.find-bound.ensures.ready; frame_value = small-has prepared.result.faults a.lengths a.rows.now a.i prepared.ensures.prepared_after prepared.ensures.target.0 (judged (goal.at.first_case-breaking-requires c).After-judged_by-judgement) (small (goal.at.first_case-breaking-requires c).Then-verdict-eq3) }
+    record { ready = c.find-bound.ensures.ready; frame_value = small-has prepared.result.faults a.lengths a.rows.now a.i prepared.ensures.prepared_after prepared.ensures.target.0 (judged (goal.at.first_case-breaking-requires c).After-judged_by-judgement) (small (goal.at.first_case-breaking-requires c).Then-is_small) }
 
 -- under the premise that was given
 given : (c : After-prepare_row-target) (ls : List (List ℕ)) (rows : List ℕ) (i : ℕ) → let fs = frames_of ls rows in let faults = c.prepare_row-target.result.faults in
     beside faults ls rows i (Verdict (judge faults fs (row fs i) (claim_of rows i))) ≡ beside c.args.faults ls rows i (Verdict (judge c.args.faults fs (row fs i) (claim_of rows i)))
 given c ls rows i = ap (λ (faults : Faults). beside faults ls rows i (Verdict (judge faults (frames_of ls rows) (row (frames_of ls rows) i) (claim_of rows i)))) c.prepare_row-target.ensures.target.1
 
-pub returns-then-verdict-eq3 : goal.returns-then-verdict-eq3
-returns-then-verdict-eq3 c =
+pub returns-then-is_small : goal.returns-then-is_small
+returns-then-is_small c =
     let a = c.args in
-    small-beside c.prepare_row-target.result.faults a.lengths a.rows.now a.i c.prepare_row-target.ensures.prepared_after c.prepare_row-target.ensures.target.0 (judged (goal.at.returns-then-verdict-eq3 c).After-judged_by-judgement) (small (goal.at.returns-then-verdict-eq3 c).Then-verdict-eq3) c.first_case-breaking.ensures
-    ∙ given (goal.at.returns-then-verdict-eq3 c).After-prepare_row-target a.lengths a.rows.now a.i
+    small-beside c.prepare_row-target.result.faults a.lengths a.rows.now a.i c.prepare_row-target.ensures.prepared_after c.prepare_row-target.ensures.target.0 (judged (goal.at.returns-then-is_small c).After-judged_by-judgement) (small (goal.at.returns-then-is_small c).Then-is_small) c.first_case-breaking.ensures
+    ∙ given (goal.at.returns-then-is_small c).After-prepare_row-target a.lengths a.rows.now a.i
 
 pub returns : goal.returns
 unfolding no_case
 returns c =
     let a = c.args in
-    other-beside c.prepare_row-target.result.faults a.lengths a.rows.now a.i c.prepare_row-target.ensures.prepared_after c.prepare_row-target.ensures.target.0 (judged (goal.at.returns c).After-judged_by-judgement) (λ is. omega (arith, c.verdict.ensures, c.if-verdict-eq3.false)) refl
+    other-beside c.prepare_row-target.result.faults a.lengths a.rows.now a.i c.prepare_row-target.ensures.prepared_after c.prepare_row-target.ensures.target.0 (judged (goal.at.returns c).After-judged_by-judgement) (λ is. omega (arith, c.verdict.ensures, c.if-is_small.false)) refl
     ∙ given (goal.at.returns c).After-prepare_row-target a.lengths a.rows.now a.i
