@@ -52,7 +52,7 @@ judged c =
 
 -- its verdict is 3
 small : (c : Then-is_small) → verdict c.judged_by-judgement.result.outcome ≡ 3
-small c = omega (arith, c.verdict.ensures, c.if-is_small.true)
+small c = omega (arith, c.verdict-is_small.ensures, c.if-is_small.true)
 
 pub first_case-breaking-requires : goal.first_case-breaking-requires
 first_case-breaking-requires c =
@@ -75,5 +75,5 @@ pub returns : goal.returns
 unfolding no_case
 returns c =
     let a = c.args in
-    other-beside c.prepare_row-target.result.faults a.lengths a.rows.now a.i c.prepare_row-target.ensures.prepared_after c.prepare_row-target.ensures.target.0 (judged (goal.at.returns c).After-judged_by-judgement) (λ is. omega (arith, c.verdict.ensures, c.if-is_small.false)) refl
+    other-beside c.prepare_row-target.result.faults a.lengths a.rows.now a.i c.prepare_row-target.ensures.prepared_after c.prepare_row-target.ensures.target.0 (judged (goal.at.returns c).After-judged_by-judgement) (λ is. omega (arith, c.verdict-is_small.ensures, c.if-is_small.false)) refl
     ∙ given (goal.at.returns c).After-prepare_row-target a.lengths a.rows.now a.i
