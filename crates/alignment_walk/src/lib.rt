@@ -10,7 +10,7 @@ ghost use Rattle.workload.specs.Prepared.{Fine, FinePart, frames_in, table_of, i
 ghost use Rattle.alignment_walk.specs.Steps.{next_release, wait_from, whole_demand, extra_demand, Notes, Noted};
 ghost use Rattle.alignment_walk.specs.Walk.{step, visits};
 
-use arith::{Found, choose, lesser};
+use arith::choose;
 use bus_model::Frame;
 use workload::{GROUP_ROWS, listed_row, phase_of, quotient, releases_before};
 
@@ -34,28 +34,28 @@ fn next_release(g: Frame, after: u32, inverse: u32) -> u32
 }
 
 // The first alignment at or after a tick, below `end`, of a group whose frames ahead stand in some rows.
-pub fn next_alignment(rows: &[u32], prepared: &[u32], part: &[u32], after: u32, end: u32) -> Found
+pub fn next_alignment(
+    rows: &[u32],
+    prepared: &[u32],
+    part: &[u32],
+    after: u32,
+    end: u32,
+) -> Option<u32>
     requires fine_part { FinePart rows.now prepared.now part.now }
     requires after_le_end { (after ≤ end) × (end ≤ 1000000) }
     ensures { result ≡ step (frames_in (table_of rows.now prepared.now) part.now) end after }
 {
     let mut best = end;
-    let mut i = 0;
-    while i < part.len() {
+    for i in 0..part.len() {
         let r = listed_row(rows, prepared, part, i);
-        best = lesser(best, next_release(r.frame, after, r.inverse));
-        i += 1;
+        best = best.min(next_release(r.frame, after, r.inverse));
     }
-    if best < end {
-        Found::At(best)
-    } else {
-        Found::Nothing
-    }
+    (best < end).then_some(best)
 }
 
 // What the visit of an alignment tells: the work of the rests that the frames' whole periods leave in the first n ticks, and how long
 // after it the next alignment is, or `end` where there is none below it.
-#[derive(Drop)]
+#[derive(Clone, Copy)]
 struct Visited {
     extra: u32,
     gap: u32,
@@ -95,8 +95,7 @@ fn begin(
     ensures waits { Noted (wait_from first first) (table_of rows.now prepared.now) part.now waits.new }
 {
     let mut whole: u64 = 0;
-    let mut i = 0;
-    while i < part.len() {
+    for i in 0..part.len() {
         let r = listed_row(rows, prepared, part, i);
         let g = r.frame;
         let times = quotient(n, g.period, r.inverse);
@@ -105,7 +104,6 @@ fn begin(
         notes[RESTS + i] = n - times * g.period;
         waits[i] = phase_of(g, r.inverse) - first;
         whole += g.length as u64 * times as u64;
-        i += 1;
     }
     whole
 }
@@ -134,20 +132,18 @@ fn visit(
 {
     let mut extra: u32 = 0;
     let mut least = end - a;
-    let mut i = 0;
-    while i < part.len() {
+    for i in 0..part.len() {
         let wait = waits[i] - gap;
         extra += in_rest(wait, notes[RESTS + i], notes[i]);
         let later = wait_after(wait, notes[PERIODS + i]);
         waits[i] = later;
-        least = lesser(least, later);
-        i += 1;
+        least = least.min(later);
     }
     Visited { extra, gap: least }
 }
 
 // An alignment and its work, and how many alignments there are.
-#[derive(Drop)]
+#[derive(Clone, Copy)]
 pub struct Best {
     pub alignment: u32,
     pub work: u64,
@@ -163,8 +159,7 @@ pub fn best_alignment(rows: &[u32], prepared: &[u32], part: &[u32], end: u32, n:
     ensures count { result.count ≡ length (visits (frames_in (table_of rows.now prepared.now) part.now) end) }
     ensures small { (result.work ≤ 64 * 400400400) × (result.count ≤ 1000000) }
 {
-    let found = next_alignment(rows, prepared, part, 0, end);
-    let Found::At(first) = found else {
+    let Some(first) = next_alignment(rows, prepared, part, 0, end) else {
         return Best {
             alignment: 0,
             work: 0,
@@ -179,6 +174,7 @@ pub fn best_alignment(rows: &[u32], prepared: &[u32], part: &[u32], end: u32, n:
     let mut count: u32 = 0;
     let mut gap: u32 = 0;
     let mut a = first;
+    // No range: each visit finds the next alignment, and how many there are is not known before.
     loop {
         let v = visit(rows, prepared, part, gap, a, n, end, &notes, &mut waits);
         let visited = whole + v.extra as u64;
@@ -207,11 +203,5 @@ pub fn count_alignments(rows: &[u32], prepared: &[u32], part: &[u32], end: u32) 
     ensures value { result ≡ max (length (visits (frames_in (table_of rows.now prepared.now) part.now) end)) 1 }
     ensures small { (1 ≤ result) × (result ≤ 1000000) }
 {
-    at_least_one(best_alignment(rows, prepared, part, end, 0).count)
-}
-
-fn at_least_one(count: u32) -> u32
-    ensures { result ≡ max count 1 }
-{
-    if count == 0 { 1 } else { count }
+    best_alignment(rows, prepared, part, end, 0).count.max(1)
 }

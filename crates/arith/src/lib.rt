@@ -6,41 +6,6 @@ ghost use Rattle.std.specs.Prelude.{◌≡◌, cond, ◌*◌, ◌≤◌, ◌<◌
 ghost use Rattle.arith.specs.Least.{or_zero};
 ghost use Rattle.arith.specs.Multiples.{gcd, lcm};
 
-// The answer of a search.
-#[derive(Clone, Copy)]
-pub enum Found {
-    At(u32),
-    Nothing,
-}
-
-// What was found, and 0 where nothing was.
-pub fn or_zero(found: Found) -> u32
-    ensures { result ≡ or_zero found }
-{
-    match found {
-        Found::At(x) => x,
-        Found::Nothing => 0,
-    }
-}
-
-pub fn lesser(a: u32, b: u32) -> u32
-    ensures { result ≡ min a b }
-{
-    if a < b { a } else { b }
-}
-
-pub fn greater(a: u32, b: u32) -> u32
-    ensures { result ≡ max a b }
-{
-    if a < b { b } else { a }
-}
-
-pub fn greater_wide(a: u64, b: u64) -> u64
-    ensures { result ≡ max a b }
-{
-    if a < b { b } else { a }
-}
-
 // a where the test holds, and b elsewhere.
 pub fn choose(test: bool, a: u32, b: u32) -> u32
     ensures { result ≡ cond test a b }
@@ -62,6 +27,7 @@ pub fn gcd(a: u64, b: u64) -> u64
 {
     let mut x = a;
     let mut y = b;
+    // No range: how often it divides is not known before.
     while 0 < y {
         let rest = x % y;
         x = y;

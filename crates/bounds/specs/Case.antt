@@ -1,12 +1,9 @@
 -- Where the search for the case that breaks a claim stands (document 02, request 4).
 use Rattle.std.specs.Prelude.{ℕ, ◌≡◌, List}
-use Rattle.arith.specs.declared.Found.{Found}
-use Rattle.arith.specs.declared.Found.TheVariants.{At, Nothing}
 use Rattle.bus_model.specs.declared.Frame.{Frame}
 use Rattle.bus_model.specs.declared.Faults.{Faults}
 use Rattle.bus_model.specs.declared.Choice.{Choice}
-use Rattle.bus_model.specs.declared.Case.{Case}
-use Rattle.bus_model.specs.Case.{no_case, first_among, first_case}
+use Rattle.bus_model.specs.Case.{first_among, first_case}
 use Rattle.bus_model.specs.Theory.Work.{RefinedBy}
 use Rattle.bus_model.specs.Theory.Refine.{free}
 use Rattle.bus_model.specs.Theory.FirstCase.{completions, Prefix}
@@ -16,8 +13,3 @@ pub record LeadsTo (faults : Faults) (fs : List Frame) (k : Frame) (claim j : �
   pub prefix : Prefix j cs
   pub refines : RefinedBy fs k free cs
   pub first : first_among faults fs k claim (completions fs k cs) ≡ first_case faults fs k claim
-
--- the case by its instance, if there is one, and its alignments
-unfoldable pub case_by : Found → List ℕ → Case
-case_by (At q) alignments = record { instance = At q; alignments = alignments }
-case_by Nothing alignments = no_case

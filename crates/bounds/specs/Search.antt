@@ -1,7 +1,5 @@
 -- Where a search for a bound stands.
-use Rattle.std.specs.Prelude.{ℕ, suc, min, ◌≡◌, List}
-use Rattle.arith.specs.declared.Found.{Found}
-use Rattle.arith.specs.declared.Found.TheVariants.{At, Nothing}
+use Rattle.std.specs.Prelude.{ℕ, suc, min, ◌≡◌, List, Option, Some, None}
 use Rattle.bus_model.specs.declared.Frame.{Frame}
 use Rattle.bus_model.specs.declared.Faults.{Faults}
 use Rattle.bus_model.specs.declared.Choice.{Choice}
@@ -17,9 +15,9 @@ pub record OwnOpen (fs : List Frame) (k : Frame) (cs : List Choice) : Type 0 whe
   pub any : choice_of cs k.group ≡ Any
 
 -- the scenario has a window, and it is not longer than the limit, where there is one
-abbrev pub Limits : Faults → List Frame → Frame → List Choice → Found → Type 0
-Limits faults fs k cs (At l) = WindowWithin faults fs k cs l
-Limits faults fs k cs Nothing = Unit {0}
+abbrev pub Limits : Faults → List Frame → Frame → List Choice → Option ℕ → Type 0
+Limits faults fs k cs (Some l) = WindowWithin faults fs k cs l
+Limits faults fs k cs None = Unit {0}
 
 -- what a search for the greatest value found that may end above `enough`: up to there r is the greatest, and above it both are
 abbrev pub Settles : ℕ → ℕ → ℕ → Type 0

@@ -1,17 +1,16 @@
 // The alignments of a group, one after the other, and which group takes its alignments next.
-ghost use Rattle.std.specs.Prelude.{◌≡◌, ◌+◌, ◌-◌, ◌≤◌, ◌<◌, set};
-ghost use Rattle.arith.specs.Least.{least, is_none};
+ghost use Rattle.std.specs.Prelude.{◌≡◌, ◌+◌, ◌-◌, ◌≤◌, ◌<◌, set, is_none};
+ghost use Rattle.arith.specs.Least.{least};
 ghost use Rattle.bus_model.specs.declared.Choice.TheVariants.{Fixed};
 ghost use Rattle.bus_model.specs.Theory.OpenGroups.{next_open};
 ghost use Rattle.bus_model.specs.Theory.Visits.{is_alignment};
 ghost use Rattle.bus_model.specs.Theory.Turns.{turn};
-ghost use Rattle.workload.specs.Prepared.{Fine, table_of, Prepared};
+ghost use Rattle.workload.specs.Prepared.{Fine, Prepared, table_of};
 
 use alignment_walk::next_alignment;
-use arith::Found;
 use bus_model::{Choice, Frame};
-use response_time::is_open;
-use workload::{GROUPS, Target, cycle_of, part_of};
+use response_time::{is_open, own_choice};
+use workload::{cycle_of, part_of};
 
 // The choices with the alignment of one group more.
 pub fn with_choice(choices: [Choice; 16], group: usize, a: u32) -> [Choice; 16]
@@ -25,32 +24,27 @@ pub fn with_choice(choices: [Choice; 16], group: usize, a: u32) -> [Choice; 16]
 }
 
 // The group that is fixed next: k's own where it is open, and otherwise the least open one.
-pub fn next_open(k: Frame, choices: [Choice; 16]) -> Found
+pub fn next_open(k: Frame, choices: [Choice; 16]) -> Option<usize>
     requires { Fine k }
     ensures { result ≡ next_open k choices }
 {
-    let at = (k.group - 1) as usize;
-    let own = choices[at];
-    if is_open(own) {
-        return Found::At(k.group);
+    if is_open(own_choice(k, choices)) {
+        return Some(k.group as usize);
     }
-    let mut j = 0;
-    while j < GROUPS {
-        let choice = choices[j];
-        if is_open(choice) {
-            return Found::At((j + 1) as u32);
+    for (j, choice) in choices.iter().enumerate() {
+        if is_open(*choice) {
+            return Some(j + 1);
         }
-        j += 1;
     }
-    Found::Nothing
+    None
 }
 
 // The first alignment of a group at or after a tick, in its first cycle: nothing new comes after it (`visits-again`, alignment_walk Laws/Walk; `more_turn`,
 // bus_model Theory/OpenGroups).
-pub fn next_of(rows: &[u32], prepared: &[u32], target: Target, group: usize, after: u32) -> Found
-    requires prepared { Prepared rows.now prepared.now target.frame }
-    requires le_group { (1 ≤ group) × (group ≤ 16) × (after ≤ turn (table_of rows.now prepared.now) target.frame group) }
-    ensures { result ≡ least (is_alignment (table_of rows.now prepared.now) target.frame group) (turn (table_of rows.now prepared.now) target.frame group - after) after }
+pub fn next_of(rows: &[u32], prepared: &[u32], k: Frame, group: usize, after: u32) -> Option<u32>
+    requires prepared { Prepared rows.now prepared.now k }
+    requires le_group { (1 ≤ group) × (group ≤ 16) × (after ≤ turn (table_of rows.now prepared.now) k group) }
+    ensures { result ≡ least (is_alignment (table_of rows.now prepared.now) k group) (turn (table_of rows.now prepared.now) k group - after) after }
 {
     let at = group - 1;
     let part = part_of(prepared, at);
@@ -58,14 +52,10 @@ pub fn next_of(rows: &[u32], prepared: &[u32], target: Target, group: usize, aft
 }
 
 // Whether a group has no alignment after a, in its first cycle. Where that is its first, nothing is left to choose.
-pub fn is_last(rows: &[u32], prepared: &[u32], target: Target, group: usize, a: u32) -> bool
-    requires prepared { Prepared rows.now prepared.now target.frame }
-    requires le_group { (1 ≤ group) × (group ≤ 16) × (a < turn (table_of rows.now prepared.now) target.frame group) }
-    ensures { result ≡ is_none (least (is_alignment (table_of rows.now prepared.now) target.frame group) (turn (table_of rows.now prepared.now) target.frame group - (a + 1)) (a + 1)) }
+pub fn is_last(rows: &[u32], prepared: &[u32], k: Frame, group: usize, a: u32) -> bool
+    requires prepared { Prepared rows.now prepared.now k }
+    requires le_group { (1 ≤ group) × (group ≤ 16) × (a < turn (table_of rows.now prepared.now) k group) }
+    ensures { result ≡ is_none (least (is_alignment (table_of rows.now prepared.now) k group) (turn (table_of rows.now prepared.now) k group - (a + 1)) (a + 1)) }
 {
-    let found = next_of(rows, prepared, target, group, a + 1);
-    match found {
-        Found::At(_) => false,
-        Found::Nothing => true,
-    }
+    next_of(rows, prepared, k, group, a + 1).is_none()
 }

@@ -3,12 +3,12 @@ ghost use Rattle.std.specs.Prelude.{◌≡◌, ◌+◌, ◌*◌, ◌≤◌, ◌<
 ghost use Rattle.bus_model.specs.Bounds.{alignments, or_empty};
 ghost use Rattle.bus_model.specs.Judgement.{deepest_level};
 ghost use Rattle.bus_model.specs.Theory.LevelSearch.{group_at};
-ghost use Rattle.workload.specs.Prepared.{Fine, table_of, Prepared};
+ghost use Rattle.workload.specs.Prepared.{Fine, Prepared, table_of};
 
 use alignment_walk::count_alignments;
 use arith::product;
 use bus_model::Frame;
-use workload::{GROUPS, Target, hyperperiod_of, part_of};
+use workload::{GROUPS, hyperperiod_of, part_of};
 
 // No more scenarios are looked at.
 const SCENARIO_LIMIT: u32 = 65_536;
@@ -20,19 +20,14 @@ pub const LAST_LEVEL: usize = GROUPS - 1;
 fn cut_product(a: u32, b: u32) -> u32
     ensures { result ≡ min 65537 (a * b) }
 {
-    let whole = product(a, b);
-    if (SCENARIO_LIMIT as u64) < whole {
-        SCENARIO_LIMIT + 1
-    } else {
-        whole as u32
-    }
+    product(a, b).min(SCENARIO_LIMIT as u64 + 1) as u32
 }
 
 // The number of alignments of a group, an empty one counting 1.
-fn alignment_count(rows: &[u32], prepared: &[u32], target: Target, group: usize) -> u32
-    requires prepared { Prepared rows.now prepared.now target.frame }
+fn alignment_count(rows: &[u32], prepared: &[u32], k: Frame, group: usize) -> u32
+    requires prepared { Prepared rows.now prepared.now k }
     requires le_group { (1 ≤ group) × (group ≤ 16) }
-    ensures { result ≡ length (or_empty (alignments (table_of rows.now prepared.now) target.frame group)) }
+    ensures { result ≡ length (or_empty (alignments (table_of rows.now prepared.now) k group)) }
 {
     let at = group - 1;
     let part = part_of(prepared, at);
@@ -53,22 +48,19 @@ fn group_at(k: Frame, level: usize) -> usize
 }
 
 // The deepest level whose product of fixed alignments is within the limit. The first fixes the target's own group, each other one group more.
-pub fn deepest_level(rows: &[u32], prepared: &[u32], target: Target) -> usize
-    requires prepared { Prepared rows.now prepared.now target.frame }
-    requires fine { Fine target.frame }
-    ensures { result ≡ deepest_level (table_of rows.now prepared.now) target.frame }
+pub fn deepest_level(rows: &[u32], prepared: &[u32], k: Frame) -> usize
+    requires prepared { Prepared rows.now prepared.now k }
+    requires fine { Fine k }
+    ensures { result ≡ deepest_level (table_of rows.now prepared.now) k }
 {
-    let k = target.frame;
     let own = k.group as usize;
-    let mut product = cut_product(1, alignment_count(rows, prepared, target, own));
-    let mut level = 0;
-    while level < LAST_LEVEL {
+    let mut product = cut_product(1, alignment_count(rows, prepared, k, own));
+    for level in 0..LAST_LEVEL {
         let group = group_at(k, level + 1);
-        product = cut_product(product, alignment_count(rows, prepared, target, group));
+        product = cut_product(product, alignment_count(rows, prepared, k, group));
         if SCENARIO_LIMIT < product {
             return level;
         }
-        level += 1;
     }
-    level
+    LAST_LEVEL
 }

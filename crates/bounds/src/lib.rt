@@ -12,7 +12,7 @@ pub use case::first_case;
 pub use deciding::find;
 
 // The bound that decides about a claim.
-#[derive(Drop)]
+#[derive(Clone, Copy)]
 pub enum Bound {
     // For some alignment of the frame's own group the approximate bound has no busy window.
     NoWindow,

@@ -3,43 +3,34 @@ ghost use Rattle.std.specs.Prelude.{◌≡◌};
 ghost use Rattle.bus_model.specs.Bounds.{busy_window};
 ghost use Rattle.bus_model.specs.Judgement.{lacks_window};
 ghost use Rattle.bus_model.specs.Theory.Refine.{free};
-ghost use Rattle.workload.specs.Prepared.{table_of};
-ghost use Rattle.greatest_work.specs.Ready.{Ready};
+ghost use Rattle.greatest_work.specs.Setting.{frames, Remembers};
 
 use crate::alignments::{next_of, with_choice};
-use arith::{Found, or_zero};
 use bus_model::Choice;
+use greatest_work::Setting;
 use response_time::busy_window;
-use workload::Target;
 
 // Whether some alignment of the target's own group has no busy window, every other group being open. Where there is one with all
 // groups open, each has one, and none is longer.
-pub fn lacks_window(
-    rows: &[u32],
-    prepared: &[u32],
-    target: Target,
-    limit: Found,
-    memory: &mut [u64],
-) -> bool
-    requires ready_2 { Ready rows.now prepared.now target memory.old }
-    requires limit_value { limit ≡ busy_window target.faults (table_of rows.now prepared.now) target.frame free }
-    ensures value { result ≡ lacks_window target.faults (table_of rows.now prepared.now) target.frame }
-    ensures ready { Ready rows.now prepared.now target memory.new }
+pub fn lacks_window(setting: &Setting, limit: Option<u32>, memory: &mut [u64]) -> bool
+    requires remembered { Remembers setting.now memory.old }
+    requires limit_value { limit ≡ busy_window setting.now.target.faults (frames setting.now) setting.now.target.frame free }
+    ensures value { result ≡ lacks_window setting.now.target.faults (frames setting.now) setting.now.target.frame }
+    ensures remembered { Remembers setting.now memory.new }
 {
-    if let Found::At(_) = limit {
+    if limit.is_some() {
         return false;
     }
-    let k = target.frame;
+    let k = setting.target.frame;
     let own = k.group as usize;
-    let mut a = or_zero(next_of(rows, prepared, target, own, 0));
-    loop {
+    let mut a = next_of(setting.rows, setting.prepared, k, own, 0).unwrap_or(0);
+    // No range: the next alignment is looked for.
+    'alignments: loop {
         let choices = with_choice([Choice::Any; 16], own, a);
-        let found = busy_window(rows, prepared, target, choices, memory);
-        let Found::At(_) = found else {
+        if busy_window(setting, choices, memory).is_none() {
             return true;
-        };
-        let next = next_of(rows, prepared, target, own, a + 1);
-        let Found::At(b) = next else {
+        }
+        let Some(b) = next_of(setting.rows, setting.prepared, k, own, a + 1) else {
             return false;
         };
         a = b;

@@ -4,9 +4,8 @@ use Rattle.arith.specs.Lists.{exists, range}
 use Rattle.arith.specs.Least.{least}
 use Rattle.table_checks.specs.Frames.{standard_lengths, frames_of, frame_at, priority_of, largest_length}
 use Rattle.bus_log.specs.declared.Line.{Line}
-use Rattle.bus_log.specs.declared.Followed.{Followed}
 use Rattle.bus_log.specs.Log.{row_of, found_or, is_named}
-use Rattle.bus_log.specs.Follow.{follow_log, start_shown, follow, is_allowed, is_due, due_with, is_told, row_hinders, hinders, is_against, due_next, due_after, earliest, starts_after, advance, entry_of}
+use Rattle.bus_log.specs.Follow.{Followed, follow_log, start_shown, follow, is_allowed, is_due, due_with, is_told, row_hinders, hinders, is_against, due_next, due_after, earliest, starts_after, advance, entry_of}
 
 -- identifier 5 of group 1 at offset 0, and identifier 3 of group 2, which goes first, at offset 10
 unfoldable table : List ℕ

@@ -2,14 +2,13 @@
 -- A group's first line is instance 0 of its frame, and so tells the group's start. Until then only this matters of the group: no row
 -- of it may have waited while the bus was free, nor while a frame ranked below it started. `Progress` keeps the earliest first release
 -- that this leaves, so one pass finds the shortest beginning that fails.
-use Rattle.std.specs.Prelude.{ℕ, suc, ◌+◌, ◌-◌, max, Bool, true, false, cond, not, ◌&&◌, ◌||◌, List, [], ◌∷◌, map, leb, ltb, eqb, length, get_or, set, replicate}
+use Rattle.std.specs.Prelude.{ℕ, suc, ◌+◌, ◌-◌, max, Bool, true, false, cond, not, ◌&&◌, ◌||◌, List, [], ◌∷◌, map, leb, ltb, eqb, length, get_or, set, replicate, Result, Ok, Err}
 use Rattle.arith.specs.Lists.{exists, range}
 use Rattle.bus_model.specs.Frame.{row}
 use Rattle.bus_model.specs.declared.Frame.{Frame}
 use Rattle.bus_log.specs.declared.Line.{Line}
 use Rattle.bus_log.specs.declared.Entry.{Entry}
 use Rattle.bus_log.specs.declared.Progress.{Progress}
-use Rattle.bus_log.specs.declared.Followed.{Followed}
 use Rattle.bus_log.specs.Log.{row_of}
 
 -- ---- lines as entries
@@ -123,10 +122,16 @@ advance fs p e =
 
 -- ---- a line followed, after n others
 
-unfoldable pub follow_line : List Frame → Progress → ℕ → Entry → Followed
-follow_line fs p n e = cond (is_allowed fs p e) (record { place = 0; progress = advance fs p e }) (record { place = n + 1; progress = p })
+unfoldable pub follow_line : List Frame → Progress → ℕ → Entry → Result Progress ℕ
+follow_line fs p n e = cond (is_allowed fs p e) (Ok (advance fs p e)) (Err (n + 1))
 
 -- ---- all lines, where n lines were before
+
+-- how a log was followed: 0, or the first line that no starts allow, counted from 1; and what the lines before it say, which shows that
+-- a shorter beginning has starts
+pub record Followed : Type 0 where
+  pub place : ℕ
+  pub progress : Progress
 
 unfoldable pub follow : List Frame → Progress → ℕ → List Entry → Followed
 follow fs p n [] = record { place = 0; progress = p }

@@ -1,11 +1,9 @@
 -- What it means that a log is accepted (document 02, request 10).
 -- `t` holds the table's numbers, in which a line's frame is found by identifier and kind, and `fs` its frames.
-use Rattle.std.specs.Prelude.{ℕ, ◌+◌, ◌-◌, ◌/◌, ◌≤◌, ◌<◌, ◌≡◌, Bool, cond, ◌&&◌, eqb, length, get_or, take}
+use Rattle.std.specs.Prelude.{ℕ, ◌+◌, ◌-◌, ◌/◌, ◌≤◌, ◌<◌, ◌≡◌, Bool, cond, ◌&&◌, eqb, length, get_or, take, Option, Some, None}
 use mathlib.Core.List.{List, [], ◌∷◌, map, Memᴰ as Mem}
 use Rattle.arith.specs.Lists.{range}
 use Rattle.arith.specs.Least.{least}
-use Rattle.arith.specs.declared.Found.{Found}
-use Rattle.arith.specs.declared.Found.TheVariants.{At, Nothing}
 use Rattle.bus_model.specs.Frame.{row}
 use Rattle.bus_model.specs.Release.{release}
 use Rattle.bus_model.specs.Bus.{Transmission, Schedule}
@@ -83,9 +81,9 @@ pub record ShownStarts (fs : List Frame) (t : List ℕ) (log : List Line) (shown
 unfoldable pub is_named : List ℕ → Line → ℕ → Bool
 is_named t l i = eqb (field t i identifier_column) l.identifier && eqb (field t i kind_column) l.kind
 
-unfoldable pub found_or : ℕ → Found → ℕ
-found_or n (At i) = i
-found_or n Nothing = n
+unfoldable pub found_or : ℕ → Option ℕ → ℕ
+found_or n (Some i) = i
+found_or n None = n
 
 unfoldable pub row_of : List ℕ → Line → ℕ
 row_of t l = found_or (length t / columns) (least (is_named t l) (length t / columns) 0)

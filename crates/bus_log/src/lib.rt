@@ -31,16 +31,10 @@ pub struct Progress {
     // The last end: the tick from which the bus is free.
     pub free: u64,
     // For each group, at its number, whether it has a line, and then its start.
+    // Two arrays, as what a line tells is defined on them (`starts_after`).
     pub seen: [bool; 17],
     pub starts: [u64; 17],
     // For each row the release of its next instance; before its group has a line, the earliest tick
     // at which its first instance may be released.
     pub due: [u64; 64],
-}
-
-// How a log was followed: 0, or the first line that no starts allow, counted from 1; and what the lines before it say.
-#[derive(Drop)]
-pub struct Followed {
-    pub place: usize,
-    pub progress: Progress,
 }

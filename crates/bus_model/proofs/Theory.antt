@@ -26,6 +26,7 @@ pub mod Uncut
 pub mod Finding
 -- the case that breaks a claim
 pub mod Cases
+pub mod NoCase
 -- the last frame's precise bound is reached
 pub mod Elapsed
 pub mod Meeting

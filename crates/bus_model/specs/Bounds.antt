@@ -1,14 +1,12 @@
 -- The bounds of a frame k of the table fs (document 01, "The bounds"), under a premise about faults (document 02, request 9), which is
 -- `Never` in document 01.
 -- The precise and the approximate bound take the greatest response over scenarios; they differ only in which scenarios these are.
-use Rattle.std.specs.Prelude.{ℕ, suc, ◌+◌, ◌-◌, ◌*◌, ◌%◌, List, [], ◌∷◌, map, Bool, true, false, ◌&&◌, leb, ltb, eqb, length, get_or}
+use Rattle.std.specs.Prelude.{ℕ, suc, ◌+◌, ◌-◌, ◌*◌, ◌%◌, List, [], ◌∷◌, map, Bool, true, false, ◌&&◌, leb, ltb, eqb, length, get_or, Option, Some, None}
 use Rattle.arith.specs.Lists.{sum, product, greatest, keep, exists, range, combinations}
 use Rattle.arith.specs.Least.{least, or_zero}
 use Rattle.arith.specs.Releases.{releases_before}
 use Rattle.bus_model.specs.Pattern.{of_group, hyperperiod}
 use Rattle.bus_model.specs.Bus.{signalling}
-use Rattle.arith.specs.declared.Found.{Found}
-use Rattle.arith.specs.declared.Found.TheVariants.{At, Nothing}
 use Rattle.bus_model.specs.declared.Frame.{Frame}
 use Rattle.bus_model.specs.declared.Faults.{Faults}
 use Rattle.bus_model.specs.declared.Faults.TheVariants.{Never, Apart}
@@ -141,7 +139,7 @@ module _ (faults : Faults) where
   window_load fs k cs l = blocking fs k + work fs k (ahead fs k) cs l + fault_load faults fs k l
 
   -- "window" L: the least l, 1 or more, whose load is at most l
-  unfoldable pub busy_window : List Frame → Frame → List Choice → Found
+  unfoldable pub busy_window : List Frame → Frame → List Choice → Option ℕ
   busy_window fs k cs = least (λ l. leb (window_load fs k cs l) l) window_limit 1
 
   -- B + q×C of k + the C's of better frames queued in 0..w, where one queued at w still wins; document 01's q is this one plus 1;
@@ -151,7 +149,7 @@ module _ (faults : Faults) where
 
   -- "start" of instance q of k: the least w, 0 or more, whose load is at most w; each instance of a window has one below the limit
   -- (Theory/Response.antt, delay-within)
-  unfoldable pub queueing_delay : List Frame → Frame → List Choice → ℕ → Found
+  unfoldable pub queueing_delay : List Frame → Frame → List Choice → ℕ → Option ℕ
   queueing_delay fs k cs q = least (λ w. leb (delay_load fs k cs q w) w) window_limit 0
 
   -- "response" of instance q of k: w + C of k - d - q×p, which is never cut at 0 (Theory/Response.antt, response-whole)
@@ -164,7 +162,7 @@ module _ (faults : Faults) where
 
   -- that of the scenario's window, 0 where it has none
   unfoldable pub scenario_response : List Frame → Frame → List Choice → ℕ
-  scenario_response fs k cs = elim (busy_window fs k cs) [ At l ↦ response_time fs k cs l | Nothing ↦ 0 ]
+  scenario_response fs k cs = elim (busy_window fs k cs) [ Some l ↦ response_time fs k cs l | None ↦ 0 ]
 
   -- ---- the bounds
 

@@ -1,10 +1,8 @@
 -- The bus rule: what a schedule is, and what it means that a frame meets its claim (document 01, "The bus rule"); with faults
 -- that cut transmissions (document 02, request 9), of which document 01 has none.
 -- `starts j` is when group j starts; `sent i` is how many instances of row i have started and were not cut, older ones first.
-use Rattle.std.specs.Prelude.{ℕ, suc, ◌+◌, ◌≤◌, ◌<◌, ◌≡◌, cond, eqb, length}
+use Rattle.std.specs.Prelude.{ℕ, suc, ◌+◌, ◌≤◌, ◌<◌, ◌≡◌, cond, eqb, length, Option, Some, None}
 use mathlib.Core.List.{List, [], ◌∷◌, Memᴰ as Mem}
-use Rattle.arith.specs.declared.Found.{Found}
-use Rattle.arith.specs.declared.Found.TheVariants.{At, Nothing}
 use Rattle.bus_model.specs.Frame.{row}
 use Rattle.bus_model.specs.Release.{release}
 use Rattle.bus_model.specs.declared.Frame.{Frame}
@@ -18,7 +16,7 @@ pub record Transmission : Type 0 where
   pub instance : ℕ  -- which release of the frame, from 0
   pub start : ℕ
   pub length : ℕ
-  pub fault : Found  -- the tick in which a fault begins, or nothing
+  pub fault : Option ℕ  -- the tick in which a fault begins, or nothing
 
 -- one more instance of row i has started
 unfoldable pub one_more : (ℕ → ℕ) → ℕ → ℕ → ℕ
@@ -43,7 +41,7 @@ pub record Next (fs : List Frame) (starts sent : ℕ → ℕ) (free : ℕ) (x : 
   pub best : (i : ℕ) → Waiting fs starts sent x.start i → (row fs x.frame).priority ≤ (row fs i).priority
   pub positive : 1 ≤ x.length
   pub fits : x.length ≤ (row fs x.frame).length
-  pub hit : (f : ℕ) → x.fault ≡ At f → (x.start ≤ f) × (f < x.start + x.length)
+  pub hit : (f : ℕ) → x.fault ≡ Some f → (x.start ≤ f) × (f < x.start + x.length)
 
 -- how many ticks of signalling follow a fault's tick
 abbrev pub signalling : ℕ
@@ -51,11 +49,11 @@ signalling = 31
 
 -- When the bus is free again: where the transmission ends, or after a fault's tick and the signalling.
 unfoldable pub free_after : Transmission → ℕ
-free_after x = elim x.fault [ Nothing ↦ x.start + x.length | At f ↦ suc f + signalling ]
+free_after x = elim x.fault [ None ↦ x.start + x.length | Some f ↦ suc f + signalling ]
 
 -- What is sent then: one more instance, but if the transmission is cut its instance still waits.
 unfoldable pub sent_after : (ℕ → ℕ) → Transmission → ℕ → ℕ
-sent_after sent x = elim x.fault [ Nothing ↦ one_more sent x.frame | At f ↦ sent ]
+sent_after sent x = elim x.fault [ None ↦ one_more sent x.frame | Some f ↦ sent ]
 
 -- The list is all that starts before tick T, where the bus is free from `free` on. Each transmission finds the bus and the
 -- queue as the one before left them; when the list is over, nothing waits any more before T.
@@ -66,7 +64,7 @@ Runs fs starts T sent free (x ∷ xs) =
 
 -- A fault of the list begins in tick f.
 abbrev pub FaultIn : List Transmission → ℕ → Type 0
-FaultIn xs f = (x : Transmission) × Mem x xs × (x.fault ≡ At f)
+FaultIn xs f = (x : Transmission) × Mem x xs × (x.fault ≡ Some f)
 
 -- The faults of the list come as the premise says: never, or at least g ticks apart.
 unfoldable pub Keeps : Faults → List Transmission → Type 0
@@ -83,7 +81,7 @@ pub record Finished (xs : List Transmission) (k n limit : ℕ) : Type 0 where
   pub listed : Mem sent xs
   pub frame : sent.frame ≡ k
   pub instance : sent.instance ≡ n
-  pub whole : sent.fault ≡ Nothing
+  pub whole : sent.fault ≡ None
   pub ended : sent.start + sent.length ≤ limit
 
 -- Document 01's demand 3 for one row: in every schedule under the premise, each instance whose claim has run out by T is finished within its claim.

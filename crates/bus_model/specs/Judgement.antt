@@ -1,8 +1,7 @@
 -- The judgement of the claim of a frame k of the table fs (document 01, "Judgement").
 -- "The answer is one of a few named outcomes"; "it stands in a record beside the bound used and the margin".
-use Rattle.std.specs.Prelude.{ℕ, ◌≡◌, List, Bool, cond, ◌||◌, ◌↔◌, ◌⊎◌, eqb, leb, ltb, ℤ, pos, ◌-ℤ◌, ◌<ℤ◌}
+use Rattle.std.specs.Prelude.{ℕ, ◌≡◌, List, Bool, cond, ◌||◌, ◌↔◌, ◌⊎◌, eqb, leb, ltb, ℤ, pos, ◌-ℤ◌, ◌<ℤ◌, is_none}
 use Rattle.arith.specs.Lists.{greatest, keep, exists, range}
-use Rattle.arith.specs.Least.{is_none}
 use Rattle.bus_model.specs.Bounds.{groups, busy_window, scenarios, own_group, approximate_bound, precise_bound, scenario_count}
 use Rattle.bus_model.specs.Levels.{level_bound, level_count}
 use Rattle.bus_model.specs.declared.Frame.{Frame}

@@ -1,15 +1,15 @@
 -- The last frame's worst case (document 02, request 14): the starts, the lengths and the instance with which its precise
 -- bound is its response time. Theory/Reached.antt proves that it is.
-use Rattle.std.specs.Prelude.{ℕ, ◌+◌, ◌-◌, ◌≤◌, ◌<◌, ◌≡◌, Bool, leb, length, get_or}
+use Rattle.std.specs.Prelude.{ℕ, ◌+◌, ◌-◌, ◌≤◌, ◌<◌, ◌≡◌, Bool, leb, Option, length, get_or, is_none}
 use mathlib.Core.List.{List, map, Memᴰ as Mem}
 use Rattle.arith.specs.Lists.{greatest}
-use Rattle.arith.specs.Least.{least, or_zero, is_none}
+use Rattle.arith.specs.Least.{least, or_zero}
 use Rattle.arith.specs.Releases.{releases_before}
 use Rattle.bus_model.specs.Frame.{row}
 use Rattle.bus_model.specs.Release.{release}
 use Rattle.bus_model.specs.Bus.{Transmission, Schedule}
 use Rattle.bus_model.specs.Bounds.{precise_bound}
-use Rattle.bus_model.specs.Case.{first_case}
+use Rattle.bus_model.specs.Case.{alignments_of, instance_of, first_case}
 use Rattle.bus_model.specs.declared.Frame.{Frame}
 use Rattle.bus_model.specs.declared.Faults.TheVariants.{Never}
 use Rattle.bus_model.specs.declared.Case.{Case}
@@ -32,7 +32,7 @@ all_early fs = is_none (least (λ i. leb (row fs i).period (row fs i).offset) (l
 
 -- The worst case is the first that breaks a claim of a tick less than the precise bound (Case.antt): a scenario in which a response is
 -- that bound, and the number of the instance whose response it is.
-unfoldable pub worst_case : List Frame → Frame → Case
+unfoldable pub worst_case : List Frame → Frame → Option Case
 worst_case fs k = first_case Never fs k (precise_bound Never fs k - 1)
 
 -- of a list of 16 numbers, one for each group from 1 on, that of group j
@@ -48,14 +48,14 @@ unfoldable pub starts_of : List ℕ → List ℕ
 starts_of als = let meeting = meeting_tick als in map (λ a. meeting - a) als
 
 unfoldable pub worst_starts : List Frame → Frame → List ℕ
-worst_starts fs k = starts_of (worst_case fs k).alignments
+worst_starts fs k = starts_of (alignments_of (worst_case fs k))
 
 -- which instance of k is number q, from 1, of those released at the meeting tick or later, where its group's alignment is a
 unfoldable pub instance_from : Frame → ℕ → ℕ → ℕ
 instance_from k a q = releases_before k.offset k.period a + (q - 1)
 
 unfoldable pub worst_instance : List Frame → Frame → ℕ
-worst_instance fs k = let c = worst_case fs k in instance_from k (for_group c.alignments k.group) (or_zero c.instance)
+worst_instance fs k = let c = worst_case fs k in instance_from k (for_group (alignments_of c) k.group) (instance_of c)
 
 -- ---- the statement
 

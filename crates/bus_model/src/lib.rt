@@ -1,8 +1,6 @@
 // The types that the definitions in specs/ share with the code of the crates above.
 #![tactic(auto)]
 
-use arith::Found;
-
 // A frame of the table, by the numbers that the bus rule and the bounds read.
 #[derive(Clone, Copy)]
 pub struct Frame {
@@ -20,6 +18,7 @@ pub struct Frame {
 
 // A group's part in a scenario: whichever of its alignments gives the greatest sum, chosen anew at each tick,
 // or one of them.
+// No Option: `None` would have to be read as any alignment wherever it stands.
 #[derive(Clone, Copy)]
 pub enum Choice {
     Any,
@@ -28,6 +27,7 @@ pub enum Choice {
 
 // A premise about faults on the bus (document 02, request 9): none ever begins, or they begin at least so many
 // ticks apart.
+// No Option: the theorems name the premise (`certified-meets` is the case Never).
 #[derive(Clone, Copy)]
 pub enum Faults {
     Never,
@@ -50,7 +50,7 @@ pub enum Outcome {
 }
 
 // The outcome beside the bound used and the margin.
-#[derive(Drop)]
+#[derive(Clone, Copy)]
 pub struct Judgement {
     pub outcome: Outcome,
     pub bound: u32,
@@ -58,9 +58,9 @@ pub struct Judgement {
 }
 
 // The case that breaks a claim: the alignment of each group from 1 on, an empty one as 0, and the first instance whose response exceeds the
-// claim, counted from 1. Where there is none, the instance is nothing and the alignments are 0.
-#[derive(Drop)]
+// claim, counted from 1.
+#[derive(Clone, Copy)]
 pub struct Case {
-    pub instance: Found,
+    pub instance: u32,
     pub alignments: [u32; 16],
 }

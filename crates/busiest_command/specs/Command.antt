@@ -1,14 +1,13 @@
 -- The command busiest: its width, and what it prints (document 02, request 11).
-use Rattle.std.specs.Prelude.{ℕ, cond, List, eqb}
+use Rattle.std.specs.Prelude.{ℕ, cond, List, eqb, Option, Result, Ok}
+use Rattle.table_checks.specs.declared.Refusal.{Refusal}
 use Rattle.decimal.specs.Decimal.{read_column}
-use Rattle.table_checks.specs.declared.Checked.TheVariants.{Passed}
 use Rattle.frame_table.specs.Text.{fields_of}
 use Rattle.frame_table.specs.Table.{Answered as Returned, answer_for, area_after}
 use Rattle.log_check.specs.Check.{lines_of}
 use Rattle.log_load.specs.Sheet.{sheet_of}
 use Rattle.log_load.specs.Returns.{file_returns}
 use Rattle.certifier.specs.Listing.{refusal_line}
-use Rattle.certifier.specs.declared.Reply.{Reply}
 use Rattle.certifier.specs.Reply.{reply_to, area_to}
 
 -- the sheet, or number and place of a refusal
@@ -20,10 +19,10 @@ unfoldable pub text_for : List ℕ → List ℕ → List ℕ → ℕ → List �
 text_for lengths table log w old = text_of (file_returns lengths table log w old) (sheet_of (fields_of table) (lines_of log) w)
 
 -- the width is the argument
-abbrev pub reply_for : List ℕ → List ℕ → List ℕ → List ℕ → List ℕ → Reply
-reply_for lengths table log width old = reply_to (read_column width) (λ w. answer_for Passed (text_for lengths table log w old) old)
+abbrev pub reply_for : List ℕ → List ℕ → List ℕ → List ℕ → List ℕ → Option (Result ℕ Refusal)
+reply_for lengths table log width old = reply_to (read_column width) (λ w. answer_for (Ok tt) (text_for lengths table log w old) old)
 
 -- the area afterwards
 abbrev pub area_left : List ℕ → List ℕ → List ℕ → List ℕ → List ℕ → List ℕ
 area_left lengths table log width old =
-    area_to (read_column width) (λ w. area_after (answer_for Passed (text_for lengths table log w old) old) (text_for lengths table log w old) old) old
+    area_to (read_column width) (λ w. area_after (answer_for (Ok tt) (text_for lengths table log w old) old) (text_for lengths table log w old) old) old

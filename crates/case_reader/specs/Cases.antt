@@ -1,13 +1,11 @@
 -- The parts of a case: numbers in columns, a payload that is read, and the numbers of a payload.
-use Rattle.std.specs.Prelude.{ℕ, ◌+◌, ◌*◌, ◌/◌, ◌≤◌, ◌<◌, ◌≡◌, Bool, true, List, map, length, get_or, drop}
+use Rattle.std.specs.Prelude.{ℕ, ◌+◌, ◌*◌, ◌/◌, ◌≤◌, ◌<◌, ◌≡◌, Bool, true, List, map, length, get_or, drop, Option, Some, None}
 use Rattle.arith.specs.Lists.{range}
-use Rattle.decimal.specs.declared.Column.{Column}
-use Rattle.decimal.specs.declared.Column.TheVariants.{Value, Broken}
 
 -- the number in a column, or 0
-abbrev pub number_in : Column → ℕ
-number_in (Value n) = n
-number_in Broken = 0
+abbrev pub number_in : Option ℕ → ℕ
+number_in (Some n) = n
+number_in None = 0
 
 -- what is read is free; it is told only where there is room for it, and nothing besides is touched
 pub record PayloadRead (size : ℕ) (before after : List ℕ) (done : Bool) : Type 0 where

@@ -1,5 +1,5 @@
 // Cases of the test programs on standard input: a header of 18 bytes, a letter, two numbers of 8 columns
-// each and a line feed, and then as many bytes as the second number says.
+// each and a line feed, and then a payload of as many bytes as the second number says.
 #![tactic(auto)]
 
 ghost use Rattle.std.specs.Prelude.{◌≡◌, ◌/◌, min, ◌++◌, true, length, take, drop};
@@ -7,23 +7,35 @@ ghost use Rattle.std.specs.Io.KnownBytes.{Consumes};
 ghost use Rattle.decimal.specs.Decimal.{read_column};
 ghost use Rattle.case_reader.specs.Cases.{number_in, PayloadRead, word_of, words_of};
 
-use decimal::Column;
 use std::io::Read;
 
 // So many cases are read at the most.
-pub const MOST_CASES: usize = 100_000;
+const MOST_CASES: usize = 100_000;
 
-pub const HEADER: usize = 18;
+const HEADER: usize = 18;
+
+// Runs a case after the other, until the input ends or a payload has no room in the buffer: the letter, the first number and the payload.
+pub fn run_cases<R: Read, F: FnMut(u8, u64, &[u8])>(input: &mut R, buffer: &mut [u8], mut run: F)
+    requires { F.IsAlwaysCallable run }
+{
+    for _ in 0..MOST_CASES {
+        let mut header = [0u8; HEADER];
+        if input.read_exact(&mut header).is_err() {
+            return;
+        }
+        let size = number(&header[9..17]) as usize;
+        if !read_payload(input, size, buffer) {
+            return;
+        }
+        run(header[0], number(&header[1..9]), &buffer[..size]);
+    }
+}
 
 // The number in a column, or 0.
 pub fn number(s: &[u8]) -> u64
     ensures { result ≡ number_in (read_column s.now) }
 {
-    let column = decimal::read(s);
-    match column {
-        Column::Value(n) => n,
-        Column::Broken => 0,
-    }
+    decimal::read(s).unwrap_or(0)
 }
 
 // Reads so many bytes of the input; false where there are fewer or no room for them.
@@ -43,24 +55,33 @@ pub fn unpack(payload: &[u8], rows: &mut [u32]) -> usize
     ensures value { result ≡ min (length rows.old) (length payload.now / 4) }
     ensures rows_after { rows.new ≡ take result (words_of payload.now) ++ drop result rows.old }
 {
-    let mut i = 0;
-    while i < rows.len() {
-        if payload.len() / 4 <= i {
-            return i;
-        }
+    let count = rows.len().min(payload.len() / 4);
+    for i in 0..count {
         rows[i] = word(
             payload[4 * i],
             payload[4 * i + 1],
             payload[4 * i + 2],
             payload[4 * i + 3],
         );
-        i += 1;
     }
-    i
+    count
 }
 
 fn word(a: u8, b: u8, c: u8, d: u8) -> u32
     ensures { result ≡ word_of a b c d }
 {
-    a as u32 + 256 * b as u32 + 65_536 * c as u32 + 16_777_216 * d as u32
+    u32::from_le_bytes([a, b, c, d])
+}
+
+// Prints what a command has written, nothing where it has no room, or that an argument is malformed.
+pub fn print_reply<E: Copy>(rt: &impl Print, reply: Option<Result<usize, E>>, text: &[u8]) {
+    let Some(answer) = reply else {
+        let _ = rt.write_all(b"malformed\n");
+        return;
+    };
+    if let Ok(n) = answer {
+        if let Some(written) = text.get(..n) {
+            let _ = rt.write_all(written);
+        }
+    }
 }

@@ -2,7 +2,9 @@
 pub mod Small
 pub mod Encoding
 pub mod Listing
+pub mod Input
 pub mod Answers
+pub mod Counted
 pub mod FaultsListing
 pub mod SimulateEntry
 pub mod Before

@@ -1,74 +1,47 @@
 // The entries for C: lengths and a table as bytes, and one signed number as the answer.
-ghost use Rattle.std.specs.Prelude.{◌≡◌, ℕ, ◌+◌, ◌*◌, ◌≤◌, pos, ◌+ℤ◌, neg_ℤ};
-ghost use Rattle.table_checks.specs.Checks.{Loadable};
+ghost use Rattle.std.specs.Prelude.{◌≡◌, ◌+◌, ◌*◌, pos, neg_ℤ, Ok};
 ghost use Rattle.frame_table.specs.Text.{fields_of};
-ghost use Rattle.frame_table.specs.Table.{read_check, area_after};
+ghost use Rattle.frame_table.specs.Table.{area_after};
 ghost use Rattle.lengths_file.specs.Lengths.{lengths_of};
-ghost use Rattle.row_judgement.specs.declared.Judged.TheVariants.{Verdict};
 ghost use Rattle.row_judgement.specs.Judge.{judge_row};
 ghost use Rattle.load_sheet.specs.Sheet.{sheet_of};
-ghost use Rattle.certifier.specs.Encode.{judge_read, judge_file, bound_read, bound_file, list_answer, sheet_answer, encode_refusal, encode_judged, encode_bounded, encode_answer};
+ghost use Rattle.certifier.specs.Encode.{judge_file, bound_file, list_answer, sheet_answer, encode_refusal, encode_judged, encode_bounded, encode_answer};
 ghost use Rattle.bus_model.specs.declared.Faults.TheVariants.{Never};
 ghost use Rattle.certifier.specs.Listing.{listing_of};
 ghost use Rattle.certifier.specs.Steps.{Encodable, Countable};
 
 use crate::listing::list;
 use bus_model::Judgement;
-use frame_table::Answer;
-use lengths_file::lengths_of;
-use row_judgement::{
-    Bounded, Judged, Refusal, bound_accepted, judge, judge_accepted, of_table, verdict,
-};
-use table_checks::Checked;
+use row_judgement::{Refusal, bound_accepted, judge, judge_accepted, verdict};
 
 // Judges the claim of a row of the table, by the lengths.
 pub fn certifier_judge(lengths: &[u8], table: &[u8], row: u64) -> i64
     ensures { result ≡ encode_judged (judge_file lengths.now table.now row) }
 {
-    let loaded = lengths_file::read(lengths);
-    let checked = loaded.checked;
-    match checked {
-        Checked::Failed(refusal) => encode_refusal(of_table(refusal)),
-        Checked::Passed => judge_table(lengths_of(loaded), table, row),
-    }
+    encode_judged(judge_file(lengths, table, row))
 }
 
-// Judges the claim of a row of the table, by lengths that were read.
-fn judge_table(lengths: [[u32; 9]; 2], table: &[u8], row: u64) -> i64
-    requires { Loadable lengths }
-    ensures { result ≡ encode_judged (judge_read (read_check table.now) lengths table.now row) }
+fn judge_file(lengths: &[u8], table: &[u8], row: u64) -> Result<Judgement, Refusal>
+    ensures { result ≡ judge_file lengths.now table.now row }
 {
     let mut rows = [0u32; table_checks::MOST_NUMBERS];
-    let answer = frame_table::read(table, &mut rows);
-    match answer {
-        Answer::Refused(refusal) => encode_refusal(of_table(refusal)),
-        Answer::Done(n) => encode_judged(judge_accepted(lengths, &rows[..n], row)),
-    }
+    let table = lengths_file::read_table(lengths, table, &mut rows)?;
+    judge_accepted(&table, row)
 }
 
 // The precise bound of a row of the table, by the lengths.
 pub fn certifier_precise_bound(lengths: &[u8], table: &[u8], row: u64) -> i64
     ensures { result ≡ encode_bounded (bound_file lengths.now table.now row) }
 {
-    let loaded = lengths_file::read(lengths);
-    let checked = loaded.checked;
-    match checked {
-        Checked::Failed(refusal) => encode_refusal(of_table(refusal)),
-        Checked::Passed => bound_table(lengths_of(loaded), table, row),
-    }
+    encode_bounded(bound_file(lengths, table, row))
 }
 
-// The precise bound of a row of the table, by lengths that were read.
-fn bound_table(lengths: [[u32; 9]; 2], table: &[u8], row: u64) -> i64
-    requires { Loadable lengths }
-    ensures { result ≡ encode_bounded (bound_read (read_check table.now) lengths table.now row) }
+fn bound_file(lengths: &[u8], table: &[u8], row: u64) -> Result<u32, Refusal>
+    ensures { result ≡ bound_file lengths.now table.now row }
 {
     let mut rows = [0u32; table_checks::MOST_NUMBERS];
-    let answer = frame_table::read(table, &mut rows);
-    match answer {
-        Answer::Refused(refusal) => encode_refusal(of_table(refusal)),
-        Answer::Done(n) => encode_bounded(bound_accepted(lengths, &rows[..n], row)),
-    }
+    let table = lengths_file::read_table(lengths, table, &mut rows)?;
+    bound_accepted(&table, row)
 }
 
 // Lists the judgements of the table, by the lengths, and answers the listing's length. A refusal leaves the output as it is.
@@ -98,65 +71,54 @@ pub fn encode_judgement_of(lengths: [[u32; 9]; 2], rows: &[u32], row: u64) -> i6
 pub fn encode_refusal(refusal: Refusal) -> i64
     ensures { result ≡ encode_refusal refusal }
 {
-    let cause = refusal.cause;
-    encode_turned(row_judgement::number(cause), refusal.place)
+    encode_turned(row_judgement::number(refusal.cause), refusal.place)
 }
 
 // Minus (number × 10000 + place).
 pub fn encode_turned(number: u32, place: u32) -> i64
     ensures { result ≡ neg_ℤ (pos (number * 10000 + place)) }
 {
-    let n = number as u64 * 10_000 + place as u64;
-    -(n as i64)
+    -(i64::from(number) * 10_000 + i64::from(place))
 }
 
 // The judgement in one number, or the refusal.
-pub fn encode_judged(judged: Judged) -> i64
+pub fn encode_judged(judged: Result<Judgement, Refusal>) -> i64
     requires { Encodable judged }
     ensures { result ≡ encode_judged judged }
 {
     match judged {
-        Judged::Verdict(judgement) => encode_judgement(judgement),
-        Judged::NotJudged(refusal) => encode_refusal(refusal),
+        Ok(judgement) => encode_judgement(judgement),
+        Err(refusal) => encode_refusal(refusal),
     }
 }
 
 // The bound, or the refusal.
-pub fn encode_bounded(bounded: Bounded) -> i64
+pub fn encode_bounded(bounded: Result<u32, Refusal>) -> i64
     ensures { result ≡ encode_bounded bounded }
 {
     match bounded {
-        Bounded::Bound(bound) => bound as i64,
-        Bounded::NotBounded(refusal) => encode_refusal(refusal),
+        Ok(bound) => i64::from(bound),
+        Err(refusal) => encode_refusal(refusal),
     }
 }
 
 // How many elements were written, or the refusal.
-pub fn encode_answer(answer: Answer) -> i64
+pub fn encode_answer(answer: Result<usize, table_checks::Refusal>) -> i64
     requires { Countable answer }
     ensures { result ≡ encode_answer answer }
 {
     match answer {
-        Answer::Done(n) => n as i64,
-        Answer::Refused(refusal) => encode_refusal(of_table(refusal)),
+        Ok(n) => n as i64,
+        Err(refusal) => encode_refusal(Refusal::from(refusal)),
     }
 }
 
 // Verdict × 10^14 + bound × 10^7 + margin + 10^6.
 fn encode_judgement(judgement: Judgement) -> i64
-    requires { Encodable (Verdict judgement) }
-    ensures { result ≡ encode_judged (Verdict judgement) }
+    requires { Encodable (Ok judgement) }
+    ensures { result ≡ encode_judged (Ok judgement) }
 {
-    let outcome = judgement.outcome;
-    let high = verdict(outcome) as u64 * 100_000_000_000_000 + judgement.bound as u64 * 10_000_000;
-    let low = shifted(judgement.margin);
-    (high + low) as i64
-}
-
-// The margin plus a million.
-fn shifted(margin: i64) -> u64
-    requires { (n : ℕ) × (pos 1000000 +ℤ margin ≡ pos n) × (n ≤ 2000000) }
-    ensures { (pos 1000000 +ℤ margin ≡ pos result) × (result ≤ 2000000) }
-{
-    (1_000_000 + margin) as u64
+    let verdict = u64::from(verdict(judgement.outcome));
+    let parts = verdict * 100_000_000_000_000 + u64::from(judgement.bound) * 10_000_000 + 1_000_000;
+    parts as i64 + judgement.margin
 }

@@ -3,15 +3,13 @@ ghost use Rattle.std.specs.Prelude.{◌≡◌};
 ghost use Rattle.frame_length.specs.FrameLength.{frame_returns};
 ghost use Rattle.certifier.specs.FrameEntry.{encode_frame};
 
-use frame_length::Measured;
-
 // The length of the data frame in ticks, or minus (number × 10000 + place).
 pub fn certifier_frame_length(kind: u32, identifier: u32, payload: &[u8]) -> i64
     ensures { result ≡ encode_frame (frame_returns kind identifier payload.now) }
 {
-    let measured = frame_length::measure(kind as u64, identifier as u64, payload);
-    match measured {
-        Measured::Length(n) => n as i64,
-        Measured::Refused => -160_000,
+    match frame_length::measure(u64::from(kind), u64::from(identifier), payload) {
+        Some(n) => i64::from(n),
+        // For C: minus (number × 10000 + place).
+        None => -160_000,
     }
 }

@@ -23,27 +23,10 @@ pub use explain_entry::certifier_explain;
 pub use faults_entry::{certifier_explain_faults, certifier_judge_faults, certifier_list_faults};
 pub use faults_listing::list_faults;
 pub use frame_entry::certifier_frame_length;
-use frame_table::Answer;
 pub use listing::{
     LINE, REFUSAL_LINE, list, list_input, write_line, write_refusal, write_refusal_line, write_row,
 };
 pub use log_entry::certifier_check_log;
-pub use row_judgement::{
-    Bounded, Cause, Judged, Refusal, judge, judge_faults, number, of_table, precise_bound, verdict,
-};
+pub use row_judgement::{Cause, Refusal, judge, judge_faults, number, precise_bound, verdict};
 pub use simulate_entry::certifier_simulate;
 pub use worst_entry::certifier_worst;
-
-// What listing a table under faults answers: how many bytes were written, or why it is turned back.
-#[derive(Drop)]
-pub enum Listed {
-    Written(usize),
-    NotListed(Refusal),
-}
-
-// What a command of the program comes to: an argument breaks its notation, or what writing its text answers.
-#[derive(Drop)]
-pub enum Reply {
-    Malformed,
-    Answered(Answer),
-}

@@ -4,8 +4,8 @@ ghost use Rattle.simulator.specs.Simulate.{area_left, simulated_returns};
 ghost use Rattle.certifier.specs.LogEntry.{encode_answered};
 ghost use Rattle.certifier.specs.SimulateEntry.{log_of_files, simulate_answer, CountableLog};
 
-use crate::encode::encode_answer;
-use simulator::Simulated;
+use crate::encode::encode_turned;
+use simulator::Refusal;
 
 // Writes a log of so many lines of the table, by the lengths, from a seed, and answers its length. A refusal leaves the output as it is.
 pub fn certifier_simulate(
@@ -22,13 +22,12 @@ pub fn certifier_simulate(
 }
 
 // How many bytes were written, or the refusal.
-fn encode_simulated(simulated: Simulated) -> i64
+fn encode_simulated(simulated: Result<usize, Refusal>) -> i64
     requires { CountableLog simulated }
     ensures { result ≡ encode_answered (simulated_returns simulated) }
 {
     match simulated {
-        Simulated::Answered(answer) => encode_answer(answer),
-        Simulated::ZeroSeed => -210_000,
-        Simulated::LineCount => -220_000,
+        Ok(n) => n as i64,
+        Err(refusal) => encode_turned(refusal.number(), refusal.place()),
     }
 }

@@ -1,16 +1,11 @@
 // The entry for C that judges the frame that ranks last and shows its worst case.
 ghost use Rattle.std.specs.Prelude.{◌≡◌, [], ◌∷◌, ◌++◌, ◌≤◌, length, drop};
-ghost use Rattle.frame_table.specs.Table.{read_check};
 ghost use Rattle.certifier.specs.Steps.{Encodable};
-ghost use Rattle.certifier.specs.WorstEntry.{worst_read, worst_file, encode_worst, worst_after};
+ghost use Rattle.certifier.specs.WorstEntry.{worst_file, encode_worst, worst_after};
 
 use crate::encode::{encode_judged, encode_refusal};
 use crate::explain_entry::write_case;
-use arith::Found;
-use frame_table::Answer;
-use lengths_file::lengths_of;
-use row_judgement::of_table;
-use table_checks::Checked;
+use row_judgement::Refusal;
 use worst_case::{LastFrame, worst};
 
 // The starts of the groups, the instance, and its response.
@@ -23,24 +18,10 @@ pub fn certifier_worst(lengths: &[u8], table: &[u8], shown: &mut [u32]) -> i64
     ensures value { result ≡ encode_worst (worst_file lengths.now table.now) (length shown.old) }
     ensures shown_after { shown.new ≡ worst_after (worst_file lengths.now table.now) shown.old }
 {
-    let loaded = lengths_file::read(lengths);
-    let checked = loaded.checked;
-    match checked {
-        Checked::Failed(refusal) => encode_refusal(of_table(refusal)),
-        Checked::Passed => worst_table(lengths_of(loaded), table, shown),
-    }
-}
-
-// The same, by lengths that were read.
-fn worst_table(lengths: [[u32; 9]; 2], table: &[u8], shown: &mut [u32]) -> i64
-    ensures value { result ≡ encode_worst (worst_read (read_check table.now) lengths table.now) (length shown.old) }
-    ensures shown_after { shown.new ≡ worst_after (worst_read (read_check table.now) lengths table.now) shown.old }
-{
     let mut rows = [0u32; table_checks::MOST_NUMBERS];
-    let answer = frame_table::read(table, &mut rows);
-    match answer {
-        Answer::Refused(refusal) => encode_refusal(of_table(refusal)),
-        Answer::Done(n) => show_last(worst(lengths, &rows[..n]), shown),
+    match lengths_file::read_table(lengths, table, &mut rows) {
+        Ok(table) => show_last(worst(table.lengths, table.rows), shown),
+        Err(refusal) => encode_refusal(Refusal::from(refusal)),
     }
 }
 
@@ -50,20 +31,14 @@ fn show_last(last: LastFrame, shown: &mut [u32]) -> i64
     ensures value { result ≡ encode_worst last (length shown.old) }
     ensures shown_after { shown.new ≡ worst_after last shown.old }
 {
-    let judged = last.judged;
-    let case = last.worst;
-    let response = case.response;
-    match response {
-        Found::Nothing => encode_judged(judged),
-        Found::At(ticks) => {
-            if shown.len() < SHOWN {
-                return -80_000;
-            }
-            let starts = case.starts;
-            write_worst(starts, case.instance, ticks, shown);
-            encode_judged(judged)
+    if let Some(worst) = last.worst {
+        if shown.len() < SHOWN {
+            // For C: minus (number × 10000 + place).
+            return -80_000;
         }
+        write_worst(worst.starts, worst.instance, worst.response, shown);
     }
+    encode_judged(last.judged)
 }
 
 // Writes the starts, and the instance and its response behind them.

@@ -3,14 +3,13 @@
 // can have.
 #![tactic(auto)]
 
-ghost use Rattle.std.specs.Prelude.{length};
+ghost use Rattle.std.specs.Prelude.{length, IfSome};
 ghost use Rattle.console.specs.Steps.{Held, IsPrefixLen, TakesStart, Within};
 
-use frame_table::Answer;
 use std::io::{Read, Stderr};
 use std::rt::Files;
 use std::{fs, io};
-use table_checks::{Checked, Refusal};
+use table_checks::Refusal;
 
 // More than the lengths and the longest accepted table.
 pub const BUFFER: usize = 4096;
@@ -33,17 +32,8 @@ impl Streams for HostRuntime {
     }
 }
 
-// The input that a program works on: the lengths, and behind them the table; or a file.
-#[derive(Drop)]
-pub struct Input {
-    // Whether there is one. Where it is longer than any, or cannot be read, this was said.
-    pub held: bool,
-    // How many bytes it has, from the start of the buffer on.
-    pub size: usize,
-}
-
 // What reading a stream came to.
-#[derive(Drop)]
+#[derive(Clone, Copy)]
 enum Stream {
     // The whole of it, of so many bytes.
     Whole(usize),
@@ -52,26 +42,20 @@ enum Stream {
     Unreadable,
 }
 
-// Reads the input on standard input.
-pub fn read_input(rt: &impl Streams, program: &[u8], buffer: &mut [u8]) -> Input
-    ensures { IsPrefixLen result.size buffer.new }
+// Reads the input on standard input, the lengths and behind them the table, to the start of the buffer, and answers how many bytes it has.
+// Where it is longer than any, or cannot be read, this is said, and there is none.
+pub fn read_input(rt: &impl Streams, program: &[u8], buffer: &mut [u8]) -> Option<usize>
+    ensures { IfSome result (λ size. IsPrefixLen size buffer.new) }
 {
-    let stream = read(rt, buffer);
-    match stream {
-        Stream::Whole(size) => Input { held: true, size },
+    match read(rt, buffer) {
+        Stream::Whole(size) => Some(size),
         Stream::Longer(size) => {
             print_size(rt, program, buffer, size);
-            Input {
-                held: false,
-                size: 0,
-            }
+            None
         }
         Stream::Unreadable => {
             complain(rt, program, b": standard input cannot be read\n");
-            Input {
-                held: false,
-                size: 0,
-            }
+            None
         }
     }
 }
@@ -81,33 +65,27 @@ fn read(rt: &impl Streams, buffer: &mut [u8]) -> Stream
     ensures { Within result (length buffer.new) }
 {
     let mut input = rt.reader();
-    let stream = fill(&mut input, buffer);
-    match stream {
-        Stream::Whole(size) => Stream::Whole(size),
+    match fill(&mut input, buffer) {
         Stream::Longer(size) => read_rest(&mut input, size),
-        Stream::Unreadable => Stream::Unreadable,
+        stream => stream,
     }
 }
 
-// Reads the file at a path, of which no more is held than the buffer holds.
+// Reads the file at a path, of which no more is held than the buffer holds. Where it cannot be read, this is said.
 pub fn read_file(
     rt: &(impl Streams + Files),
     program: &[u8],
     path: &[u8],
     buffer: &mut [u8],
-) -> Input
-    ensures { IsPrefixLen result.size buffer.new }
+) -> Option<usize>
+    ensures { IfSome result (λ size. IsPrefixLen size buffer.new) }
 {
-    let stream = fill_from(rt, path, buffer);
-    match stream {
-        Stream::Whole(size) => Input { held: true, size },
-        Stream::Longer(size) => Input { held: true, size },
+    match fill_from(rt, path, buffer) {
+        Stream::Whole(size) => Some(size),
+        Stream::Longer(size) => Some(size),
         Stream::Unreadable => {
             complain(rt, program, b": the file cannot be read\n");
-            Input {
-                held: false,
-                size: 0,
-            }
+            None
         }
     }
 }
@@ -132,6 +110,7 @@ fn fill<R: Read>(stream: &mut R, buffer: &mut [u8]) -> Stream
 {
     let end = buffer.len();
     let mut done = 0;
+    // No range: it goes on by as many bytes as were read.
     while done < end {
         match stream.read(&mut buffer[done..end]) {
             Ok(0) => return Stream::Whole(done),
@@ -152,46 +131,40 @@ fn read_rest(stream: &mut impl Read, size: usize) -> Stream
     for _ in 0..u64::MAX {
         match stream.read(&mut chunk) {
             Ok(0) => return Stream::Longer(total),
-            Ok(count) => total = more(total, count),
+            Ok(count) => total = total.saturating_add(count),
             Err(_) => return Stream::Unreadable,
         }
     }
     Stream::Unreadable
 }
 
-// The sum, or the greatest number where it is greater.
-fn more(a: usize, b: usize) -> usize {
-    if usize::MAX - a < b {
-        usize::MAX
-    } else {
-        a + b
-    }
-}
-
 // Prints the refusal of an input of so many bytes by its start: by its lengths, or by its table's size.
 fn print_size(rt: &impl Streams, program: &[u8], start: &[u8], size: usize) {
-    let checked = lengths_file::check_size(start, size);
-    if let Checked::Failed(refusal) = checked {
+    if let Err(refusal) = lengths_file::check_size(start, size) {
         print_refusal(rt, program, refusal);
     }
 }
 
 // Prints what an operation wrote, or its refusal.
-pub fn print_answer(rt: &impl Streams, program: &[u8], answer: Answer, out: &[u8]) {
+pub fn print_answer(rt: &impl Streams, program: &[u8], answer: Result<usize, Refusal>, out: &[u8]) {
     match answer {
-        Answer::Done(n) => {
-            if n <= out.len() {
-                print(rt, program, &out[0..n]);
+        Ok(n) => {
+            if let Some(text) = out.get(..n) {
+                print(rt, program, text);
             }
         }
-        Answer::Refused(refusal) => print_refusal(rt, program, refusal),
+        Err(refusal) => print_refusal(rt, program, refusal),
     }
 }
 
 // Prints the line of a refusal.
 fn print_refusal(rt: &impl Streams, program: &[u8], refusal: Refusal) {
     let mut line = [0u8; certifier::REFUSAL_LINE];
-    certifier::write_refusal(certifier::of_table(refusal), &mut line);
+    let _ = certifier::write_refusal_line(
+        table_checks::number(refusal.cause),
+        refusal.place,
+        &mut line,
+    );
     print(rt, program, &line);
 }
 

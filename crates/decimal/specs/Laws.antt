@@ -4,7 +4,7 @@
 --     read_below      a column of w characters holds a number below 10^w
 --     length-write, length-signed    a written column has its width
 --     length-numbered                so have the lines that number values
-use Rattle.std.specs.Prelude.{ℕ, zero, suc, ◌+◌, ◌-◌, ◌*◌, ◌/◌, ◌%◌, ◌^◌, ◌≤◌, ◌<◌, ◌≡◌, refl, List, [], ◌∷◌, ◌++◌, ℤ, pos, negsuc, length, set, ltb, leb, eqb}
+use Rattle.std.specs.Prelude.{ℕ, zero, suc, ◌+◌, ◌-◌, ◌*◌, ◌/◌, ◌%◌, ◌^◌, ◌≤◌, ◌<◌, ◌≡◌, refl, List, [], ◌∷◌, ◌++◌, ℤ, pos, negsuc, length, set, ltb, leb, eqb, Some}
 use Rattle.std.proofs.Common.{sym, ap, ap₂, ◌∙◌, append_assoc, append-nil, pow-suc, zero-add, add-zero, add-suc, suc-add, not-suc-le-zero, arith, lt-ltb, le-ltb, ltb-true, ltb-false, eqb-true, ne_eqb, length-append}
 use Rattle.std.proofs.lemmas.Bool.{lt-leb, eqb-false}
 use borrow.Rule.Slice.PartMut.{mid_of, put_mid}
@@ -13,7 +13,6 @@ use Rattle.arith.specs.Laws.Overwriting.{begun-none, begun-filled, begun-element
 use Rattle.arith.specs.Laws.Lines.{Lines, length-lines}
 use Rattle.decimal.specs.declared.Prefix.{Prefix}
 use Rattle.decimal.specs.declared.Prefix.TheVariants.{Blank, Number, Minus, Negative, Broken}
-use Rattle.decimal.specs.declared.Column.TheVariants.{Value}
 use Rattle.decimal.specs.Decimal.{with_digit, extended, extended_by, value_of, read_column, last_of, shortened, written, write_column, write_signed}
 use Rattle.decimal.specs.Numbered.{numbered_line, numbered_at, numbered_lines}
 
@@ -107,7 +106,7 @@ read-written (suc w) Minus after r = absurd r
 read-written (suc w) (Negative n) after r = absurd r
 read-written (suc w) Broken after r = absurd r
 
-pub read-write : (w n : ℕ) → 0 < w → n < 10 ^ w → n < 1_000_000_000_000_000_000 → read_column (write_column w n) ≡ Value n
+pub read-write : (w n : ℕ) → 0 < w → n < 10 ^ w → n < 1_000_000_000_000_000_000 → read_column (write_column w n) ≡ Some n
 unfolding read_column write_column
 read-write w n h k l = ap value_of (read-written w (Number n) [] (h, k, l))
 
@@ -134,14 +133,14 @@ written_back k p (b ∷ s) after h =
     ∙ written_back (suc k) (extended p b) s after h
     ∙ ap₂ (λ (q : Prefix) (c : ℕ). written k q (c ∷ s ++ after)) u.0 u.1
 
-number_of : (p : Prefix) (n : ℕ) → value_of p ≡ Value n → p ≡ Number n
+number_of : (p : Prefix) (n : ℕ) → value_of p ≡ Some n → p ≡ Number n
 number_of Blank n e = let z : ◌≡◌ {A = ℕ} 0 1 = cc in absurd (omega arith)
 number_of (Number m) n e = let z : m ≡ n = cc in ap Number z
 number_of Minus n e = let z : ◌≡◌ {A = ℕ} 0 1 = cc in absurd (omega arith)
 number_of (Negative m) n e = let z : ◌≡◌ {A = ℕ} 0 1 = cc in absurd (omega arith)
 number_of Broken n e = let z : ◌≡◌ {A = ℕ} 0 1 = cc in absurd (omega arith)
 
-pub write_read : (s : List ℕ) (n : ℕ) → read_column s ≡ Value n → write_column (length s) n ≡ s
+pub write_read : (s : List ℕ) (n : ℕ) → read_column s ≡ Some n → write_column (length s) n ≡ s
 unfolding read_column write_column
 write_read s n e =
     let e' : extended_by Blank s ≡ Number n = number_of (extended_by Blank s) n e in
@@ -178,7 +177,7 @@ all-below [] p i h = rw (add-zero i) h
 all-below (b ∷ s) p i h =
     rw (add-suc i (length s) ∙ sym (suc-add i (length s))) (all-below s (extended p b) (suc i) (extended-below p b i h))
 
-pub read_below : (s : List ℕ) (n : ℕ) → read_column s ≡ Value n → n < 10 ^ length s
+pub read_below : (s : List ℕ) (n : ℕ) → read_column s ≡ Some n → n < 10 ^ length s
 unfolding read_column
 read_below s n e = rw (number_of (extended_by Blank s) n e, zero-add) at (all-below s Blank 0 (omega arith))
 

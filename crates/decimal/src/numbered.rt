@@ -16,12 +16,10 @@ pub fn write_numbered(values: &[u32], out: &mut [u8])
     requires { length out.old ≡ 12 * length values.now }
     ensures { out.new ≡ numbered_lines 8 values.now (length values.now) 0 }
 {
-    let mut i = 0;
-    while i < values.len() {
+    for (i, value) in values.iter().enumerate() {
         let from = LINE * i;
         let to = from + LINE;
-        write_numbered_line((i + 1) as u64, values[i] as u64, WIDTH, &mut out[from..to]);
-        i += 1;
+        write_numbered_line((i + 1) as u64, u64::from(*value), WIDTH, &mut out[from..to]);
     }
 }
 

@@ -1,8 +1,6 @@
 -- The exact length of a data frame on the wire (document 02, request 8).
-use Rattle.std.specs.Prelude.{ℕ, ◌+◌, Bool, cond, ◌&&◌, List, ◌++◌, leb, length}
+use Rattle.std.specs.Prelude.{ℕ, ◌+◌, Bool, cond, ◌&&◌, List, ◌++◌, leb, length, Option, Some, None}
 use Rattle.table_checks.specs.Columns.{is_identifier}
-use Rattle.frame_length.specs.declared.Measured.{Measured}
-use Rattle.frame_length.specs.declared.Measured.TheVariants.{Length, Refused}
 use Rattle.frame_length.specs.DataFrame.{bits, before_crc}
 use Rattle.frame_length.specs.Crc.{crc_of}
 use Rattle.frame_length.specs.Stuffing.{stuff}
@@ -39,6 +37,6 @@ frame_returns kind identifier payload =
     (record { number = 16; place = 0; ticks = 0 })
 
 -- of each answer
-unfoldable pub measured_returns : Measured → FrameReturned
-measured_returns (Length n) = record { number = 0; place = 0; ticks = n }
-measured_returns Refused = record { number = 16; place = 0; ticks = 0 }
+unfoldable pub measured_returns : Option ℕ → FrameReturned
+measured_returns (Some n) = record { number = 0; place = 0; ticks = n }
+measured_returns None = record { number = 16; place = 0; ticks = 0 }

@@ -21,15 +21,6 @@ const AFTER_CRC: u32 = 13;
 
 const MOST_BYTES: usize = 8;
 
-// What measuring a frame finds.
-#[derive(Drop)]
-pub enum Measured {
-    // Its length in ticks.
-    Length(u32),
-    // Kind, identifier or payload length is outside its limits.
-    Refused,
-}
-
 // The bits sent so far: the last one, how many equal ones end with it, how many they are, and their CRC.
 #[derive(Clone, Copy)]
 pub struct Sent {
@@ -39,20 +30,16 @@ pub struct Sent {
     pub crc: u64,
 }
 
-// Measures a data frame.
-pub fn measure(kind: u64, identifier: u64, payload: &[u8]) -> Measured
+// Measures a data frame: nothing where its kind, identifier or number of payload bytes is outside its limits.
+pub fn measure(kind: u64, identifier: u64, payload: &[u8]) -> Option<u32>
     ensures { measured_returns result ≡ frame_returns kind identifier payload.now }
 {
-    if MOST_BYTES < payload.len() {
-        return Measured::Refused;
+    if MOST_BYTES < payload.len() || !table_checks::is_identifier(kind, identifier) {
+        return None;
     }
-    if table_checks::is_identifier(kind, identifier) {
-        let before = send_before_crc(kind, identifier, payload);
-        let whole = send_bits(before, 15, before.crc);
-        Measured::Length(whole.length + AFTER_CRC)
-    } else {
-        Measured::Refused
-    }
+    let before = send_before_crc(kind, identifier, payload);
+    let whole = send_bits(before, 15, before.crc);
+    Some(whole.length + AFTER_CRC)
 }
 
 // Sends a frame's bits up to its CRC.
@@ -79,6 +66,7 @@ fn send_arbitration(s: Sent, kind: u64, identifier: u64) -> Sent
     ensures value { result ≡ send_all s (arbitration kind identifier) }
     ensures within { Within 66 result }
 {
+    // Kinds are numbers, since rows in memory hold them so, for C.
     if kind == 11 {
         let named = send_bits(s, 11, identifier);
         // RTR
@@ -111,10 +99,8 @@ fn send_data(start: Sent, payload: &[u8]) -> Sent
     ensures within { Within 206 result }
 {
     let mut s = start;
-    let mut i = 0;
-    while i < payload.len() {
-        s = send_bits(s, 8, wide(payload[i]));
-        i += 1;
+    for byte in payload {
+        s = send_bits(s, 8, u64::from(*byte));
     }
     s
 }
@@ -126,9 +112,7 @@ fn send_bits(start: Sent, w: u32, n: u64) -> Sent
     ensures within { Within (start.length + 2 * w) result }
 {
     let mut s = start;
-    let mut j = w;
-    while 0 < j {
-        j -= 1;
+    for j in (0..w).rev() {
         s = send_bit(s, bit_of(n, j));
     }
     s
@@ -186,10 +170,4 @@ fn bit_of(n: u64, j: u32) -> bool
     ensures { result ≡ bit n j }
 {
     (n >> j) % 2 == 1
-}
-
-fn wide(x: u8) -> u64
-    ensures { result ≡ x }
-{
-    x as u64
 }

@@ -1,27 +1,23 @@
 -- The command frame-length: its arguments, and the line that it prints (document 02, request 8).
-use Rattle.std.specs.Prelude.{ℕ, ◌+◌, ◌-◌, ◌*◌, ◌/◌, ◌%◌, Bool, true, false, cond, not, ◌&&◌, List, [], ◌∷◌, ◌++◌, map, leb, eqb, length, get_or}
+use Rattle.std.specs.Prelude.{ℕ, ◌+◌, ◌-◌, ◌*◌, ◌/◌, ◌%◌, Bool, true, false, cond, not, ◌&&◌, List, [], ◌∷◌, ◌++◌, map, leb, eqb, length, get_or, Option, Some, None, Result, Ok}
+use Rattle.table_checks.specs.declared.Refusal.{Refusal}
 use Rattle.arith.specs.Lists.{exists, range}
-use Rattle.decimal.specs.declared.Column.{Column}
-use Rattle.decimal.specs.declared.Column.TheVariants.{Value, Broken}
 use Rattle.decimal.specs.Decimal.{read_column, write_column}
 use Rattle.table_checks.specs.Columns.{between}
-use Rattle.table_checks.specs.declared.Checked.TheVariants.{Passed}
 use Rattle.frame_table.specs.Table.{answer_for}
 use Rattle.frame_length.specs.FrameLength.{FrameReturned, frame_returns}
 use Rattle.certifier.specs.Listing.{refusal_line}
-use Rattle.certifier.specs.declared.Reply.{Reply}
-use Rattle.certifier.specs.declared.Reply.TheVariants.{Malformed, Answered}
 
 -- ---- KIND and IDENTIFIER: a number each, in the notation of a table's column
 
-abbrev pub is_number : Column → Bool
-is_number (Value n) = true
-is_number Broken = false
+abbrev pub is_number : Option ℕ → Bool
+is_number (Some n) = true
+is_number None = false
 
 -- 0 where there is none
-abbrev pub number_in : Column → ℕ
-number_in (Value n) = n
-number_in Broken = 0
+abbrev pub number_in : Option ℕ → ℕ
+number_in (Some n) = n
+number_in None = 0
 
 -- ---- HEX: two hexadecimal digits for each payload byte, or a dash for none
 
@@ -64,6 +60,6 @@ unfoldable pub line_for : List ℕ → List ℕ → List ℕ → List ℕ
 line_for kind identifier hex = line_of (frame_returns (number_in (read_column kind)) (number_in (read_column identifier)) (payload_of hex))
 
 -- the answer where it is to be written into the area `old`
-unfoldable pub reply_for : List ℕ → List ℕ → List ℕ → List ℕ → Reply
+unfoldable pub reply_for : List ℕ → List ℕ → List ℕ → List ℕ → Option (Result ℕ Refusal)
 reply_for kind identifier hex old =
-    cond (is_asked kind identifier hex) (Answered (answer_for Passed (line_for kind identifier hex) old)) Malformed
+    cond (is_asked kind identifier hex) (Some (answer_for (Ok tt) (line_for kind identifier hex) old)) None

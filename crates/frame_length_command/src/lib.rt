@@ -1,18 +1,15 @@
 // The command frame-length: kind, identifier and payload as they are typed, and the line that is printed.
 #![tactic(auto)]
 
-ghost use Rattle.std.specs.Prelude.{◌≡◌, ◌++◌, ◌/◌, ◌≤◌, length, drop};
-ghost use Rattle.table_checks.specs.declared.Checked.TheVariants.{Passed};
+ghost use Rattle.std.specs.Prelude.{◌≡◌, ◌++◌, ◌/◌, ◌≤◌, length, drop, Ok};
 ghost use Rattle.frame_table.specs.Table.{answer_for, area_after};
 ghost use Rattle.frame_length.specs.FrameLength.{frame_returns, measured_returns};
 ghost use Rattle.certifier.specs.Reply.{area_left};
 ghost use Rattle.frame_length_command.specs.Command.{hex_value, is_hex, is_payload, payload_of, length_line, line_of, line_for, reply_for};
 ghost use Rattle.frame_length_command.specs.Steps.{Digits};
 
-use certifier::{Reply, write_refusal_line};
-use decimal::Column;
-use frame_length::Measured;
-use frame_table::{Answer, no_room};
+use certifier::write_refusal_line;
+use frame_table::no_room;
 use table_checks::is_between;
 
 // The bytes of the longest line.
@@ -25,22 +22,21 @@ const DASH: u8 = 45;
 const MOST_BYTES: usize = 8;
 
 // Writes the line for the frame that the arguments name: its length, or number and place of its refusal.
-pub fn write_line(kind: &[u8], identifier: &[u8], hex: &[u8], out: &mut [u8]) -> Reply
+pub fn write_line(
+    kind: &[u8],
+    identifier: &[u8],
+    hex: &[u8],
+    out: &mut [u8],
+) -> Option<Result<usize, table_checks::Refusal>>
     ensures value { result ≡ reply_for kind.now identifier.now hex.now out.old }
     ensures out_after { out.new ≡ area_left result (line_for kind.now identifier.now hex.now) out.old }
 {
-    let first = decimal::read(kind);
-    let Column::Value(k) = first else {
-        return Reply::Malformed;
-    };
-    let second = decimal::read(identifier);
-    let Column::Value(i) = second else {
-        return Reply::Malformed;
-    };
+    let k = decimal::read(kind)?;
+    let i = decimal::read(identifier)?;
     if is_payload(hex) {
-        Reply::Answered(write_measured(measure_hex(k, i, hex), out))
+        Some(write_measured(measure_hex(k, i, hex), out))
     } else {
-        Reply::Malformed
+        None
     }
 }
 
@@ -64,17 +60,16 @@ fn is_payload(s: &[u8]) -> bool
 fn is_hex(s: &[u8]) -> bool
     ensures { result ≡ is_hex s.now }
 {
-    let mut i = 0;
-    while i < s.len() {
-        if 15 < hex_value(s[i]) {
+    for byte in s {
+        if 15 < hex_value(*byte) {
             return false;
         }
-        i += 1;
     }
     true
 }
 
-// The value of a hexadecimal digit, 16 of any other character.
+// The value of a hexadecimal digit, 16 of any other character, as the definition has it: an Option would have to be unwrapped for each
+// digit of `decode`, whose digits were tested.
 fn hex_value(b: u8) -> u8
     ensures { result ≡ hex_value b }
 {
@@ -91,13 +86,13 @@ fn hex_value(b: u8) -> u8
 }
 
 // Measures the frame whose payload is given by digits.
-fn measure_hex(kind: u64, identifier: u64, hex: &[u8]) -> Measured
+fn measure_hex(kind: u64, identifier: u64, hex: &[u8]) -> Option<u32>
     requires { Digits hex.now }
     ensures { measured_returns result ≡ frame_returns kind identifier (payload_of hex.now) }
 {
     let n = hex.len() / 2;
     if MOST_BYTES < n {
-        return Measured::Refused;
+        return None;
     }
     let mut bytes = [0u8; MOST_BYTES];
     decode(hex, &mut bytes);
@@ -110,27 +105,25 @@ fn decode(hex: &[u8], bytes: &mut [u8])
     requires hex_in_bounds { length hex.now / 2 ≤ length bytes.old }
     ensures { bytes.new ≡ payload_of hex.now ++ drop (length hex.now / 2) bytes.old }
 {
-    let mut i = 0;
-    while i < hex.len() / 2 {
+    for i in 0..hex.len() / 2 {
         bytes[i] = 16 * hex_value(hex[2 * i]) + hex_value(hex[2 * i + 1]);
-        i += 1;
     }
 }
 
 // Writes the line for what was measured.
-fn write_measured(measured: Measured, out: &mut [u8]) -> Answer
-    ensures value { result ≡ answer_for Passed (line_of (measured_returns measured)) out.old }
+fn write_measured(measured: Option<u32>, out: &mut [u8]) -> Result<usize, table_checks::Refusal>
+    ensures value { result ≡ answer_for (Ok tt) (line_of (measured_returns measured)) out.old }
     ensures out_after { out.new ≡ area_after result (line_of (measured_returns measured)) out.old }
 {
     match measured {
-        Measured::Length(n) => write_length(n, out),
-        Measured::Refused => write_refusal_line(16, 0, out),
+        Some(n) => write_length(n, out),
+        None => write_refusal_line(16, 0, out),
     }
 }
 
 // Writes the length (4) and a line feed.
-fn write_length(length: u32, out: &mut [u8]) -> Answer
-    ensures value { result ≡ answer_for Passed (length_line length) out.old }
+fn write_length(length: u32, out: &mut [u8]) -> Result<usize, table_checks::Refusal>
+    ensures value { result ≡ answer_for (Ok tt) (length_line length) out.old }
     ensures out_after { out.new ≡ area_after result (length_line length) out.old }
 {
     if out.len() < 5 {
@@ -138,5 +131,5 @@ fn write_length(length: u32, out: &mut [u8]) -> Answer
     }
     decimal::write(&mut out[0..4], length as u64);
     out[4] = LINE_FEED;
-    Answer::Done(5)
+    Ok(5)
 }

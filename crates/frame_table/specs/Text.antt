@@ -1,17 +1,15 @@
 -- The text form of a table (document 01, "The table"): lines of columns and a line feed.
 -- Field k of a table is column k % columns of line k / columns.
-use Rattle.std.specs.Prelude.{ℕ, zero, suc, ◌+◌, ◌*◌, ◌/◌, ◌%◌, Bool, cond, not, ◌&&◌, List, [], ◌∷◌, ◌++◌, length, get_or, take, drop, eqb}
-use Rattle.decimal.specs.declared.Column.{Column}
-use Rattle.decimal.specs.declared.Column.TheVariants.{Value, Broken}
+use Rattle.std.specs.Prelude.{ℕ, zero, suc, ◌+◌, ◌*◌, ◌/◌, ◌%◌, Bool, cond, not, ◌&&◌, List, [], ◌∷◌, ◌++◌, length, get_or, take, drop, eqb, Option, Some, None}
 use Rattle.decimal.specs.Decimal.{read_column, write_column}
 use Rattle.table_checks.specs.Columns.{width_of, start_of, columns, feed_at, line_length}
 use Rattle.table_checks.specs.Checks.{malformed, unterminated}
 
 -- ---- from a file
 
-unfoldable pub field_of : Column → ℕ
-field_of (Value n) = n
-field_of Broken = malformed
+unfoldable pub field_of : Option ℕ → ℕ
+field_of (Some n) = n
+field_of None = malformed
 
 -- the characters of column j of line i
 unfoldable pub column_at : List ℕ → ℕ → ℕ → List ℕ

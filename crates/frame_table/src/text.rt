@@ -25,11 +25,8 @@ fn column(file: &[u8], i: usize, j: usize) -> u64
 {
     let from = LINE * i + start(j);
     let to = LINE * i + start(j + 1);
-    let column = decimal::read(&file[from..to]);
-    match column {
-        decimal::Column::Value(n) => n,
-        decimal::Column::Broken => MALFORMED,
-    }
+    // The mark stands among the fields: a Result for each would double the memory of the longest table.
+    decimal::read(&file[from..to]).unwrap_or(MALFORMED)
 }
 
 // Field j of line i.
@@ -37,12 +34,8 @@ fn field(file: &[u8], i: usize, j: usize) -> u64
     requires { (line_length * i + line_length ≤ length file.now) × (j < columns) }
     ensures { result ≡ field_at file.now i j }
 {
-    if j == 0 {
-        if file[LINE * i + LINE - 1] == LINE_FEED {
-            column(file, i, j)
-        } else {
-            UNTERMINATED
-        }
+    if j == 0 && file[LINE * i + LINE - 1] != LINE_FEED {
+        UNTERMINATED
     } else {
         column(file, i, j)
     }
@@ -53,10 +46,8 @@ pub fn read_fields(file: &[u8], lines: usize, fields: &mut [u64])
     requires { (line_length * lines ≤ length file.now) × (columns * lines ≤ length fields.old) }
     ensures { take (columns * lines) fields.new ≡ fields_from file.now (columns * lines) 0 }
 {
-    let mut k = 0;
-    while k < ROW * lines {
+    for k in 0..ROW * lines {
         fields[k] = field(file, k / ROW, k % ROW);
-        k += 1;
     }
 }
 
@@ -65,13 +56,11 @@ fn write_line(rows: &[u32], i: usize, line: &mut [u8])
     requires { (columns * i + columns ≤ length rows.now) × (length line.old ≡ line_length) }
     ensures { line.new ≡ line_of rows.now i }
 {
-    let mut j = 0;
-    while j < ROW {
+    for j in 0..ROW {
         let from = start(j);
         let to = start(j + 1);
-        let value = table_checks::wide(rows[ROW * i + j]);
+        let value = u64::from(rows[ROW * i + j]);
         decimal::write(&mut line[from..to], value);
-        j += 1;
     }
     line[LINE - 1] = LINE_FEED;
 }
@@ -81,11 +70,9 @@ pub fn write_lines(rows: &[u32], lines: usize, file: &mut [u8])
     requires { (columns * lines ≤ length rows.now) × (line_length * lines ≤ length file.old) }
     ensures { file.new ≡ lines_from rows.now lines 0 ++ drop (line_length * lines) file.old }
 {
-    let mut i = 0;
-    while i < lines {
+    for i in 0..lines {
         let from = LINE * i;
         let to = from + LINE;
         write_line(rows, i, &mut file[from..to]);
-        i += 1;
     }
 }

@@ -1,3 +1,4 @@
 -- What the code of this crate works with. The greatest work is defined in bus_model.
 pub mod Memory
 pub mod Ready
+pub mod Setting

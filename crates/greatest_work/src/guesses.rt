@@ -5,72 +5,58 @@ ghost use mathlib.Core.List.{Memᴰ as Mem};
 ghost use Rattle.bus_model.specs.declared.Choice.TheVariants.{Fixed};
 ghost use Rattle.bus_model.specs.Bounds.{alignments, or_empty};
 ghost use Rattle.bus_model.specs.Theory.Work.{Allows, RefinedBy};
-ghost use Rattle.workload.specs.Prepared.{table_of};
 ghost use Rattle.workload.specs.Placed.{AllFixed};
-ghost use Rattle.greatest_work.specs.Ready.{Ready};
+ghost use Rattle.greatest_work.specs.Setting.{frames, Remembers};
 
+use crate::Setting;
 use crate::stairs::GUESSES;
 use alignment_walk::next_alignment;
-use arith::Found;
 use bus_model::Choice;
-use workload::{GROUPS, Target, cycle_of, part_of};
+use workload::{cycle_of, part_of};
 
 // The alignment remembered for group j + 1, or its first where none is yet.
-fn guess(rows: &[u32], prepared: &[u32], target: Target, j: usize, memory: &[u64]) -> u32
-    requires ready { Ready rows.now prepared.now target memory.now }
+fn guess(setting: &Setting, j: usize, memory: &[u64]) -> u32
+    requires remembered { Remembers setting.now memory.now }
     requires j_bound { j < 16 }
-    ensures { Mem result (or_empty (alignments (table_of rows.now prepared.now) target.frame (j + 1))) }
+    ensures { Mem result (or_empty (alignments (frames setting.now) setting.now.target.frame (j + 1))) }
 {
     let last = memory[GUESSES + j];
     if 0 < last {
         return (last - 1) as u32;
     }
-    let part = part_of(prepared, j);
-    let found = next_alignment(rows, prepared, part, 0, cycle_of(prepared, j));
-    match found {
-        Found::At(a) => a,
-        Found::Nothing => 0,
-    }
+    let part = part_of(setting.prepared, j);
+    next_alignment(
+        setting.rows,
+        setting.prepared,
+        part,
+        0,
+        cycle_of(setting.prepared, j),
+    )
+    .unwrap_or(0)
 }
 
 // A fixed choice as it is, and that alignment in place of `Any`.
-fn guessed_choice(
-    rows: &[u32],
-    prepared: &[u32],
-    target: Target,
-    j: usize,
-    choice: Choice,
-    memory: &[u64],
-) -> Choice
-    requires ready { Ready rows.now prepared.now target memory.now }
+fn guessed_choice(setting: &Setting, j: usize, choice: Choice, memory: &[u64]) -> Choice
+    requires remembered { Remembers setting.now memory.now }
     requires j_bound { j < 16 }
-    ensures allows { Allows (alignments (table_of rows.now prepared.now) target.frame (j + 1)) choice result }
+    ensures allows { Allows (alignments (frames setting.now) setting.now.target.frame (j + 1)) choice result }
     ensures fixed { (a : ℕ) × (result ≡ Fixed a) }
 {
     match choice {
         Choice::Fixed(a) => Choice::Fixed(a),
-        Choice::Any => Choice::Fixed(guess(rows, prepared, target, j, memory)),
+        Choice::Any => Choice::Fixed(guess(setting, j, memory)),
     }
 }
 
 // The scenario with those alignments in place of `Any`.
-pub fn guessed(
-    rows: &[u32],
-    prepared: &[u32],
-    target: Target,
-    choices: [Choice; 16],
-    memory: &[u64],
-) -> [Choice; 16]
-    requires { Ready rows.now prepared.now target memory.now }
-    ensures refined_by { RefinedBy (table_of rows.now prepared.now) target.frame choices result }
+pub fn guessed(setting: &Setting, choices: [Choice; 16], memory: &[u64]) -> [Choice; 16]
+    requires { Remembers setting.now memory.now }
+    ensures refined_by { RefinedBy (frames setting.now) setting.now.target.frame choices result }
     ensures fixed { AllFixed result }
 {
     let mut fixed = choices;
-    let mut j = 0;
-    while j < GROUPS {
-        let choice = choices[j];
-        fixed[j] = guessed_choice(rows, prepared, target, j, choice, memory);
-        j += 1;
+    for (j, choice) in choices.iter().enumerate() {
+        fixed[j] = guessed_choice(setting, j, *choice, memory);
     }
     fixed
 }

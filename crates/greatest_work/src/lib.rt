@@ -5,6 +5,20 @@ mod greatest;
 mod guesses;
 mod stairs;
 
+ghost use Rattle.greatest_work.specs.Ready.{Posed};
+ghost use Rattle.workload.specs.Faults.{props};
+
 pub use greatest::whole_work;
 pub use guesses::guessed;
 pub use stairs::MEMORY;
+use workload::Target;
+
+// What the searches for one judged frame work with: the rows of its table, what is prepared of them, and the frame.
+#[derive(Clone, Copy)]
+pub struct Setting<'a> {
+    pub rows: &'a [u32],
+    pub prepared: &'a [u32],
+    pub row: usize,
+    pub target: Target,
+    ghost posed: { Posed rows.now prepared.now row target } by { Prim.hlevel props },
+}

@@ -1,15 +1,15 @@
 // The memory of greatest works. A group's greatest work rises in stairs: where two lengths have the same, so has each between them. A
 // number holds a stair as far as it is known: the group, its first and last length that were asked for, and the work.
-ghost use Rattle.std.specs.Prelude.{◌≡◌, ℕ, ◌≤◌, ◌<◌, min, max, length};
-ghost use Rattle.arith.specs.declared.Found.TheVariants.{At};
+ghost use Rattle.std.specs.Prelude.{◌≡◌, ℕ, ◌≤◌, ◌<◌, min, max, length, Some};
 ghost use Rattle.greatest_work.specs.Memory.{packed, is_on, is_of, widened, Told, RememberedWith};
 
-use arith::{Found, product};
+use arith::product;
 
 // So many numbers are remembered: stairs, and an alignment for each group.
 pub const MEMORY: usize = 528;
 
 // There the alignments start.
+// A number each, 0 where there is none: the memory is plain numbers of fixed size (`Remembered`).
 pub const GUESSES: usize = 512;
 
 // So many stairs share a place,
@@ -53,41 +53,27 @@ fn is_of(v: u64, j: usize, work: u64) -> bool
     (v / UNIT / UNIT / UNIT == j as u64) & (v % UNIT == work)
 }
 
-fn lesser(a: u64, b: u64) -> u64
-    ensures { result ≡ min a b }
-{
-    if a < b { a } else { b }
-}
-
-fn greater(a: u64, b: u64) -> u64
-    ensures { result ≡ max a b }
-{
-    if a < b { b } else { a }
-}
-
 fn widen(v: u64, n: u32) -> u64
     requires { n < 1048576 }
     ensures { result ≡ widened v n }
 {
-    let low = lesser(v / UNIT / UNIT % UNIT, n as u64);
-    let high = greater(v / UNIT % UNIT, n as u64);
+    let low = (v / UNIT / UNIT % UNIT).min(n as u64);
+    let high = (v / UNIT % UNIT).max(n as u64);
     pack(v / UNIT / UNIT / UNIT, low, high, v % UNIT)
 }
 
 // The greatest work of group j + 1 in the first n ticks, if a stair tells it.
-pub fn lookup(memory: &[u64], set: usize, j: usize, n: u32) -> Found
+pub fn lookup(memory: &[u64], set: usize, j: usize, n: u32) -> Option<u32>
     requires { (length memory.now ≡ 528) × (set < 128) }
-    ensures { (w : ℕ) → result ≡ At w → Told memory.now j n w }
+    ensures { (w : ℕ) → result ≡ Some w → Told memory.now j n w }
 {
-    let mut i = 0;
-    while i < WAYS {
+    for i in 0..WAYS {
         let v = memory[WAYS * set + i];
         if is_on(v, j, n) {
-            return Found::At((v % UNIT) as u32);
+            return Some((v % UNIT) as u32);
         }
-        i += 1;
     }
-    Found::Nothing
+    None
 }
 
 // The place for a stair of group j + 1 with this work: where one stands or none yet, or else the last. Lengths are asked for rising, over
@@ -96,13 +82,11 @@ fn place_for(memory: &[u64], set: usize, j: usize, work: u64) -> usize
     requires { (length memory.now ≡ 528) × (set < 128) }
     ensures { result < 512 }
 {
-    let mut i = 0;
-    while i < WAYS {
+    for i in 0..WAYS {
         let v = memory[WAYS * set + i];
         if v == 0 || is_of(v, j, work) {
             return WAYS * set + i;
         }
-        i += 1;
     }
     WAYS * set + WAYS - 1
 }

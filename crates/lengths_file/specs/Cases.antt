@@ -1,9 +1,9 @@
 -- Worked examples: the notation, the numbers and places of 13 and 14, and their order.
-use Rattle.std.specs.Prelude.{ℕ, ◌+◌, ◌*◌, ◌≡◌, refl, take, set, replicate}
+use Rattle.std.specs.Prelude.{ℕ, ◌+◌, ◌*◌, ◌≡◌, refl, take, set, replicate, Result}
 use mathlib.Core.List.{List, [], ◌∷◌, ◌++◌, flat_map}
+use Rattle.table_checks.specs.declared.Refusal.{Refusal}
 use Rattle.arith.specs.Lists.{exists, range}
 use Rattle.decimal.specs.Decimal.{read_column, write_column}
-use Rattle.table_checks.specs.declared.Checked.{Checked}
 use Rattle.table_checks.specs.Columns.{between, is_length, line_length}
 use Rattle.table_checks.specs.Frames.{standard_lengths}
 use Rattle.table_checks.specs.Refusal.{number_of, returned, check_returns}
@@ -13,7 +13,7 @@ use Rattle.lengths_file.specs.Lengths.{column_at, number_in, line_of, lengths_of
 use Rattle.lengths_file.specs.Input.{input_check, size_check}
 
 -- a check that answers number and place
-abbrev Answers : Checked → ℕ → ℕ → Type 0
+abbrev Answers : Result (Unit {0}) Refusal → ℕ → ℕ → Type 0
 Answers check number place = check_returns check ≡ returned number place
 
 -- ---- lengths

@@ -1,14 +1,11 @@
 -- The file of the lengths (document 02, request 2): two lines, kind 11 and then kind 29, of nine numbers in columns 5 wide, a line feed
 -- after each. Lines and numbers count from 0.
-use Rattle.std.specs.Prelude.{ℕ, ◌+◌, ◌*◌, Bool, true, false, cond, not, ◌&&◌, length, get_or, take, drop, eqb}
+use Rattle.std.specs.Prelude.{ℕ, ◌+◌, ◌*◌, Bool, true, false, cond, not, ◌&&◌, length, get_or, take, drop, eqb, Option, Some, None, Result, Ok}
 use mathlib.Core.List.{List, [], ◌∷◌, ◌++◌, map, flat_map}
+use Rattle.table_checks.specs.declared.Refusal.{Refusal}
 use Rattle.arith.specs.Lists.{exists, range}
-use Rattle.decimal.specs.declared.Column.{Column}
-use Rattle.decimal.specs.declared.Column.TheVariants.{Value, Broken}
 use Rattle.decimal.specs.Decimal.{read_column, write_column}
 use Rattle.table_checks.specs.declared.Cause.TheVariants.{LengthsFile}
-use Rattle.table_checks.specs.declared.Checked.{Checked}
-use Rattle.table_checks.specs.declared.Checked.TheVariants.{Passed}
 use Rattle.table_checks.specs.Frames.{length_at}
 use Rattle.table_checks.specs.Refusal.{failed, Returned, returned}
 use Rattle.table_checks.specs.Checks.{first, lengths_check}
@@ -22,9 +19,9 @@ unfoldable pub column_at : List ℕ → ℕ → ℕ → List ℕ
 column_at file k s = take 5 (drop (46 * k + 5 * s) file)
 
 -- the number in a column, 0 where it breaks the notation
-unfoldable pub number_in : Column → ℕ
-number_in (Value n) = n
-number_in Broken = 0
+unfoldable pub number_in : Option ℕ → ℕ
+number_in (Some n) = n
+number_in None = 0
 
 -- the numbers of line k
 unfoldable pub line_of : List ℕ → ℕ → List ℕ
@@ -35,9 +32,9 @@ lengths_of file = line_of file 0 ∷ line_of file 1 ∷ []
 
 -- ---- "92 bytes in that notation"
 
-unfoldable pub is_unreadable : Column → Bool
-is_unreadable (Value n) = false
-is_unreadable Broken = true
+unfoldable pub is_unreadable : Option ℕ → Bool
+is_unreadable (Some n) = false
+is_unreadable None = true
 
 -- whether number s of line k breaks the notation
 unfoldable pub is_broken : List ℕ → ℕ → ℕ → Bool
@@ -52,10 +49,10 @@ is_text file = eqb (length file) 92 && (is_line file 0 && is_line file 1)
 
 -- ---- 13, then 14
 
-unfoldable pub text_check : List ℕ → Checked
-text_check file = cond (is_text file) Passed (failed LengthsFile 0)
+unfoldable pub text_check : List ℕ → Result (Unit {0}) Refusal
+text_check file = cond (is_text file) (Ok tt) (failed LengthsFile 0)
 
-unfoldable pub lengths_file_check : List ℕ → Checked
+unfoldable pub lengths_file_check : List ℕ → Result (Unit {0}) Refusal
 lengths_file_check file = first (text_check file) (lengths_check (lengths_of file))
 
 -- the same in numbers

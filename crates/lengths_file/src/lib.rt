@@ -4,16 +4,16 @@
 mod input;
 mod text;
 
-ghost use Rattle.std.specs.Prelude.{◌≡◌, [], ◌∷◌};
+ghost use Rattle.std.specs.Prelude.{◌≡◌, [], ◌∷◌, Ok, Err, MatchResult};
 ghost use Rattle.table_checks.specs.Refusal.{check_returns};
-ghost use Rattle.table_checks.specs.Checks.{lengths_check};
+ghost use Rattle.table_checks.specs.Checks.{lengths_check, Loadable};
 ghost use Rattle.table_checks.specs.Returns.{lengths_returns};
 ghost use Rattle.frame_table.specs.Table.{answer_for, area_after, answer_returns, returns_for};
-ghost use Rattle.lengths_file.specs.Lengths.{lengths_file_returns, loaded as loaded_from, text_of};
+ghost use Rattle.lengths_file.specs.Lengths.{lengths_of, lengths_file_check, lengths_file_returns, loaded as loaded_from, text_of};
 
-use frame_table::{Answer, no_room};
-pub use input::{check_size, lengths_end};
-use table_checks::{Cause, Checked, Refusal, check_lengths};
+use frame_table::no_room;
+pub use input::{check_size, lengths_end, read_table};
+use table_checks::{Cause, Refusal, check_lengths};
 
 // The characters of a line with its line feed, and those of the file.
 pub const LINE: usize = 46;
@@ -22,20 +22,12 @@ pub const FILE: usize = 92;
 
 // What reading the file finds: nothing against it, or the first cause; beside it the lengths of kind 11 and of kind 29, zeros where the
 // file breaks its notation.
-#[derive(Drop)]
+// No Result: it tells the lengths of a file that is turned back, too (clause `value` of `read`); `load` answers one.
+#[derive(Clone, Copy)]
 pub struct Loaded {
-    pub checked: Checked,
+    pub checked: Result<(), Refusal>,
     pub short: [u32; 9],
     pub long: [u32; 9],
-}
-
-// The lengths that were read, as an array of two arrays.
-pub fn lengths_of(loaded: Loaded) -> [[u32; 9]; 2]
-    ensures { result ≡ loaded.short ∷ loaded.long ∷ [] }
-{
-    let short = loaded.short;
-    let long = loaded.long;
-    [short, long]
 }
 
 // Reads lengths.
@@ -53,7 +45,7 @@ pub fn read(file: &[u8]) -> Loaded
         };
     }
     Loaded {
-        checked: Checked::Failed(Refusal {
+        checked: Err(Refusal {
             cause: Cause::LengthsFile,
             place: 0,
         }),
@@ -62,21 +54,33 @@ pub fn read(file: &[u8]) -> Loaded
     }
 }
 
+// The lengths that were read, as an array of two arrays.
+pub fn lengths_of(loaded: Loaded) -> [[u32; 9]; 2]
+    ensures { result ≡ loaded.short ∷ loaded.long ∷ [] }
+{
+    let Loaded { short, long, .. } = loaded;
+    [short, long]
+}
+
+// Reads lengths that pass their check, as an array of two arrays, or why the file is turned back.
+pub fn load(file: &[u8]) -> Result<[[u32; 9]; 2], Refusal>
+    ensures { MatchResult result (λ ls. (lengths_file_check file.now ≡ Ok tt) × (ls ≡ lengths_of file.now) × Loadable ls) (λ r. lengths_file_check file.now ≡ Err r) }
+{
+    let loaded = read(file);
+    loaded.checked?;
+    Ok(lengths_of(loaded))
+}
+
 // Writes lengths to a file. A refusal leaves it as it is.
-pub fn write(lengths: [[u32; 9]; 2], file: &mut [u8]) -> Answer
+pub fn write(lengths: [[u32; 9]; 2], file: &mut [u8]) -> Result<usize, Refusal>
     ensures value { result ≡ answer_for (lengths_check lengths) (text_of lengths) file.old }
     ensures file_after { file.new ≡ area_after result (text_of lengths) file.old }
     ensures in_numbers { answer_returns result ≡ returns_for (lengths_returns lengths) (text_of lengths) file.old }
 {
-    let checked = check_lengths(lengths);
-    match checked {
-        Checked::Failed(refusal) => Answer::Refused(refusal),
-        Checked::Passed => {
-            if file.len() < FILE {
-                return no_room();
-            }
-            text::write_lines(lengths, file);
-            Answer::Done(FILE)
-        }
+    check_lengths(lengths)?;
+    if file.len() < FILE {
+        return no_room();
     }
+    text::write_lines(lengths, file);
+    Ok(FILE)
 }

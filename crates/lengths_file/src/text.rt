@@ -13,7 +13,7 @@ const COLUMN: usize = 5;
 const LINE_FEED: u8 = 10;
 
 // What column s of line k holds.
-fn column(file: &[u8], k: usize, s: usize) -> decimal::Column
+fn column(file: &[u8], k: usize, s: usize) -> Option<u64>
     requires { (46 * k + 46 ≤ length file.now) × (s < 9) }
     ensures { result ≡ read_column (column_at file.now k s) }
 {
@@ -27,11 +27,7 @@ fn is_broken(file: &[u8], k: usize, s: usize) -> bool
     requires { (46 * k + 46 ≤ length file.now) × (s < 9) }
     ensures { result ≡ is_broken file.now k s }
 {
-    let found = column(file, k, s);
-    match found {
-        decimal::Column::Value(_) => false,
-        decimal::Column::Broken => true,
-    }
+    column(file, k, s).is_none()
 }
 
 // Whether some column of line k does.
@@ -39,12 +35,10 @@ fn breaks_notation(file: &[u8], k: usize) -> bool
     requires { 46 * k + 46 ≤ length file.now }
     ensures { result ≡ exists (is_broken file.now k) (range 0 9) }
 {
-    let mut s = 0;
-    while s < PAYLOADS {
+    for s in 0..PAYLOADS {
         if is_broken(file, k, s) {
             return true;
         }
-        s += 1;
     }
     false
 }
@@ -72,11 +66,7 @@ fn number(file: &[u8], k: usize, s: usize) -> u32
     requires { (46 * k + 46 ≤ length file.now) × (s < 9) }
     ensures { result ≡ number_in (read_column (column_at file.now k s)) }
 {
-    let found = column(file, k, s);
-    match found {
-        decimal::Column::Value(n) => n as u32,
-        decimal::Column::Broken => 0,
-    }
+    column(file, k, s).unwrap_or(0) as u32
 }
 
 // The numbers of line k.
@@ -85,10 +75,8 @@ pub fn line(file: &[u8], k: usize) -> [u32; 9]
     ensures { result ≡ line_of file.now k }
 {
     let mut numbers = [0u32; PAYLOADS];
-    let mut s = 0;
-    while s < PAYLOADS {
+    for s in 0..PAYLOADS {
         numbers[s] = number(file, k, s);
-        s += 1;
     }
     numbers
 }
@@ -98,12 +86,10 @@ fn write_line(lengths: [[u32; 9]; 2], k: usize, line: &mut [u8])
     requires { (k < 2) × (length line.old ≡ 46) }
     ensures { line.new ≡ line_text lengths k }
 {
-    let mut s = 0;
-    while s < PAYLOADS {
+    for s in 0..PAYLOADS {
         let from = COLUMN * s;
         let to = from + COLUMN;
-        decimal::write(&mut line[from..to], table_checks::wide(lengths[k][s]));
-        s += 1;
+        decimal::write(&mut line[from..to], u64::from(lengths[k][s]));
     }
     line[LINE - 1] = LINE_FEED;
 }
@@ -113,11 +99,9 @@ pub fn write_lines(lengths: [[u32; 9]; 2], file: &mut [u8])
     requires { 92 ≤ length file.old }
     ensures { file.new ≡ text_of lengths ++ drop 92 file.old }
 {
-    let mut k = 0;
-    while k < KINDS {
+    for k in 0..KINDS {
         let from = LINE * k;
         let to = from + LINE;
         write_line(lengths, k, &mut file[from..to]);
-        k += 1;
     }
 }

@@ -9,11 +9,9 @@ const LISTING: usize = 1984;
 
 fn main(rt: HostRuntime) {
     let mut bytes = [0u8; BUFFER];
-    let input = console::read_input(&rt, b"listing", &mut bytes);
-    if !input.held {
+    let Some(size) = console::read_input(&rt, b"listing", &mut bytes) else {
         return;
-    }
-    let size = input.size;
+    };
     let mut listing = [0u8; LISTING];
     let answer = certifier::list_input(&bytes[..size], &mut listing);
     console::print_answer(&rt, b"listing", answer, &listing);

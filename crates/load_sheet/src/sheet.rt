@@ -1,9 +1,7 @@
 // The sheet: a line for each node that has frames, nodes rising, and a last line.
-ghost use Rattle.std.specs.Prelude.{◌≡◌, ◌*◌, ◌≤◌, max, ◌++◌, length, take, drop};
-ghost use Rattle.table_checks.specs.declared.Checked.TheVariants.{Passed};
-ghost use Rattle.table_checks.specs.Checks.{Loadable, Accepted};
+ghost use Rattle.std.specs.Prelude.{◌≡◌, ◌*◌, ◌≤◌, max, ◌++◌, length, take, drop, Ok};
 ghost use Rattle.frame_table.specs.Text.{fields_of};
-ghost use Rattle.frame_table.specs.Table.{read_check, answer_for, area_after, answer_returns, returns_for};
+ghost use Rattle.frame_table.specs.Table.{answer_for, area_after, answer_returns, returns_for};
 ghost use Rattle.lengths_file.specs.Lengths.{lengths_of};
 ghost use Rattle.lengths_file.specs.Input.{input_check, input_returns, lengths_part, table_part};
 ghost use Rattle.load_sheet.specs.Sheet.{nodes_of, node_load, node_line, lines_of, last_line, greatest_quotient, sheet_of};
@@ -11,9 +9,8 @@ ghost use Rattle.load_sheet.specs.Steps.{Nodes};
 
 use crate::Load;
 use crate::loads::{has_frames, node_load};
-use frame_table::{Answer, no_room};
-use lengths_file::lengths_of;
-use table_checks::Checked;
+use frame_table::no_room;
+use table_checks::Table;
 
 const NODES: usize = 16;
 
@@ -25,21 +22,18 @@ const LAST_LINE: usize = 14;
 const LINE_FEED: u8 = 10;
 
 // Writes the load sheet of the table in a file, by the lengths in another. A refusal leaves the output as it is.
-pub fn write(lengths: &[u8], file: &[u8], out: &mut [u8]) -> Answer
+pub fn write(lengths: &[u8], file: &[u8], out: &mut [u8]) -> Result<usize, table_checks::Refusal>
     ensures value { result ≡ answer_for (input_check lengths.now file.now) (sheet_of (lengths_of lengths.now) (fields_of file.now)) out.old }
     ensures out_after { out.new ≡ area_after result (sheet_of (lengths_of lengths.now) (fields_of file.now)) out.old }
     ensures in_numbers { answer_returns result ≡ returns_for (input_returns lengths.now file.now) (sheet_of (lengths_of lengths.now) (fields_of file.now)) out.old }
 {
-    let loaded = lengths_file::read(lengths);
-    let checked = loaded.checked;
-    match checked {
-        Checked::Failed(refusal) => Answer::Refused(refusal),
-        Checked::Passed => write_table(lengths_of(loaded), file, out),
-    }
+    let mut rows = [0u32; table_checks::MOST_NUMBERS];
+    let table = lengths_file::read_table(lengths, file, &mut rows)?;
+    write_rows(&table, out)
 }
 
 // Writes the load sheet of an input that holds both: its first 92 bytes are the file of the lengths, and the rest is that of the table.
-pub fn write_input(input: &[u8], out: &mut [u8]) -> Answer
+pub fn write_input(input: &[u8], out: &mut [u8]) -> Result<usize, table_checks::Refusal>
     ensures value { result ≡ answer_for (input_check (lengths_part input.now) (table_part input.now)) (sheet_of (lengths_of (lengths_part input.now)) (fields_of (table_part input.now))) out.old }
     ensures out_after { out.new ≡ area_after result (sheet_of (lengths_of (lengths_part input.now)) (fields_of (table_part input.now))) out.old }
     ensures in_numbers { answer_returns result ≡ returns_for (input_returns (lengths_part input.now) (table_part input.now)) (sheet_of (lengths_of (lengths_part input.now)) (fields_of (table_part input.now))) out.old }
@@ -49,36 +43,21 @@ pub fn write_input(input: &[u8], out: &mut [u8]) -> Answer
     write(&input[0..end], &input[end..size], out)
 }
 
-// Writes the load sheet of the table in a file, by lengths that passed their check.
-fn write_table(lengths: [[u32; 9]; 2], file: &[u8], out: &mut [u8]) -> Answer
-    requires { Loadable lengths }
-    ensures value { result ≡ answer_for (read_check file.now) (sheet_of lengths (fields_of file.now)) out.old }
-    ensures out_after { out.new ≡ area_after result (sheet_of lengths (fields_of file.now)) out.old }
-{
-    let mut rows = [0u32; table_checks::MOST_NUMBERS];
-    let answer = frame_table::read(file, &mut rows);
-    match answer {
-        Answer::Refused(_) => answer,
-        Answer::Done(n) => write_rows(lengths, &rows[..n], out),
-    }
-}
-
 // Writes the load sheet of an accepted table.
-fn write_rows(lengths: [[u32; 9]; 2], rows: &[u32], out: &mut [u8]) -> Answer
-    requires { Loadable lengths × Accepted rows.now }
-    ensures value { result ≡ answer_for Passed (sheet_of lengths rows.now) out.old }
-    ensures out_after { out.new ≡ area_after result (sheet_of lengths rows.now) out.old }
+fn write_rows(table: &Table, out: &mut [u8]) -> Result<usize, table_checks::Refusal>
+    ensures value { result ≡ answer_for (Ok tt) (sheet_of table.now.lengths table.now.rows.now) out.old }
+    ensures out_after { out.new ≡ area_after result (sheet_of table.now.lengths table.now.rows.now) out.old }
 {
     let mut nodes = [0u32; NODES];
-    let count = find_nodes(rows, &mut nodes);
+    let count = find_nodes(table.rows, &mut nodes);
     let end = LINE * count;
     if out.len() < end + LAST_LINE {
         return no_room();
     }
-    let most = write_lines(lengths, rows, &nodes[..count], out);
+    let most = write_lines(table, &nodes[..count], out);
     let to = end + LAST_LINE;
     write_last(count, most, &mut out[end..to]);
-    Answer::Done(to)
+    Ok(to)
 }
 
 // Puts the nodes that have frames at the start of an area, rising, and answers how many they are.
@@ -88,43 +67,31 @@ fn find_nodes(rows: &[u32], nodes: &mut [u32]) -> usize
     ensures counted { (result ≡ length (nodes_of rows.now)) × (result ≤ 16) }
 {
     let mut found = 0;
-    let mut node = 1;
-    while node <= 16 {
+    for node in 1..=16 {
         if has_frames(rows, node) {
             nodes[found] = node;
             found += 1;
         }
-        node += 1;
     }
     found
 }
 
 // Writes the lines of the nodes, and answers their greatest quotient.
-fn write_lines(lengths: [[u32; 9]; 2], rows: &[u32], nodes: &[u32], out: &mut [u8]) -> u64
-    requires loadable { Loadable lengths × Accepted rows.now }
-    requires nodes { Nodes rows.now nodes.now }
+fn write_lines(table: &Table, nodes: &[u32], out: &mut [u8]) -> u64
+    requires nodes { Nodes table.now.rows.now nodes.now }
     requires nodes_in_bounds { 30 * length nodes.now ≤ length out.old }
-    ensures value { result ≡ greatest_quotient (node_load lengths rows.now) nodes.now }
-    ensures out_after { out.new ≡ lines_of (node_load lengths rows.now) nodes.now ++ drop (30 * length nodes.now) out.old }
+    ensures value { result ≡ greatest_quotient (node_load table.now.lengths table.now.rows.now) nodes.now }
+    ensures out_after { out.new ≡ lines_of (node_load table.now.lengths table.now.rows.now) nodes.now ++ drop (30 * length nodes.now) out.old }
 {
     let mut most = 0;
-    let mut i = 0;
-    while i < nodes.len() {
-        let node = nodes[i];
-        let load = node_load(lengths, rows, node);
+    for (i, node) in nodes.iter().enumerate() {
+        let load = node_load(table, *node);
         let from = LINE * i;
         let to = from + LINE;
-        write_line(node, load, &mut out[from..to]);
-        most = greater(most, load.quotient);
-        i += 1;
+        write_line(*node, load, &mut out[from..to]);
+        most = most.max(load.quotient);
     }
     most
-}
-
-fn greater(a: u64, b: u64) -> u64
-    ensures { result ≡ max a b }
-{
-    if a < b { b } else { a }
 }
 
 // Writes node, quotient, remainder and divisor, and a line feed.

@@ -3,10 +3,6 @@
 // so many bytes: two arguments (20 each), lengths and table, and the log. An argument that is malformed is said.
 #![tactic(auto)]
 
-use certifier::Reply;
-use frame_table::Answer;
-use std::io::Read;
-
 // The bytes of the arguments.
 const ARGUMENTS: usize = 40;
 
@@ -14,87 +10,43 @@ const ARGUMENTS: usize = 40;
 const BUFFER: usize = 67_200;
 
 fn main(rt: HostRuntime) {
-    let mut input = rt.stdin();
-    for _ in 0..case_reader::MOST_CASES {
-        if !run_case(&rt, &mut input) {
-            return;
-        }
-    }
-}
-
-// Runs the next case; false at the end of the input.
-fn run_case(rt: &impl Print, input: &mut impl Read) -> bool {
-    let mut header = [0u8; case_reader::HEADER];
-    if input.read_exact(&mut header).is_err() {
-        return false;
-    }
-    let letter = header[0];
-    let part = case_reader::number(&header[1..9]);
-    let size = case_reader::number(&header[9..17]) as usize;
     let mut buffer = [0u8; BUFFER];
-    if case_reader::read_payload(input, size, &mut buffer) {
-        run(rt, letter, part, size, &buffer);
-        return true;
-    }
-    false
+    case_reader::run_cases(&mut rt.stdin(), &mut buffer, |letter, part, payload| {
+        run(&rt, letter, part, payload)
+    });
 }
 
 // Answers a case whose lengths and table have `part` bytes.
-fn run(rt: &impl Print, letter: u8, part: u64, size: usize, buffer: &[u8]) {
-    if buffer.len() < size {
+fn run(rt: &impl Print, letter: u8, part: u64, payload: &[u8]) {
+    let Some((arguments, files)) = payload.split_at_checked(ARGUMENTS) else {
         return;
-    }
-    if size < ARGUMENTS {
+    };
+    let Some((input, log)) = files.split_at_checked(part as usize) else {
         return;
-    }
-    if ((size - ARGUMENTS) as u64) < part {
-        return;
-    }
-    let to = ARGUMENTS + part as usize;
-    let input = &buffer[40..to];
-    let log = &buffer[to..size];
+    };
+    let (first, second) = arguments.split_at(20);
     match letter {
         b'C' => check_log(rt, input, log),
-        b'B' => busiest(rt, &buffer[0..20], input, log),
-        b'S' => simulate(rt, &buffer[0..20], &buffer[20..40], input),
+        b'B' => busiest(rt, first, input, log),
+        b'S' => simulate(rt, first, second, input),
         _ => {}
     }
 }
 
 fn check_log(rt: &impl Print, input: &[u8], log: &[u8]) {
-    let mut space = [0u8; log_command::LONGEST];
-    let out: &mut [u8] = &mut space;
-    let answer = log_command::write_input(input, log, out);
-    print(rt, answer, out);
+    let mut out = [0u8; log_command::LONGEST];
+    let answer = log_command::write_input(input, log, &mut out);
+    case_reader::print_reply(rt, Some(answer), &out);
 }
 
 fn busiest(rt: &impl Print, width: &[u8], input: &[u8], log: &[u8]) {
-    let mut space = [0u8; busiest_command::LONGEST];
-    let out: &mut [u8] = &mut space;
-    let reply = busiest_command::write_input(input, log, width, out);
-    print_reply(rt, reply, out);
+    let mut out = [0u8; busiest_command::LONGEST];
+    let reply = busiest_command::write_input(input, log, width, &mut out);
+    case_reader::print_reply(rt, reply, &out);
 }
 
 fn simulate(rt: &impl Print, seed: &[u8], lines: &[u8], input: &[u8]) {
-    let mut space = [0u8; simulator::LONGEST];
-    let out: &mut [u8] = &mut space;
-    let reply = simulate_command::write_log(seed, lines, input, out);
-    print_reply(rt, reply, out);
-}
-
-fn print_reply(rt: &impl Print, reply: Reply, text: &[u8]) {
-    match reply {
-        Reply::Malformed => {
-            let _ = rt.write_all(b"malformed\n");
-        }
-        Reply::Answered(answer) => print(rt, answer, text),
-    }
-}
-
-fn print(rt: &impl Print, answer: Answer, text: &[u8]) {
-    if let Answer::Done(n) = answer {
-        if n <= text.len() {
-            let _ = rt.write_all(&text[0..n]);
-        }
-    }
+    let mut out = [0u8; simulator::LONGEST];
+    let reply = simulate_command::write_log(seed, lines, input, &mut out);
+    case_reader::print_reply(rt, reply, &out);
 }

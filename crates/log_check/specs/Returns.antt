@@ -1,8 +1,6 @@
 -- What checking a log returns, in numbers: number and place of a refusal, 0 and 0 where the log is accepted, and beside them the starts of
 -- groups 1 to 16, zeros where it is not.
-use Rattle.std.specs.Prelude.{ℕ, ◌+◌, cond, List, eqb, length}
-use Rattle.arith.specs.declared.Found.{Found}
-use Rattle.arith.specs.declared.Found.TheVariants.{At, Nothing}
+use Rattle.std.specs.Prelude.{ℕ, ◌+◌, cond, List, eqb, length, Option, Some, None, Result, Ok, Err}
 use Rattle.table_checks.specs.Frames.{frames_of}
 use Rattle.table_checks.specs.Refusal.{Returned, returned}
 use Rattle.frame_table.specs.Text.{fields_of}
@@ -10,9 +8,7 @@ use Rattle.lengths_file.specs.Lengths.{lengths_of}
 use Rattle.lengths_file.specs.Input.{input_returns}
 use Rattle.bus_log.specs.Log.{shown_starts}
 use Rattle.bus_log.specs.Follow.{follow_log}
-use Rattle.log_check.specs.declared.Outcome.{Outcome}
-use Rattle.log_check.specs.declared.Outcome.TheVariants.{Accepted, Refused}
-use Rattle.log_check.specs.declared.LogChecked.{LogChecked}
+use Rattle.log_check.specs.declared.Refusal.{Refusal}
 use Rattle.log_check.specs.Refusal.{number_of}
 use Rattle.log_check.specs.Check.{no_starts, is_missized, first_broken, lines_of}
 
@@ -28,17 +24,14 @@ abbrev pub as_refused : Returned → LogReturned
 as_refused r = record { number = r.number; place = r.place; starts = no_starts }
 
 -- what an answer returns
-unfoldable pub outcome_returns : Outcome → Returned
-outcome_returns Accepted = returned 0 0
-outcome_returns (Refused f) = returned (number_of f.cause) f.place
-
-unfoldable pub log_returns : LogChecked → LogReturned
-log_returns a = let r = outcome_returns a.outcome in record { number = r.number; place = r.place; starts = a.starts }
+unfoldable pub log_returns : Result (List ℕ) Refusal → LogReturned
+log_returns (Ok starts) = as_shown starts
+log_returns (Err f) = as_refused (returned (number_of f.cause) f.place)
 
 -- the place of a line that was found, from 1, 0 where none was
-abbrev pub place_of : Found → ℕ
-place_of (At i) = i + 1
-place_of Nothing = 0
+abbrev pub place_of : Option ℕ → ℕ
+place_of (Some i) = i + 1
+place_of None = 0
 
 -- what is returned for a log: what the check of lengths and table returns, then 18, then 19, then the starts
 unfoldable pub log_returns_for : Returned → List (List ℕ) → List ℕ → List ℕ → LogReturned

@@ -1,10 +1,9 @@
 -- What an answer says of a log (document 02, request 10), in terms of its notation and of the bus rule.
-use Rattle.std.specs.Prelude.{ℕ, ◌+◌, ◌*◌, ◌/◌, ◌%◌, ◌≤◌, ◌<◌, List, ◌⊎◌, ◌≡◌, length, get_or}
+use Rattle.std.specs.Prelude.{ℕ, ◌+◌, ◌*◌, ◌/◌, ◌%◌, ◌≤◌, ◌<◌, List, ◌⊎◌, ◌≡◌, length, get_or, Result, Ok, Err}
+use Rattle.table_checks.specs.declared.Refusal.{Refusal}
 use Rattle.table_checks.specs.Frames.{frames_of}
 use Rattle.table_checks.specs.Refusal.{failed}
 use Rattle.table_checks.specs.Checks.{loaded_check}
-use Rattle.table_checks.specs.declared.Checked.{Checked}
-use Rattle.table_checks.specs.declared.Checked.TheVariants.{Passed}
 use Rattle.frame_table.specs.Text.{fields_of}
 use Rattle.lengths_file.specs.Lengths.{lengths_of}
 use Rattle.lengths_file.specs.Input.{input_check}
@@ -13,9 +12,7 @@ use Rattle.bus_log.specs.Log.{ShortestFailing, ShownStarts}
 use Rattle.log_reader.specs.Text.{Stands}
 use Rattle.log_check.specs.declared.Cause.{Cause}
 use Rattle.log_check.specs.declared.Cause.TheVariants.{Table, Notation, Contradiction}
-use Rattle.log_check.specs.declared.Outcome.{Outcome}
-use Rattle.log_check.specs.declared.Outcome.TheVariants.{Accepted, Refused}
-use Rattle.log_check.specs.declared.LogChecked.{LogChecked}
+use Rattle.log_check.specs.declared.Refusal.{Refusal as LogRefusal}
 use Rattle.log_check.specs.Check.{lines_of}
 
 -- ---- the notation
@@ -40,22 +37,22 @@ pub record FirstBroken (text : List ℕ) (place : ℕ) : Type 0 where
 -- ---- the answer, where the lengths and the table were checked
 
 -- of a refusal
-unfoldable pub Refuses : Checked → List (List ℕ) → List ℕ → List ℕ → Cause → ℕ → Type 0
+unfoldable pub Refuses : Result (Unit {0}) Refusal → List (List ℕ) → List ℕ → List ℕ → Cause → ℕ → Type 0
 Refuses check ls rows text (Table cause) place = check ≡ failed cause place
-Refuses check ls rows text Notation place = (check ≡ Passed) × (((place ≡ 0) × (Sized (length text) → ⊥)) ⊎ FirstBroken text place)
+Refuses check ls rows text Notation place = (check ≡ Ok tt) × (((place ≡ 0) × (Sized (length text) → ⊥)) ⊎ FirstBroken text place)
 Refuses check ls rows text Contradiction place =
-    (check ≡ Passed) × Holds text (lines_of text) × ShortestFailing (frames_of ls rows) rows (lines_of text) place
+    (check ≡ Ok tt) × Holds text (lines_of text) × ShortestFailing (frames_of ls rows) rows (lines_of text) place
 
--- of an outcome, beside which the starts are shown
-unfoldable pub Means : Checked → List (List ℕ) → List ℕ → List ℕ → List ℕ → Outcome → Type 0
-Means check ls rows text starts Accepted =
-    (check ≡ Passed) × Holds text (lines_of text) × ShownStarts (frames_of ls rows) rows (lines_of text) starts
-Means check ls rows text starts (Refused f) = Refuses check ls rows text f.cause f.place
+-- of the starts that are shown, or of a refusal
+unfoldable pub Means : Result (Unit {0}) Refusal → List (List ℕ) → List ℕ → List ℕ → Result (List ℕ) LogRefusal → Type 0
+Means check ls rows text (Ok starts) =
+    (check ≡ Ok tt) × Holds text (lines_of text) × ShownStarts (frames_of ls rows) rows (lines_of text) starts
+Means check ls rows text (Err f) = Refuses check ls rows text f.cause f.place
 
 -- for rows in memory
-abbrev pub Says : List (List ℕ) → List ℕ → List ℕ → LogChecked → Type 0
-Says ls rows text a = Means (loaded_check ls rows) ls rows text a.starts a.outcome
+abbrev pub Says : List (List ℕ) → List ℕ → List ℕ → Result (List ℕ) LogRefusal → Type 0
+Says ls rows text a = Means (loaded_check ls rows) ls rows text a
 
 -- for lengths and table as bytes
-abbrev pub SaysOf : List ℕ → List ℕ → List ℕ → LogChecked → Type 0
-SaysOf lengths table text a = Means (input_check lengths table) (lengths_of lengths) (fields_of table) text a.starts a.outcome
+abbrev pub SaysOf : List ℕ → List ℕ → List ℕ → Result (List ℕ) LogRefusal → Type 0
+SaysOf lengths table text a = Means (input_check lengths table) (lengths_of lengths) (fields_of table) text a

@@ -25,7 +25,7 @@ unfolding most_busy busy_in busy_at is_busy holds exists sum greatest range end_
 most w = most_busy log w
 
 unfoldable first : ℕ → ℕ
-unfolding first_busiest most_busy least or_zero busy_in busy_at is_busy holds exists sum greatest range end_from log
+unfolding first_busiest most_busy least busy_in busy_at is_busy holds exists sum greatest range end_from log
 first w = first_busiest log w
 
 unfoldable seen : ℕ → Seen
@@ -72,7 +72,7 @@ none = refl
 -- The sheet for stretches of 6 ticks, in characters: "          6          5", then "         7    2          7             10",
 -- "         7    2          7             13" and "         8    0          0              0", each with a line feed.
 sheet-6 : sheet_of rows log 6 ≡ first_line 6 5 ++ (row_line 7 (seen 0) ++ (row_line 7 (seen 1) ++ row_line 8 (seen 2)))
-unfolding sheet_of line_of most_busy first_busiest least or_zero busy_in busy_at is_busy holds exists sum greatest range end_from seen log rows row_line write_column
+unfolding sheet_of line_of most_busy first_busiest least busy_in busy_at is_busy holds exists sum greatest range end_from seen log rows row_line write_column
 sheet-6 = refl
 
 first-line : first_line 6 5 ≡

@@ -7,4 +7,5 @@ pub mod Returns
 pub mod Meaning
 pub mod Cases
 pub mod Steps
+pub mod Log
 pub mod Theory

@@ -1,6 +1,7 @@
 -- What is returned for a log and a width, in numbers: number and place of a refusal, 0 and 0 where there is none, and how many characters
 -- were written.
-use Rattle.std.specs.Prelude.{ℕ, cond, List}
+use Rattle.std.specs.Prelude.{ℕ, cond, List, Result, Ok, Err}
+use Rattle.log_load.specs.declared.Refusal.{Refusal}
 use Rattle.table_checks.specs.Refusal.{Returned, returned}
 use Rattle.table_checks.specs.Returns.{first_returned, loaded_returns}
 use Rattle.frame_table.specs.Table.{Answered, answered, returns_for}
@@ -9,16 +10,14 @@ use Rattle.bus_log.specs.declared.Line.{Line}
 use Rattle.bus_log.specs.Log.{last_end}
 use Rattle.log_check.specs.Check.{lines_of}
 use Rattle.log_check.specs.Returns.{LogReturned, log_returns_for, files_returns}
-use Rattle.log_load.specs.declared.Answer.{Answer}
-use Rattle.log_load.specs.declared.Answer.TheVariants.{Done, Refused}
 use Rattle.log_load.specs.Refusal.{number_of}
 use Rattle.log_load.specs.Sheet.{sheet_of}
 use Rattle.log_load.specs.Answer.{is_no_width}
 
 -- what an answer returns
-unfoldable pub answer_returns : Answer → Answered
-answer_returns (Done n) = answered 0 0 n
-answer_returns (Refused f) = answered (number_of f.cause) f.place 0
+unfoldable pub answer_returns : Result ℕ Refusal → Answered
+answer_returns (Ok n) = answered 0 0 n
+answer_returns (Err f) = answered (number_of f.cause) f.place 0
 
 -- 20, for an accepted log whose last end is `last`
 unfoldable pub width_returns : ℕ → ℕ → Returned

@@ -1,4 +1,6 @@
 -- What one step of the code hands to the next.
+use Rattle.std.proofs.Props as std
+use Rattle.std.specs.Coded.{×_prop, Unit-prop, le_prop}
 use Rattle.std.specs.Prelude.{ℕ, ◌+◌, ◌-◌, ◌≤◌, ◌<◌, min, max, ◌≡◌, cond, List, [], ◌∷◌, length, get_or, ltb}
 use Rattle.arith.specs.Lists.{sum}
 use Rattle.arith.specs.Laws.Walks.{Through}
@@ -22,6 +24,15 @@ Readable text = Holds text (lines_of text)
 unfoldable pub Ordered : ℕ → List Line → Type 0
 Ordered e [] = Unit {0}
 Ordered e (l ∷ ls) = (e ≤ l.start) × Ordered (l.start + l.length) ls
+
+-- which is a fact
+pub Ordered-prop : (e : ℕ) (log : List Line) → IsProp (Ordered e log)
+unfolding Ordered
+Ordered-prop e [] = Unit-prop
+Ordered-prop e (l ∷ ls) = ×_prop le_prop (Ordered-prop (l.start + l.length) ls)
+
+-- both facts in a ghost field
+pub ruleset props = (std.props, Ordered-prop)
 
 -- line i, from 0
 abbrev pub no_line : Line

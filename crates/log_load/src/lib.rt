@@ -8,7 +8,9 @@ mod sheet;
 mod stretch;
 
 ghost use Rattle.std.specs.Prelude.{◌≡◌};
+ghost use Rattle.log_check.specs.Check.{lines_of};
 ghost use Rattle.log_load.specs.Refusal.{number_of, of_log};
+ghost use Rattle.log_load.specs.Steps.{Readable, Ordered, props};
 
 pub use files::{busiest_file, busiest_input};
 pub use operation::busiest;
@@ -17,7 +19,7 @@ pub use operation::busiest;
 pub const LONGEST: usize = 2711;
 
 // Why a call is turned back.
-#[derive(Drop)]
+#[derive(Clone, Copy)]
 pub enum Cause {
     // The checks of lengths, tables and logs, and an output area that is too short.
     Log(log_check::Cause),
@@ -26,17 +28,30 @@ pub enum Cause {
 }
 
 // A cause and its place: of the lengths, the table or the log, or 0.
-#[derive(Drop)]
+#[derive(Clone, Copy)]
 pub struct Refusal {
     pub cause: Cause,
     pub place: u32,
 }
 
-// What is answered: how many characters of the sheet were written, or why none was.
-#[derive(Drop)]
-pub enum Answer {
-    Done(usize),
-    Refused(Refusal),
+// A refusal of lengths, table or log, as one of these.
+impl From<log_check::Refusal> for Refusal {
+    ghost from_gives = { λ r result. result ≡ of_log r };
+
+    fn from(refusal: log_check::Refusal) -> Refusal {
+        Refusal {
+            cause: Cause::Log(refusal.cause),
+            place: refusal.place,
+        }
+    }
+}
+
+// The text of an accepted log: it is in the notation, and each line starts at the end of the one before or later.
+#[derive(Clone, Copy)]
+struct Log<'a> {
+    pub text: &'a [u8],
+    ghost readable: { Readable text.now } by { Prim.hlevel props },
+    ghost ordered: { Ordered 0 (lines_of text.now) } by { Prim.hlevel props },
 }
 
 // A stretch: how many of its ticks are busy, and its first tick.
@@ -64,7 +79,7 @@ pub struct Window {
 }
 
 // What is seen of a row: instances, the greatest response and the sum of responses.
-#[derive(Drop)]
+#[derive(Clone, Copy)]
 pub struct Seen {
     pub count: u64,
     pub most: u64,
@@ -72,22 +87,12 @@ pub struct Seen {
 }
 
 // The number of a cause in documents 01 and 02.
+#[tactic(auto, unfolding(crate::specs::Refusal::number_of))]
 pub fn number(cause: Cause) -> u32
     ensures { result ≡ number_of cause }
 {
     match cause {
         Cause::Log(log) => log_check::number(log),
         Cause::Width => 20,
-    }
-}
-
-// A refusal of lengths, table or log, as one of these.
-pub fn of_log(refusal: log_check::Refusal) -> Refusal
-    ensures { result ≡ of_log refusal }
-{
-    let cause = refusal.cause;
-    Refusal {
-        cause: Cause::Log(cause),
-        place: refusal.place,
     }
 }

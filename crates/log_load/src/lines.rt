@@ -1,42 +1,42 @@
-// The lines of a log that is in the notation.
+// The lines of an accepted log.
 ghost use Rattle.std.specs.Prelude.{◌≡◌, ◌<◌, ◌≤◌, ◌^◌, length};
 ghost use Rattle.bus_log.specs.Log.{last_end};
 ghost use Rattle.log_reader.specs.Laws.{Small};
-ghost use Rattle.log_check.specs.Check.{lines_of};
-ghost use Rattle.log_load.specs.Steps.{Readable, nth};
+ghost use Rattle.log_load.specs.Steps.{nth};
+ghost use Rattle.log_load.specs.Log.{lines};
 
+use crate::Log;
 use bus_log::Line;
 use log_reader::LINE;
 
-// How many they are.
-pub fn count(text: &[u8]) -> usize
-    requires { Readable text.now }
-    ensures value { result ≡ length (lines_of text.now) }
-    ensures few { result ≤ 1600 }
-{
-    text.len() / LINE
-}
-
-// Line i, from 0.
-pub fn line_of(text: &[u8], i: usize) -> Line
-    requires readable { Readable text.now }
-    requires i_in_bounds { i < length (lines_of text.now) }
-    ensures value { result ≡ nth (lines_of text.now) i }
-    ensures small { Small result }
-{
-    log_check::line_of(text, i)
-}
-
-// The last end.
-pub fn last_end(text: &[u8]) -> u64
-    requires { Readable text.now }
-    ensures value { result ≡ last_end (lines_of text.now) }
-    ensures small { result < 2 ^ 41 }
-{
-    let n = count(text);
-    if n == 0 {
-        return 0;
+impl<'a> Log<'a> {
+    // How many they are.
+    pub fn count(&self) -> usize
+        ensures value { result ≡ length (lines self.now) }
+        ensures few { result ≤ 1600 }
+    {
+        self.text.len() / LINE
     }
-    let l = line_of(text, n - 1);
-    l.start + l.length
+
+    // Line i, from 0.
+    pub fn line(&self, i: usize) -> Line
+        requires { i < length (lines self.now) }
+        ensures value { result ≡ nth (lines self.now) i }
+        ensures small { Small result }
+    {
+        log_check::line_of(self.text, i)
+    }
+
+    // The last end.
+    pub fn last_end(&self) -> u64
+        ensures value { result ≡ last_end (lines self.now) }
+        ensures small { result < 2 ^ 41 }
+    {
+        let n = self.count();
+        if n == 0 {
+            return 0;
+        }
+        let l = self.line(n - 1);
+        l.start + l.length
+    }
 }

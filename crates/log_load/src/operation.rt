@@ -1,16 +1,14 @@
 // The operation: the log is checked, then the width, then the room for the sheet, and then the sheet is written.
-ghost use Rattle.std.specs.Prelude.{◌≡◌, ℕ};
+ghost use Rattle.std.specs.Prelude.{◌≡◌, ℕ, Ok};
 ghost use Rattle.table_checks.specs.Checks.{Accepted};
 ghost use Rattle.log_check.specs.Check.{lines_of};
-ghost use Rattle.log_load.specs.declared.Answer.TheVariants.{Done};
 ghost use Rattle.log_load.specs.Sheet.{sheet_of};
 ghost use Rattle.log_load.specs.Answer.{refused_at, width_answer, busiest_answer, area_after};
 ghost use Rattle.log_load.specs.Returns.{answer_returns, busiest_returns};
 ghost use Rattle.log_load.specs.Meaning.{Says};
-ghost use Rattle.log_load.specs.Steps.{Readable, Ordered};
+ghost use Rattle.log_load.specs.Log.{lines};
 
-use crate::{Answer, Cause, Refusal, lines, of_log, sheet, stretch};
-use log_check::Outcome;
+use crate::{Cause, Log, Refusal, sheet, stretch};
 use table_checks::ROW;
 
 // Writes the sheet of a log of the table, for stretches of `width` ticks. A refusal leaves the output as it is.
@@ -20,31 +18,23 @@ pub fn busiest(
     log: &[u8],
     width: u64,
     out: &mut [u8],
-) -> Answer
+) -> Result<usize, Refusal>
     ensures value { result ≡ busiest_answer lengths rows.now log.now width out.old }
     ensures out_after { out.new ≡ area_after result (sheet_of rows.now (lines_of log.now) width) out.old }
-    ensures says { (n : ℕ) → result ≡ Done n → Says lengths rows.now log.now width n }
+    ensures says { (n : ℕ) → result ≡ Ok n → Says lengths rows.now log.now width n }
     ensures in_numbers { answer_returns result ≡ busiest_returns lengths rows.now log.now width out.old }
 {
-    let checked = log_check::check_log(lengths, rows, log);
-    let outcome = checked.outcome;
-    match outcome {
-        Outcome::Refused(refusal) => Answer::Refused(of_log(refusal)),
-        Outcome::Accepted => write_accepted(rows, log, width, out),
-    }
+    log_check::check_log(lengths, rows, log)?;
+    write_accepted(rows, &Log { text: log }, width, out)
 }
 
 // Writes the sheet of an accepted log.
-pub fn write_accepted(rows: &[u32], log: &[u8], width: u64, out: &mut [u8]) -> Answer
-    requires accepted { Accepted rows.now }
-    requires readable { Readable log.now × Ordered 0 (lines_of log.now) }
-    ensures value { result ≡ width_answer rows.now (lines_of log.now) width out.old }
-    ensures out_after { out.new ≡ area_after result (sheet_of rows.now (lines_of log.now) width) out.old }
+pub fn write_accepted(rows: &[u32], log: &Log, width: u64, out: &mut [u8]) -> Result<usize, Refusal>
+    requires { Accepted rows.now }
+    ensures value { result ≡ width_answer rows.now (lines log.now) width out.old }
+    ensures out_after { out.new ≡ area_after result (sheet_of rows.now (lines log.now) width) out.old }
 {
-    if width == 0 {
-        return refuse(Cause::Width);
-    }
-    if lines::last_end(log) < width {
+    if width == 0 || log.last_end() < width {
         return refuse(Cause::Width);
     }
     let n = rows.len() / ROW;
@@ -55,11 +45,11 @@ pub fn write_accepted(rows: &[u32], log: &[u8], width: u64, out: &mut [u8]) -> A
     let best = stretch::find(log, width);
     sheet::write_first(best, &mut out[0..23]);
     sheet::write_rows(rows, log, n, &mut out[23..size]);
-    Answer::Done(size)
+    Ok(size)
 }
 
-fn refuse(cause: Cause) -> Answer
+fn refuse(cause: Cause) -> Result<usize, Refusal>
     ensures { result ≡ refused_at cause 0 }
 {
-    Answer::Refused(Refusal { cause, place: 0 })
+    Err(Refusal { cause, place: 0 })
 }

@@ -2,13 +2,11 @@
 ghost use Rattle.std.specs.Prelude.{◌≡◌, ◌+◌, ◌*◌, ◌/◌, ◌<◌, ◌≤◌, ◌^◌, length};
 ghost use Rattle.table_checks.specs.Columns.{columns};
 ghost use Rattle.log_reader.specs.Laws.{Small};
-ghost use Rattle.log_check.specs.Check.{lines_of};
 ghost use Rattle.log_load.specs.Sheet.{response, seen_of, first_line, row_line, line_of, lines_from};
-ghost use Rattle.log_load.specs.Steps.{Readable, with_line};
+ghost use Rattle.log_load.specs.Steps.{with_line};
+ghost use Rattle.log_load.specs.Log.{lines};
 
-use crate::stretch::less;
-use crate::{Best, Seen, lines};
-use arith::greater_wide;
+use crate::{Best, Log, Seen};
 use bus_log::Line;
 use table_checks::{IDENTIFIER, ROW};
 
@@ -25,44 +23,42 @@ fn response(l: Line) -> u64
     ensures value { result ≡ response l }
     ensures small { result < 2 ^ 41 }
 {
-    less(l.start + l.length, l.release)
+    (l.start + l.length).saturating_sub(l.release)
 }
 
 // What is seen of row i, with one line more.
+#[tactic(auto, unfolding(crate::specs::Steps::with_line))]
 fn with_line(rows: &[u32], i: usize, l: Line, seen: Seen) -> Seen
     requires columns_in_bounds { columns * i + columns ≤ length rows.now }
-    requires small_2 { Small l × (seen.count ≤ 1600) × (seen.total ≤ 2 ^ 52) }
+    requires small { Small l × (seen.count ≤ 1600) × (seen.total ≤ 2 ^ 52) }
     ensures value { result ≡ with_line rows.now i l seen }
     ensures small { (result.count ≤ seen.count + 1) × (result.total ≤ seen.total + 2 ^ 41) }
 {
     if bus_log::is_named(rows, l, i) {
         let r = response(l);
-        return Seen {
+        Seen {
             count: seen.count + 1,
-            most: greater_wide(seen.most, r),
+            most: seen.most.max(r),
             total: seen.total + r,
-        };
+        }
+    } else {
+        seen
     }
-    seen
 }
 
 // What is seen of row i.
-fn seen_of(rows: &[u32], text: &[u8], i: usize) -> Seen
-    requires columns_in_bounds { columns * i + columns ≤ length rows.now }
-    requires readable { Readable text.now }
-    ensures { result ≡ seen_of rows.now i (lines_of text.now) }
+fn seen_of(rows: &[u32], log: &Log, i: usize) -> Seen
+    requires { columns * i + columns ≤ length rows.now }
+    ensures { result ≡ seen_of rows.now i (lines log.now) }
 {
-    let n = lines::count(text);
+    let n = log.count();
     let mut seen = Seen {
         count: 0,
         most: 0,
         total: 0,
     };
-    let mut j = 0;
-    while j < n {
-        let l = lines::line_of(text, j);
-        seen = with_line(rows, i, l, seen);
-        j += 1;
+    for j in 0..n {
+        seen = with_line(rows, i, log.line(j), seen);
     }
     seen
 }
@@ -72,7 +68,7 @@ fn write_line(identifier: u32, seen: Seen, line: &mut [u8])
     requires { length line.old ≡ 42 }
     ensures { line.new ≡ row_line identifier seen }
 {
-    decimal::write(&mut line[0..10], identifier as u64);
+    decimal::write(&mut line[0..10], u64::from(identifier));
     decimal::write(&mut line[10..15], seen.count);
     decimal::write(&mut line[15..26], seen.most);
     decimal::write(&mut line[26..41], seen.total);
@@ -80,27 +76,23 @@ fn write_line(identifier: u32, seen: Seen, line: &mut [u8])
 }
 
 // Writes the line of row i.
-fn write_row(rows: &[u32], text: &[u8], i: usize, line: &mut [u8])
-    requires i_in_bounds { (i < length rows.now / columns) × (length line.old ≡ 42) }
-    requires readable { Readable text.now }
-    ensures { line.new ≡ line_of rows.now (lines_of text.now) i }
+fn write_row(rows: &[u32], log: &Log, i: usize, line: &mut [u8])
+    requires { (i < length rows.now / columns) × (length line.old ≡ 42) }
+    ensures { line.new ≡ line_of rows.now (lines log.now) i }
 {
-    let seen = seen_of(rows, text, i);
+    let seen = seen_of(rows, log, i);
     write_line(rows[ROW * i + IDENTIFIER], seen, line);
 }
 
 // Writes the lines of the rows.
-pub fn write_rows(rows: &[u32], text: &[u8], n: usize, out: &mut [u8])
-    requires n_value { (n ≡ length rows.now / columns) × (n ≤ 64) × (length out.old ≡ 42 * n) }
-    requires readable { Readable text.now }
-    ensures { out.new ≡ lines_from rows.now (lines_of text.now) n 0 }
+pub fn write_rows(rows: &[u32], log: &Log, n: usize, out: &mut [u8])
+    requires { (n ≡ length rows.now / columns) × (n ≤ 64) × (length out.old ≡ 42 * n) }
+    ensures { out.new ≡ lines_from rows.now (lines log.now) n 0 }
 {
-    let mut i = 0;
-    while i < n {
+    for i in 0..n {
         let from = WIDE * i;
         let to = from + WIDE;
-        write_row(rows, text, i, &mut out[from..to]);
-        i += 1;
+        write_row(rows, log, i, &mut out[from..to]);
     }
 }
 

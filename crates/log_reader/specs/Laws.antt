@@ -1,42 +1,40 @@
 -- What is read at a place is the line that stands there.
 use Prim.Native.Nat.{ℕ, ◌+◌, ◌≤◌, ◌<◌, ◌^◌}
 use Rattle.std.proofs.Math.Path.{◌≡◌}
-use Rattle.std.specs.Prelude.{refl, true, ◌&&◌, List, ◌↔◌, eqb, leb, ltb, get_or}
+use Rattle.std.specs.Prelude.{refl, true, ◌&&◌, List, ◌↔◌, eqb, leb, ltb, get_or, Option, Some, None, Result, Ok, Err}
 use Rattle.std.proofs.Common.{sym, ap, subst, arith, length-take, length-drop}
 use borrow.Author.Tests.{leb-true, le-leb, ltb-false, le-ltb, eqb-true, eq-eqb}
 use Rattle.std.proofs.Math.ListN.{length}
 use Rattle.arith.specs.Laws.Tests.{by-test, and_both}
-use Rattle.decimal.specs.declared.Column.{Column}
-use Rattle.decimal.specs.declared.Column.TheVariants.{Value, Broken as Unreadable}
 use Rattle.decimal.specs.Decimal.{read_column}
 use Rattle.decimal.specs.Laws.{read_below}
 use Rattle.bus_log.specs.declared.Line.{Line}
-use Rattle.log_reader.specs.declared.LineRead.{LineRead}
-use Rattle.log_reader.specs.declared.LineRead.TheVariants.{Read, Broken, End}
+use Rattle.log_reader.specs.declared.Unread.{Unread}
+use Rattle.log_reader.specs.declared.Unread.TheVariants.{Broken, End}
 use Rattle.log_reader.specs.Text.{greatest, column_at, Stands, number_of, number_at, line_at, is_within, read_at}
 
 -- ---- a line that was read stands there
 
 -- A column whose number is within the limit is in the notation.
-held : (c : Column) → number_of c ≤ greatest → c ≡ Value (number_of c)
+held : (c : Option ℕ) → number_of c ≤ greatest → c ≡ Some (number_of c)
 unfolding number_of
-held (Value n) h = refl
-held Unreadable h = absurd (omega arith)
+held (Some n) h = refl
+held None h = absurd (omega arith)
 
 module _ (text : List ℕ) (at : ℕ) where
   -- What was read is the line, and the tests passed.
-  read-tests : (l : Line) → read_at text at ≡ Read l
+  read-tests : (l : Line) → read_at text at ≡ Ok l
       → (at + 40 ≤ length text) × (get_or text (at + 39) 0 ≡ 10) × (is_within (line_at text at) ≡ true) × (line_at text at ≡ l)
   unfolding read_at
   read-tests l e =
       by-test (ltb (length text) (at + 40))
-      (λ t. let q : ◌≡◌ {A = LineRead} End (Read l) = rw t at e in let z : ◌≡◌ {A = ℕ} 0 1 = cc in absurd (omega arith))
+      (λ t. let q : ◌≡◌ {A = Result Line Unread} (Err End) (Ok l) = rw t at e in let z : ◌≡◌ {A = ℕ} 0 1 = cc in absurd (omega arith))
       (λ f. by-test (eqb (get_or text (at + 39) 0) 10 && is_within (line_at text at))
       (λ t.
-      let q : Read (line_at text at) ≡ Read l = rw (f, t) at e in
+      let q : ◌≡◌ {A = Result Line Unread} (Ok (line_at text at)) (Ok l) = rw (f, t) at e in
       let (a, b) = and_both (eqb (get_or text (at + 39) 0) 10) (is_within (line_at text at)) t in
       (ltb-false _ _ f, eqb-true _ _ a, b, cc))
-      (λ g. let q : ◌≡◌ {A = LineRead} Broken (Read l) = rw (f, g) at e in let z : ◌≡◌ {A = ℕ} 0 1 = cc in absurd (omega arith)))
+      (λ g. let q : ◌≡◌ {A = Result Line Unread} (Err Broken) (Ok l) = rw (f, g) at e in let z : ◌≡◌ {A = ℕ} 0 1 = cc in absurd (omega arith)))
 
   line-stands : at + 40 ≤ length text → get_or text (at + 39) 0 ≡ 10 → is_within (line_at text at) ≡ true → Stands text at (line_at text at)
   unfolding is_within line_at number_at
@@ -58,13 +56,13 @@ module _ (text : List ℕ) (at : ℕ) where
         queueing-most = leb-true _ _ d;
       }
 
-  pub read-stands : (l : Line) → read_at text at ≡ Read l → Stands text at l
+  pub read-stands : (l : Line) → read_at text at ≡ Ok l → Stands text at l
   read-stands l e = let (a, b, c, same) = read-tests l e in subst (Stands text at) same (line-stands a b c)
 
   -- ---- a line that stands there is read
 
   -- A column holds no more than its digits can say.
-  column-most : (k w n : ℕ) → k + w ≤ length text → read_column (column_at text k w) ≡ Value n → n < 10 ^ w
+  column-most : (k w n : ℕ) → k + w ≤ length text → read_column (column_at text k w) ≡ Some n → n < 10 ^ w
   column-most k w n room e =
       let size : length (column_at text k w) ≡ w = simp (length-take, length-drop) (omega arith) in
       rw size at (read_below (column_at text k w) n e)
@@ -77,7 +75,7 @@ module _ (text : List ℕ) (at : ℕ) where
   unfolding line_at number_at number_of
   stands-line l s = fields (ap number_of s.start) (ap number_of s.identifier) (ap number_of s.kind) (ap number_of s.queueing) (ap number_of s.length)
 
-  pub stands_read : (l : Line) → Stands text at l → read_at text at ≡ Read l
+  pub stands_read : (l : Line) → Stands text at l → read_at text at ≡ Ok l
   unfolding read_at is_within
   stands_read l s =
       let room = s.whole in
@@ -96,7 +94,7 @@ module _ (text : List ℕ) (at : ℕ) where
       )
 
 -- Read is what stands there, and nothing else.
-pub read-iff : (text : List ℕ) (at : ℕ) (l : Line) → (read_at text at ≡ Read l) ↔ Stands text at l
+pub read-iff : (text : List ℕ) (at : ℕ) (l : Line) → (read_at text at ≡ Ok l) ↔ Stands text at l
 read-iff text at l = (read-stands text at l, stands_read text at l)
 
 -- ---- the numbers of a line that was read are small
@@ -110,7 +108,7 @@ pub record Small (l : Line) : Type 0 where
   pub release : l.release < 2 ^ 40
   pub length : l.length < 2 ^ 40
 
-pub read-line : (text : List ℕ) (at : ℕ) (l : Line) → read_at text at ≡ Read l → (l ≡ line_at text at) × Small l
+pub read-line : (text : List ℕ) (at : ℕ) (l : Line) → read_at text at ≡ Ok l → (l ≡ line_at text at) × Small l
 read-line text at l e =
     let s = read-stands text at l e in
     let room = s.whole in

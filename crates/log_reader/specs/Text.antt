@@ -1,11 +1,9 @@
 -- The text of a log (document 02, request 10): lines of 40 characters, each five columns and a line feed.
-use Rattle.std.specs.Prelude.{ℕ, ◌+◌, ◌≤◌, Bool, cond, ◌&&◌, List, ◌≡◌, length, get_or, take, drop, eqb, leb, ltb}
-use Rattle.decimal.specs.declared.Column.{Column}
-use Rattle.decimal.specs.declared.Column.TheVariants.{Value, Broken as Unreadable}
+use Rattle.std.specs.Prelude.{ℕ, ◌+◌, ◌≤◌, Bool, cond, ◌&&◌, List, ◌≡◌, length, get_or, take, drop, eqb, leb, ltb, Option, Some, None, Result, Ok, Err}
 use Rattle.decimal.specs.Decimal.{read_column}
 use Rattle.bus_log.specs.declared.Line.{Line}
-use Rattle.log_reader.specs.declared.LineRead.{LineRead}
-use Rattle.log_reader.specs.declared.LineRead.TheVariants.{Read, Broken, End}
+use Rattle.log_reader.specs.declared.Unread.{Unread}
+use Rattle.log_reader.specs.declared.Unread.TheVariants.{Broken, End}
 
 -- "start and queueing up to 9999999999"
 abbrev pub greatest : ℕ
@@ -19,11 +17,11 @@ column_at text at width = take width (drop at text)
 -- within its limits.
 pub record Stands (text : List ℕ) (at : ℕ) (l : Line) : Type 0 where
   pub whole : at + 40 ≤ length text
-  pub start : read_column (column_at text at 11) ≡ Value l.start
-  pub identifier : read_column (column_at text (at + 11) 10) ≡ Value l.identifier
-  pub kind : read_column (column_at text (at + 21) 3) ≡ Value l.kind
-  pub queueing : read_column (column_at text (at + 24) 11) ≡ Value l.release
-  pub length : read_column (column_at text (at + 35) 4) ≡ Value l.length
+  pub start : read_column (column_at text at 11) ≡ Some l.start
+  pub identifier : read_column (column_at text (at + 11) 10) ≡ Some l.identifier
+  pub kind : read_column (column_at text (at + 21) 3) ≡ Some l.kind
+  pub queueing : read_column (column_at text (at + 24) 11) ≡ Some l.release
+  pub length : read_column (column_at text (at + 35) 4) ≡ Some l.length
   pub feed : get_or text (at + 39) 0 ≡ 10
   pub start-most : l.start ≤ greatest
   pub queueing-most : l.release ≤ greatest
@@ -31,9 +29,9 @@ pub record Stands (text : List ℕ) (at : ℕ) (l : Line) : Type 0 where
 -- ---- what is read, which Laws.antt shows to be the line that stands there
 
 -- what a column holds, a number above all limits where it breaks the notation
-unfoldable pub number_of : Column → ℕ
-number_of (Value n) = n
-number_of Unreadable = 1_000_000_000_000_000_000
+unfoldable pub number_of : Option ℕ → ℕ
+number_of (Some n) = n
+number_of None = 1_000_000_000_000_000_000
 
 unfoldable pub number_at : List ℕ → ℕ → ℕ → ℕ
 number_at text at width = number_of (read_column (column_at text at width))
@@ -57,8 +55,8 @@ is_within l =
     && (leb l.release greatest
     && leb l.length greatest)))
 
--- what stands from place `at` on
-unfoldable pub read_at : List ℕ → ℕ → LineRead
+-- the line that stands from place `at` on, or why none is read
+unfoldable pub read_at : List ℕ → ℕ → Result Line Unread
 read_at text at =
-    cond (ltb (length text) (at + 40)) End
-    (cond (eqb (get_or text (at + 39) 0) 10 && is_within (line_at text at)) (Read (line_at text at)) Broken)
+    cond (ltb (length text) (at + 40)) (Err End)
+    (cond (eqb (get_or text (at + 39) 0) 10 && is_within (line_at text at)) (Ok (line_at text at)) (Err Broken))

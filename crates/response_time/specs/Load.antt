@@ -1,16 +1,15 @@
 -- The load that a busy window must hold, and that a start must allow for, as one search has them; and starts that show a response to be small.
-use Rattle.std.specs.Prelude.{ℕ, suc, ◌+◌, ◌-◌, ◌*◌, ◌≤◌, ◌<◌, min, ◌≡◌, List, Bool, cond, leb, ltb}
+use Rattle.std.specs.Prelude.{ℕ, suc, ◌+◌, ◌-◌, ◌*◌, ◌≤◌, ◌<◌, min, ◌≡◌, List, Bool, cond, leb, ltb, Option, Some, None}
 use Rattle.arith.specs.Releases.{releases_before}
-use Rattle.arith.specs.declared.Found.{Found}
-use Rattle.arith.specs.declared.Found.TheVariants.{At, Nothing}
 use Rattle.bus_model.specs.declared.Frame.{Frame}
 use Rattle.bus_model.specs.declared.Faults.{Faults}
 use Rattle.bus_model.specs.declared.Choice.{Choice}
 use Rattle.bus_model.specs.declared.Choice.TheVariants.{Fixed}
-use Rattle.bus_model.specs.Bounds.{ahead, better, blocking, choice_of, work, window_load, busy_window, delay_load, own_distance}
+use Rattle.bus_model.specs.Bounds.{ahead, better, blocking, choice_of, work, window_load, busy_window, delay_load, own_distance, instance_response}
 use Rattle.workload.specs.declared.Search.{Search}
 use Rattle.workload.specs.declared.Search.TheVariants.{Window, Instance}
 use Rattle.workload.specs.declared.Target.{Target}
+use Rattle.workload.specs.Prepared.{FineTable, InTable}
 use Rattle.workload.specs.Faults.{faults_in, lead_of}
 use Rattle.workload.specs.Placed.{Placed, placed_work}
 
@@ -62,15 +61,15 @@ placed_holds gs shift base x = leb (base + placed_work gs (x + shift)) x
 -- the scenario has a window, and it is not longer than that
 pub record WindowWithin (faults : Faults) (fs : List Frame) (k : Frame) (cs : List Choice) (limit : ℕ) : Type 0 where
   pub window : ℕ
-  pub is : busy_window faults fs k cs ≡ At window
+  pub is : busy_window faults fs k cs ≡ Some window
   pub within : window ≤ limit
   pub small : limit ≤ 1000000
 
 -- ---- starts: one that holds its load shows that the response is no greater than it would be from there
 
 -- the latest start below the window's limit with a response of `best` at the most, of an instance of that length and release
-unfoldable pub latest_start : ℕ → ℕ → ℕ → Found
-latest_start best length released = cond (ltb (best + released) length) Nothing (At (min (best + released - length) 999999))
+unfoldable pub latest_start : ℕ → ℕ → ℕ → Option ℕ
+latest_start best length released = cond (ltb (best + released) length) None (Some (min (best + released - length) 999999))
 
 -- a start shows it of so many instances from q on: it is no later than `latest`, and holds the load of each, where one more waits for one more length
 abbrev pub Shows : Faults → List Frame → Frame → List Choice → ℕ → ℕ → ℕ → ℕ → Type 0
@@ -90,6 +89,47 @@ pub record ShownWithin (faults : Faults) (fs : List Frame) (k : Frame) (cs : Lis
 -- There is a window, and it is shown of each instance from `reach` on that is released in it; those before it are released in the first million ticks.
 pub record Reaches (faults : Faults) (fs : List Frame) (k : Frame) (cs : List Choice) (best reach : ℕ) : Type 0 where
   pub window : ℕ
-  pub is : busy_window faults fs k cs ≡ At window
+  pub is : busy_window faults fs k cs ≡ Some window
   pub early : (q : ℕ) → q < reach → own_distance k cs + q * k.period < 1000000
   pub shown : (q : ℕ) → reach ≤ q → q < releases_before (own_distance k cs) k.period window → ShownWithin faults fs k cs best q
+
+-- The instances before q are passed: it is shown of those from `last` on.
+pub record Swept (faults : Faults) (fs : List Frame) (k : Frame) (cs : List Choice) (best reach last q : ℕ) : Type 0 where
+  pub before : last ≤ q
+  pub inside : q ≤ reach
+  pub each : (i : ℕ) → last ≤ i → i < q → ShownWithin faults fs k cs best i
+
+-- ---- the instances released in a busy window, in turn
+
+-- The window of a scenario that fixes k's own group: its length is l, and k is released so often in it.
+pub record Windowed (faults : Faults) (fs : List Frame) (k : Frame) (cs : List Choice) (l instances : ℕ) : Type 0 where
+  pub accepted : FineTable fs
+  pub listed : InTable fs k
+  pub fixed : OwnFixed k cs
+  pub window : busy_window faults fs k cs ≡ Some l
+  pub number : instances ≡ releases_before (own_distance k cs) k.period l
+
+-- no delay of instance q is below `from`
+abbrev pub Later : Faults → List Frame → Frame → List Choice → ℕ → ℕ → Type 0
+Later faults fs k cs from q = (w : ℕ) → delay_load faults fs k cs q w ≤ w → from ≤ w
+
+-- it is instance q's turn, or there are no more
+pub record Due (faults : Faults) (fs : List Frame) (k : Frame) (cs : List Choice) (instances from q : ℕ) : Type 0 where
+  pub window : ℕ
+  pub windowed : Windowed faults fs k cs window instances
+  pub inside : q ≤ instances
+  pub later : Later faults fs k cs from q
+
+-- no response from instance q on is above `best`, up to another
+abbrev pub NoneAbove : Faults → List Frame → Frame → List Choice → ℕ → ℕ → ℕ → Type 0
+NoneAbove faults fs k cs best q end = (i : ℕ) → q ≤ i → i < end → instance_response faults fs k cs i ≤ best
+
+-- From q on such instances are passed over, up to one: that has the response, and it is the turn of `next`, after it.
+pub record Meets (faults : Faults) (fs : List Frame) (k : Frame) (cs : List Choice) (instances best q response from next : ℕ) : Type 0 where
+  pub met : ℕ
+  pub after : next ≡ met + 1
+  pub reached : q ≤ met
+  pub inside : met < instances
+  pub passed : NoneAbove faults fs k cs best q met
+  pub is : response ≡ instance_response faults fs k cs met
+  pub later : Later faults fs k cs from next

@@ -3,6 +3,7 @@
 #![tactic(auto)]
 
 mod exceeding;
+mod instances;
 mod reach;
 mod response;
 mod search;

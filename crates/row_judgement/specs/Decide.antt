@@ -1,13 +1,12 @@
 -- The answers as they are made of the bound that decides: they are those of Judge and of bus_model's Judgement (Laws/Judged).
-use Rattle.std.specs.Prelude.{ℕ, cond, leb, pos, ◌-ℤ◌}
+use Rattle.std.specs.Prelude.{ℕ, cond, leb, pos, ◌-ℤ◌, Result, Ok, Err}
+use Rattle.row_judgement.specs.declared.Refusal.{Refusal}
 use Rattle.bus_model.specs.declared.Outcome.{Outcome}
 use Rattle.bus_model.specs.declared.Outcome.TheVariants.{CertifiedApproximate, CertifiedPrecise, ClaimTooSmall, CertifiedLevel, Undecided, NoWindow}
 use Rattle.bus_model.specs.declared.Judgement.{Judgement}
 use Rattle.bounds.specs.declared.Bound.{Bound}
 use Rattle.bounds.specs.declared.Bound.TheVariants.{NoWindow as LacksWindow, Approximate, Level, TooMany, Precise}
 use Rattle.row_judgement.specs.declared.Cause.TheVariants.{NoWindow as CauseNoWindow, TooManyScenarios}
-use Rattle.row_judgement.specs.declared.Bounded.{Bounded}
-use Rattle.row_judgement.specs.declared.Bounded.TheVariants.{Bound as Is, NotBounded}
 
 -- an outcome beside the bound used and the margin
 abbrev pub beside : ℕ → Outcome → ℕ → Judgement
@@ -22,9 +21,9 @@ judged_by claim (TooMany b) = beside claim (Undecided b) b
 judged_by claim (Precise b) = cond (leb b claim) (beside claim (CertifiedPrecise b) b) (beside claim (ClaimTooSmall b) b)
 
 -- the precise bound of row i
-unfoldable pub bounded_by : ℕ → Bound → Bounded
-bounded_by i LacksWindow = NotBounded (record { cause = CauseNoWindow; place = i })
-bounded_by i (Approximate b) = Is b
-bounded_by i (Level b) = Is b
-bounded_by i (TooMany b) = NotBounded (record { cause = TooManyScenarios; place = i })
-bounded_by i (Precise b) = Is b
+unfoldable pub bounded_by : ℕ → Bound → Result ℕ Refusal
+bounded_by i LacksWindow = Err (record { cause = CauseNoWindow; place = i })
+bounded_by i (Approximate b) = Ok b
+bounded_by i (Level b) = Ok b
+bounded_by i (TooMany b) = Err (record { cause = TooManyScenarios; place = i })
+bounded_by i (Precise b) = Ok b

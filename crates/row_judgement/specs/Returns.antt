@@ -1,6 +1,8 @@
 -- What judging a row and computing its precise bound return, in numbers (document 01, "Where a call is turned back", "Judgement").
 -- Number and place are those of a refusal, 0 and 0 where there is none.
-use Rattle.std.specs.Prelude.{ℕ, List, cond, eqb, ℤ, pos}
+use Rattle.std.specs.Prelude.{ℕ, List, cond, eqb, ℤ, pos, Result, Ok, Err}
+use Rattle.bus_model.specs.declared.Judgement.{Judgement}
+use Rattle.row_judgement.specs.declared.Refusal.{Refusal}
 use Rattle.bus_model.specs.Frame.{row}
 use Rattle.bus_model.specs.Bounds.{precise_bound}
 use Rattle.bus_model.specs.Judgement.{lacks_window, too_many_scenarios}
@@ -8,10 +10,6 @@ use Rattle.bus_model.specs.Finding.{Finding, finding_of, finding_for}
 use Rattle.bus_model.specs.declared.Faults.TheVariants.{Never, Apart}
 use Rattle.table_checks.specs.Frames.{frames_of}
 use Rattle.table_checks.specs.Refusal.{Returned, returned}
-use Rattle.row_judgement.specs.declared.Judged.{Judged}
-use Rattle.row_judgement.specs.declared.Judged.TheVariants.{Verdict, NotJudged}
-use Rattle.row_judgement.specs.declared.Bounded.{Bounded}
-use Rattle.row_judgement.specs.declared.Bounded.TheVariants.{Bound, NotBounded}
 use Rattle.row_judgement.specs.Refusal.{number_of}
 use Rattle.row_judgement.specs.Judge.{claim_of, no_row, is_gap}
 
@@ -32,9 +30,9 @@ abbrev pub as_not_judged : Returned → JudgedReturned
 as_not_judged r = record { number = r.number; place = r.place; verdict = 0; bound = 0; margin = pos 0 }
 
 -- what an answer returns
-unfoldable pub judged_returns : Judged → JudgedReturned
-judged_returns (Verdict j) = as_verdict (finding_of j)
-judged_returns (NotJudged f) = as_not_judged (returned (number_of f.cause) f.place)
+unfoldable pub judged_returns : Result Judgement Refusal → JudgedReturned
+judged_returns (Ok j) = as_verdict (finding_of j)
+judged_returns (Err f) = as_not_judged (returned (number_of f.cause) f.place)
 
 -- what is returned for row r, by the lengths ls: what the check of lengths and table returns, then 9, then what judging finds
 unfoldable pub judge_returns : Returned → List (List ℕ) → List ℕ → ℕ → JudgedReturned
@@ -66,9 +64,9 @@ abbrev pub as_not_bounded : Returned → BoundedReturned
 as_not_bounded r = record { number = r.number; place = r.place; bound = 0 }
 
 -- what an answer returns
-unfoldable pub bounded_returns : Bounded → BoundedReturned
-bounded_returns (Bound b) = as_bound b
-bounded_returns (NotBounded f) = as_not_bounded (returned (number_of f.cause) f.place)
+unfoldable pub bounded_returns : Result ℕ Refusal → BoundedReturned
+bounded_returns (Ok b) = as_bound b
+bounded_returns (Err f) = as_not_bounded (returned (number_of f.cause) f.place)
 
 -- what is returned for row r, by the lengths ls: what the check of lengths and table returns, then 9, 11, 12, then the bound
 unfoldable pub bound_returns : Returned → List (List ℕ) → List ℕ → ℕ → BoundedReturned

@@ -1,31 +1,25 @@
 // The judgement of a row with the case that breaks its claim.
-ghost use Rattle.std.specs.Prelude.{◌≡◌, ◌<◌, T, length};
+ghost use Rattle.std.specs.Prelude.{ℕ, ◌≡◌, ◌<◌, ◌/◌, true, T, length, Ok, Err, MatchResult};
 ghost use Rattle.bus_model.specs.Frame.{row};
 ghost use Rattle.bus_model.specs.Bus.{MeetsClaim};
-ghost use Rattle.bus_model.specs.Case.{no_case};
 ghost use Rattle.bus_model.specs.Judgement.{judge};
 ghost use Rattle.bus_model.specs.declared.Faults.TheVariants.{Never, Apart};
+ghost use Rattle.table_checks.specs.Table.{frames};
+ghost use Rattle.table_checks.specs.Columns.{columns};
 ghost use Rattle.table_checks.specs.Frames.{frames_of};
-ghost use Rattle.table_checks.specs.Checks.{Loadable, Accepted};
+ghost use Rattle.table_checks.specs.Checks.{loaded_check};
 ghost use Rattle.table_checks.specs.Returns.{loaded_returns};
 ghost use Rattle.workload.specs.Faults.{FineFaults};
-ghost use Rattle.row_judgement.specs.declared.Judged.TheVariants.{Verdict, NotJudged};
-ghost use Rattle.row_judgement.specs.Judge.{claim_of, certified};
+ghost use Rattle.row_judgement.specs.Judge.{claim_of, judge_row, is_gap, judge_faults, certified};
 ghost use Rattle.row_judgement.specs.Explain.{beside, explain_row, explain_faults, explained_returns, explain_returns, explain_faults_returns};
 
-use crate::decide::prepare_row;
-use crate::judgement::{is_gap, judged_by, verdict};
-use crate::{Cause, Explained, Judged, Refusal, of_table};
-use arith::Found;
-use bus_model::{Case, Faults};
+use crate::decide::{pose_row, row_of};
+use crate::judgement::{judged_by, premise_of, verdict};
+use crate::{Explained, Refusal};
+use bus_model::Faults;
 use greatest_work::MEMORY;
-use table_checks::Checked;
+use table_checks::Table;
 use workload::AREA;
-
-const NO_CASE: Case = Case {
-    instance: Found::Nothing,
-    alignments: [0u32; 16],
-};
 
 // Judges the claim of a row, by the lengths loaded, and finds the case that breaks it, where it is too small.
 pub fn explain(lengths: [[u32; 9]; 2], rows: &[u32], row: u64) -> Explained
@@ -33,18 +27,12 @@ pub fn explain(lengths: [[u32; 9]; 2], rows: &[u32], row: u64) -> Explained
     ensures never_late { T (certified result.judged) → MeetsClaim Never (frames_of lengths rows.now) row (claim_of rows.now row) }
     ensures in_numbers { explained_returns result ≡ explain_returns (loaded_returns lengths rows.now) lengths rows.now row }
 {
-    let checked = table_checks::check_loaded(lengths, rows);
-    match checked {
-        Checked::Failed(refusal) => turned_back(of_table(refusal)),
-        Checked::Passed => {
-            if (rows.len() / table_checks::ROW) as u64 <= row {
-                return turned_back(Refusal {
-                    cause: Cause::NoSuchRow,
-                    place: 0,
-                });
-            }
-            explain_row(lengths, rows, row as usize, Faults::Never)
-        }
+    match explained(lengths, rows, row) {
+        Ok(answer) => answer,
+        Err(refusal) => Explained {
+            judged: Err(refusal),
+            breaking: None,
+        },
     }
 }
 
@@ -54,62 +42,58 @@ pub fn explain_faults(lengths: [[u32; 9]; 2], rows: &[u32], row: u64, gap: u64) 
     ensures never_late { T (certified result.judged) → MeetsClaim (Apart gap) (frames_of lengths rows.now) row (claim_of rows.now row) }
     ensures in_numbers { explained_returns result ≡ explain_faults_returns (loaded_returns lengths rows.now) lengths rows.now row gap }
 {
-    let checked = table_checks::check_loaded(lengths, rows);
-    match checked {
-        Checked::Failed(refusal) => turned_back(of_table(refusal)),
-        Checked::Passed => {
-            if (rows.len() / table_checks::ROW) as u64 <= row {
-                return turned_back(Refusal {
-                    cause: Cause::NoSuchRow,
-                    place: 0,
-                });
-            }
-            if is_gap(gap) {
-                let ticks = gap as u32;
-                return explain_row(lengths, rows, row as usize, Faults::Apart(ticks));
-            }
-            turned_back(Refusal {
-                cause: Cause::GapOutside,
-                place: 0,
-            })
-        }
+    match explained_under(lengths, rows, row, gap) {
+        Ok(answer) => answer,
+        Err(refusal) => Explained {
+            judged: Err(refusal),
+            breaking: None,
+        },
     }
 }
 
-// A row that is not judged has no case.
-fn turned_back(refusal: Refusal) -> Explained
-    ensures { result ≡ record { judged = NotJudged refusal; breaking = no_case } }
+// The same, with what is turned back apart.
+fn explained(lengths: [[u32; 9]; 2], rows: &[u32], row: u64) -> Result<Explained, Refusal>
+    ensures { MatchResult result (λ e. e ≡ beside Never lengths rows.now row (judge_row lengths rows.now row)) (λ f. judge_row lengths rows.now row ≡ Err f) }
 {
-    Explained {
-        judged: Judged::NotJudged(refusal),
-        breaking: NO_CASE,
-    }
+    let table = Table::check(lengths, rows)?;
+    let i = row_of(table.rows, row)?;
+    Ok(explain_row(&table, i, Faults::Never))
+}
+
+// The same under the premise.
+fn explained_under(
+    lengths: [[u32; 9]; 2],
+    rows: &[u32],
+    row: u64,
+    gap: u64,
+) -> Result<Explained, Refusal>
+    ensures { MatchResult result (λ e. e ≡ beside (Apart gap) lengths rows.now row (judge_faults lengths rows.now row gap)) (λ f. judge_faults lengths rows.now row gap ≡ Err f) }
+{
+    let table = Table::check(lengths, rows)?;
+    let i = row_of(table.rows, row)?;
+    let faults = premise_of(gap)?;
+    Ok(explain_row(&table, i, faults))
 }
 
 // The judgement of a row of an accepted table, with its case. What is prepared and remembered for the judgement serves the search for the case.
-fn explain_row(lengths: [[u32; 9]; 2], rows: &[u32], i: usize, faults: Faults) -> Explained
-    requires loadable { Loadable lengths × Accepted rows.now }
-    requires i_in_bounds { i < length (frames_of lengths rows.now) }
+fn explain_row(table: &Table, i: usize, faults: Faults) -> Explained
+    requires i_in_bounds { i < length (frames table.now) }
     requires fine_faults { FineFaults faults }
-    ensures { result ≡ beside faults lengths rows.now i (Verdict (judge faults (frames_of lengths rows.now) (row (frames_of lengths rows.now) i) (claim_of rows.now i))) }
+    ensures { result ≡ beside faults table.now.lengths table.now.rows.now i (Ok (judge faults (frames table.now) (row (frames table.now) i) (claim_of table.now.rows.now i))) }
 {
-    let claim = rows[table_checks::ROW * i + table_checks::CLAIM];
+    let claim = table.rows[table_checks::ROW * i + table_checks::CLAIM];
     let mut prepared = [0u32; AREA];
     let mut memory = [0u64; MEMORY];
-    let target = prepare_row(lengths, rows, i, faults, &mut prepared);
-    let bound = bounds::find(rows, &prepared, target, Found::At(claim), &mut memory);
+    let setting = pose_row(*table, i, faults, &mut prepared);
+    let bound = bounds::find(&setting, Some(claim), &mut memory);
     let judgement = judged_by(bound, claim);
-    let outcome = judgement.outcome;
-    let is_small = verdict(outcome) == 3;
-    if is_small {
-        let breaking = bounds::first_case(rows, &prepared, target, claim, &mut memory);
-        return Explained {
-            judged: Judged::Verdict(judgement),
-            breaking,
-        };
-    }
+    let breaking = if verdict(judgement.outcome) == 3 {
+        bounds::first_case(&setting, claim, &mut memory)
+    } else {
+        None
+    };
     Explained {
-        judged: Judged::Verdict(judgement),
-        breaking: NO_CASE,
+        judged: Ok(judgement),
+        breaking,
     }
 }

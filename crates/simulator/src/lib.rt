@@ -1,12 +1,15 @@
 // A log written by the bus rule, from a seed.
 #![tactic(auto)]
 
+ghost use Rattle.std.specs.Prelude.{◌≡◌};
+ghost use Rattle.simulator.specs.declared.Refusal.TheVariants.{Table};
+ghost use Rattle.simulator.specs.Simulate.{refusal_returns};
+
 mod drawing;
 mod operation;
 mod text;
 mod turn;
 
-use frame_table::Answer;
 pub use operation::{simulate, simulate_files, simulate_input};
 
 // The most lines of a log, and the bytes of the longest.
@@ -32,13 +35,44 @@ pub struct Starts {
     pub starts: [u64; 17],
 }
 
-// What a simulation answers.
-#[derive(Drop)]
-pub enum Simulated {
-    // How many bytes were written, or why lengths, table or area were turned back.
-    Answered(Answer),
+// Why no log is written.
+#[derive(Clone, Copy)]
+pub enum Refusal {
+    // Lengths, table or area are turned back.
+    Table(table_checks::Refusal),
     // The seed is 0.
     ZeroSeed,
     // The lines wanted are outside 1..1600.
     LineCount,
+}
+
+impl Refusal {
+    // Its number, and its place, which is 0 where it has none.
+    pub fn number(self) -> u32
+        ensures { result ≡ (refusal_returns self).number }
+    {
+        match self {
+            Refusal::Table(refusal) => table_checks::number(refusal.cause),
+            Refusal::ZeroSeed => 21,
+            Refusal::LineCount => 22,
+        }
+    }
+
+    pub fn place(self) -> u32
+        ensures { result ≡ (refusal_returns self).place }
+    {
+        match self {
+            Refusal::Table(refusal) => refusal.place,
+            Refusal::ZeroSeed => 0,
+            Refusal::LineCount => 0,
+        }
+    }
+}
+
+impl From<table_checks::Refusal> for Refusal {
+    ghost from_gives = { λ e r. r ≡ Table e };
+
+    fn from(e: table_checks::Refusal) -> Refusal {
+        Refusal::Table(e)
+    }
 }

@@ -1,14 +1,13 @@
 // The log's text.
 ghost use Rattle.std.specs.Prelude.{◌≡◌, ◌++◌, ◌+◌, ◌*◌, ◌<◌, ◌≤◌, length, drop};
+ghost use Rattle.table_checks.specs.Table.{frames};
 ghost use Rattle.table_checks.specs.Columns.{columns};
-ghost use Rattle.table_checks.specs.Frames.{frames_of};
-ghost use Rattle.table_checks.specs.Checks.{Loadable, Accepted};
 ghost use Rattle.simulator.specs.Text.{line_of, line_text, log_text, lines_from};
 ghost use Rattle.simulator.specs.Theory.Bounds.{Within};
 
 use crate::{Engine, turn};
 use bus_log::{Entry, Line};
-use table_checks::{IDENTIFIER, KIND, ROW};
+use table_checks::{IDENTIFIER, KIND, ROW, Table};
 
 // The characters of a line with its line feed.
 pub const LINE: usize = 40;
@@ -21,8 +20,8 @@ fn line_of(rows: &[u32], e: Entry) -> Line
     let at = ROW * e.frame;
     Line {
         start: e.start,
-        identifier: table_checks::wide(rows[at + IDENTIFIER]),
-        kind: table_checks::wide(rows[at + KIND]),
+        identifier: u64::from(rows[at + IDENTIFIER]),
+        kind: u64::from(rows[at + KIND]),
         release: e.release,
         length: e.length,
     }
@@ -42,20 +41,17 @@ fn write_line(l: Line, out: &mut [u8])
 }
 
 // Writes the lines of so many steps.
-pub fn write_log(lengths: [[u32; 9]; 2], rows: &[u32], first: Engine, lines: usize, out: &mut [u8])
-    requires loadable { Loadable lengths × Accepted rows.now }
-    requires within { (Within first 2000000) × (lines ≤ 1600) × (40 * lines ≤ length out.old) }
-    ensures { out.new ≡ log_text (lines_from (frames_of lengths rows.now) rows.now first lines 0) ++ drop (40 * lines) out.old }
+pub fn write_log(table: &Table, first: Engine, lines: usize, out: &mut [u8])
+    requires { (Within first 2000000) × (lines ≤ 1600) × (40 * lines ≤ length out.old) }
+    ensures { out.new ≡ log_text (lines_from (frames table.now) table.now.rows.now first lines 0) ++ drop (40 * lines) out.old }
 {
     let mut s = first;
-    let mut i: usize = 0;
-    while i < lines {
+    for i in 0..lines {
         let v = generator::drawn(s.drawn);
-        let e = turn::entry_next(lengths, rows, s, v);
+        let e = turn::entry_next(table, s, v);
         let from = LINE * i;
         let to = from + LINE;
-        write_line(line_of(rows, e), &mut out[from..to]);
-        s = turn::moved_by(lengths, rows, s, v, e);
-        i += 1;
+        write_line(line_of(table.rows, e), &mut out[from..to]);
+        s = turn::moved_by(table, s, v, e);
     }
 }

@@ -1,7 +1,7 @@
 -- Demand 3 applied to document 01's whole case, as the contract of `row_judgement::judge` says it: frame 32 has verdict 1 and
 -- frame 64 has verdict 2, so both meet their claims in every schedule, and there are schedules. Frame 64 ranks last, and
 -- no claim below its bound is met. A late starter meets its claim too.
-use Rattle.std.specs.Prelude.{ℕ, ◌≤◌, ◌≡◌, refl, ◌↔◌, List, pos, replicate}
+use Rattle.std.specs.Prelude.{ℕ, ◌≤◌, ◌≡◌, refl, ◌↔◌, List, pos, replicate, Ok}
 use Rattle.std.proofs.Common.{arith}
 use Rattle.bus_model.specs.declared.Frame.{Frame}
 use Rattle.bus_model.specs.declared.Outcome.TheVariants.{CertifiedApproximate, CertifiedPrecise}
@@ -18,7 +18,6 @@ use Rattle.table_checks.specs.Frames.{standard_lengths, frames_of}
 use Rattle.table_checks.specs.Checks.{Accepted}
 use Rattle.table_checks.proofs.Laws.Lengths.{standard-loadable}
 use Rattle.table_checks.proofs.Laws.Accepted.{accepted-valid}
-use Rattle.row_judgement.specs.declared.Judged.TheVariants.{Verdict}
 use Rattle.row_judgement.specs.Judge.{judge_checked, judge_row, certified}
 use Rattle.row_judgement.specs.Laws.Judged.{judged-meets}
 use Rattle.starred_examples.specs.Compute.{everything}
@@ -26,7 +25,7 @@ use Rattle.starred_examples.specs.Cases.{listing, starting}
 
 -- ---- verdict 1
 
-frame-32-judged : judge_row standard_lengths listing 1 ≡ Verdict (record { outcome = CertifiedApproximate 189; bound = 189; margin = pos 0 })
+frame-32-judged : judge_row standard_lengths listing 1 ≡ Ok (record { outcome = CertifiedApproximate 189; bound = 189; margin = pos 0 })
 unfolding everything judge_row judge_checked
 frame-32-judged = refl
 
@@ -37,7 +36,7 @@ frame-32-meets = judged-meets standard_lengths listing 1 (rw frame-32-judged tt)
 
 -- ---- verdict 2
 
-frame-64-judged : judge_row standard_lengths listing 3 ≡ Verdict (record { outcome = CertifiedPrecise 200; bound = 200; margin = pos 0 })
+frame-64-judged : judge_row standard_lengths listing 3 ≡ Ok (record { outcome = CertifiedPrecise 200; bound = 200; margin = pos 0 })
 unfolding everything judge_row judge_checked
 frame-64-judged = refl
 
@@ -97,7 +96,7 @@ frame-64-reached = last-reached listing-valid {k = 3} (omega arith) listing-earl
 
 -- ---- a late starter
 
-late-judged : judge_row standard_lengths (starting 1000) 0 ≡ Verdict (record { outcome = CertifiedApproximate 135; bound = 135; margin = pos 0 })
+late-judged : judge_row standard_lengths (starting 1000) 0 ≡ Ok (record { outcome = CertifiedApproximate 135; bound = 135; margin = pos 0 })
 unfolding everything judge_row judge_checked
 late-judged = refl
 

@@ -5,9 +5,7 @@
 // refusal, or 0 and the count of lines, and for R and W the fingerprint (10) of the lent area.
 #![tactic(auto)]
 
-use frame_table::Answer;
-use std::io::Read;
-use table_checks::Checked;
+use table_checks::Refusal;
 
 // Room for a payload; the cases end at a longer one.
 const BUFFER: usize = 4096;
@@ -18,35 +16,13 @@ const FILL_WORD: u32 = 7;
 const FILL_BYTE: u8 = 7;
 
 fn main(rt: HostRuntime) {
-    let mut input = rt.stdin();
-    for _ in 0..case_reader::MOST_CASES {
-        if !run_case(&rt, &mut input) {
-            return;
-        }
-    }
-}
-
-// Runs the next case; false at the end of the input.
-fn run_case(rt: &impl Print, input: &mut impl Read) -> bool {
-    let mut header = [0u8; case_reader::HEADER];
-    if input.read_exact(&mut header).is_err() {
-        return false;
-    }
-    let area = case_reader::number(&header[1..9]) as usize;
-    let size = case_reader::number(&header[9..17]) as usize;
     let mut buffer = [0u8; BUFFER];
-    if case_reader::read_payload(input, size, &mut buffer) {
-        run(rt, header[0], area, size, &buffer);
-        return true;
-    }
-    false
+    case_reader::run_cases(&mut rt.stdin(), &mut buffer, |letter, area, payload| {
+        run(&rt, letter, area as usize, payload)
+    });
 }
 
-fn run(rt: &impl Print, letter: u8, area: usize, size: usize, buffer: &[u8]) {
-    if buffer.len() < size {
-        return;
-    }
-    let payload = &buffer[0..size];
+fn run(rt: &impl Print, letter: u8, area: usize, payload: &[u8]) {
     if letter == b'R' {
         let mut words = [FILL_WORD; 600];
         run_read(rt, payload, area, &mut words);
@@ -55,77 +31,55 @@ fn run(rt: &impl Print, letter: u8, area: usize, size: usize, buffer: &[u8]) {
     let mut rows = [0u32; 600];
     let count = case_reader::unpack(payload, &mut rows);
     if letter == b'C' {
-        run_check(rt, &rows, count);
+        run_check(rt, &rows[..count]);
     } else {
-        run_write(rt, &rows, count, area);
+        let mut bytes = [FILL_BYTE; 4096];
+        run_write(rt, &rows[..count], area, &mut bytes);
     }
 }
 
 fn run_read(rt: &impl Print, file: &[u8], area: usize, words: &mut [u32]) {
-    if words.len() < area {
+    let Some(lent) = words.get_mut(..area) else {
         return;
-    }
-    let answer = frame_table::read(file, &mut words[0..area]);
-    print_answer(rt, b"R", answer, table_checks::ROW);
-    print_column(rt, fingerprint_words(&words[0..area]));
+    };
+    let answer = frame_table::read(file, lent);
+    print_answer(rt, b"R", answer.map(|n| n / table_checks::ROW));
+    print_column(rt, fingerprint(lent));
 }
 
-fn run_check(rt: &impl Print, rows: &[u32], count: usize) {
-    if rows.len() < count {
-        return;
-    }
-    let checked = table_checks::check(&rows[0..count]);
-    match checked {
-        Checked::Passed => print_result(rt, b"C", 0, (count / table_checks::ROW) as u64),
-        Checked::Failed(refusal) => {
-            let cause = refusal.cause;
-            print_result(rt, b"C", table_checks::number(cause), refusal.place as u64);
-        }
-    }
+fn run_check(rt: &impl Print, rows: &[u32]) {
+    let checked = table_checks::check(rows);
+    print_answer(rt, b"C", checked.map(|()| rows.len() / table_checks::ROW));
     let _ = rt.write_all(b"\n");
 }
 
-fn run_write(rt: &impl Print, rows: &[u32], count: usize, area: usize) {
-    if rows.len() < count {
+fn run_write(rt: &impl Print, rows: &[u32], area: usize, bytes: &mut [u8]) {
+    let Some(lent) = bytes.get_mut(..area) else {
         return;
-    }
-    let mut bytes = [FILL_BYTE; 4096];
-    write_area(rt, &rows[0..count], area, &mut bytes);
+    };
+    let answer = frame_table::write(rows, lent);
+    print_answer(rt, b"W", answer.map(|n| n / table_checks::LINE));
+    print_column(rt, fingerprint(lent));
 }
 
-fn write_area(rt: &impl Print, rows: &[u32], area: usize, bytes: &mut [u8]) {
-    if bytes.len() < area {
-        return;
-    }
-    let answer = frame_table::write(rows, &mut bytes[0..area]);
-    print_answer(rt, b"W", answer, table_checks::LINE);
-    print_column(rt, fingerprint_bytes(&bytes[0..area]));
-}
-
-// The letter, and the refusal or the count of lines, each of so many elements.
-fn print_answer(rt: &impl Print, letter: &[u8], answer: Answer, each: usize) {
+// The letter, and the refusal or the count of lines.
+fn print_answer(rt: &impl Print, letter: &[u8], answer: Result<usize, Refusal>) {
     match answer {
-        Answer::Done(n) => {
-            if 0 < each {
-                print_result(rt, letter, 0, (n / each) as u64);
-            }
-        }
-        Answer::Refused(refusal) => {
-            let cause = refusal.cause;
-            print_result(
-                rt,
-                letter,
-                table_checks::number(cause),
-                refusal.place as u64,
-            );
-        }
+        Ok(lines) => print_result(rt, letter, 0, lines as u64),
+        Err(refusal) => print_result(
+            rt,
+            letter,
+            table_checks::number(refusal.cause),
+            u64::from(refusal.place),
+        ),
     }
 }
 
+// The letter, a number and a place.
 fn print_result(rt: &impl Print, letter: &[u8], number: u32, place: u64) {
     let _ = rt.write_all(letter);
     let mut first = [0u8; 3];
-    decimal::write(&mut first, number as u64);
+    decimal::write(&mut first, u64::from(number));
     let _ = rt.write_all(&first);
     let mut second = [0u8; 6];
     decimal::write(&mut second, place);
@@ -144,26 +98,11 @@ fn mixed(h: u64, element: u64) -> u64 {
     (h % 4_294_967_296 * 31 + element % 4_294_967_296) % 4_294_967_296
 }
 
-fn fingerprint_words(words: &[u32]) -> u64 {
-    let mut h = 0;
-    for word in words {
-        h = mixed(h, wide(*word));
-    }
-    h
-}
-
-fn fingerprint_bytes(bytes: &[u8]) -> u64 {
-    let mut h = 0;
-    for byte in bytes {
-        h = mixed(h, wider(*byte));
-    }
-    h
-}
-
-fn wide(x: u32) -> u64 {
-    x as u64
-}
-
-fn wider(x: u8) -> u64 {
-    x as u64
+fn fingerprint<T: Copy>(elements: &[T]) -> u64
+where
+    u64: From<T>,
+{
+    elements
+        .iter()
+        .fold(0, |h, element| mixed(h, u64::from(*element)))
 }

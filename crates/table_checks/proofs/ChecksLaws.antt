@@ -1,4 +1,5 @@
 -- A group's hyperperiod and its releases, as the loops over the rows find them.
+use Rattle.std.specs.Prelude.{Ok}
 use Prim.Native.Nat.{ℕ, min, ◌+◌, ◌-◌, ◌/◌, ◌≤◌, ◌<◌}
 use mathlib.Core.Path.{◌≡◌, refl, sym, ap, subst, ◌∙◌}
 use mathlib.Core.Bool.{Bool, true, false, cond}
@@ -18,7 +19,6 @@ use Rattle.bus_model.specs.Pattern.{of_group, hyperperiod, pattern_releases}
 use Rattle.bus_model.specs.Theory.Hyperperiod.{hyper_of}
 use Rattle.bus_model.proofs.Theory.Hyperperiod.{join_of, hyper-more, hyper-le}
 use Rattle.table_checks.specs.declared.Cause.TheVariants.{Hyperperiod, Releases}
-use Rattle.table_checks.specs.declared.Checked.TheVariants.{Passed}
 use Rattle.table_checks.specs.Columns.{field, columns, group_column, period_column}
 use Rattle.table_checks.specs.Frames.{frame_at, unmeasured}
 use Rattle.table_checks.specs.Refusal.{failed}
@@ -133,6 +133,6 @@ module _ (fs : List Frame) (j h : ℕ) (e : h ≡ min (hyper_of j fs) 1000001) w
     unfolding group_check
     group-many k = simp (le-ltb _ _ short, counted, lt-ltb _ _ k)
 
-    pub group-passes : q ≤ 256 → Passed ≡ group_check fs j
+    pub group-passes : q ≤ 256 → Ok tt ≡ group_check fs j
     unfolding group_check
     group-passes k = simp (le-ltb _ _ short, counted, le-ltb _ _ k)

@@ -5,3 +5,4 @@ pub mod Refusal
 pub mod Checks
 pub mod Returns
 pub mod Steps
+pub mod Table

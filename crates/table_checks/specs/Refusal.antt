@@ -1,9 +1,8 @@
 -- The numbers of the causes (document 01, "Where a call is turned back"; document 02, requests 2 and 6).
-use Rattle.std.specs.Prelude.{ℕ}
+use Rattle.std.specs.Prelude.{ℕ, Result, Ok, Err}
+use Rattle.table_checks.specs.declared.Refusal.{Refusal}
 use Rattle.table_checks.specs.declared.Cause.{Cause}
 use Rattle.table_checks.specs.declared.Cause.TheVariants.{FileForm, TooManyLines, Notation, Limit, Duplicate, Hyperperiod, Releases, OutputArea, RowsLength, LengthsFile, Length, SecondGroup}
-use Rattle.table_checks.specs.declared.Checked.{Checked}
-use Rattle.table_checks.specs.declared.Checked.TheVariants.{Passed, Failed}
 
 -- "Number"
 unfoldable pub number_of : Cause → ℕ
@@ -21,8 +20,8 @@ number_of Length = 14
 number_of SecondGroup = 15
 
 -- a check that failed
-abbrev pub failed : Cause → ℕ → Checked
-failed cause place = Failed (record { cause = cause; place = place })
+abbrev pub failed : Cause → ℕ → Result (Unit {0}) Refusal
+failed cause place = Err (record { cause = cause; place = place })
 
 -- "Returned": number and place
 pub record Returned : Type 0 where
@@ -33,6 +32,6 @@ abbrev pub returned : ℕ → ℕ → Returned
 returned number place = record { number = number; place = place }
 
 -- what a check returns, 0 and 0 where it passed
-unfoldable pub check_returns : Checked → Returned
-check_returns Passed = returned 0 0
-check_returns (Failed r) = returned (number_of r.cause) r.place
+unfoldable pub check_returns : Result (Unit {0}) Refusal → Returned
+check_returns (Ok _) = returned 0 0
+check_returns (Err r) = returned (number_of r.cause) r.place

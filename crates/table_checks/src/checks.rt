@@ -11,8 +11,8 @@ ghost use Rattle.table_checks.specs.Returns.{file_size_returns, rows_returns};
 ghost use Rattle.table_checks.specs.Steps.{Periods};
 
 use crate::{
-    CLAIM, Cause, Checked, GROUP, IDENTIFIER, KIND, LINE, MALFORMED, MOST_LINES, MOST_NUMBERS,
-    NODE, OFFSET, PAYLOAD, PERIOD, ROW, Refusal, UNTERMINATED,
+    CLAIM, Cause, GROUP, IDENTIFIER, KIND, LINE, MALFORMED, MOST_LINES, MOST_NUMBERS, NODE, OFFSET,
+    PAYLOAD, PERIOD, ROW, Refusal, UNTERMINATED,
 };
 
 // A group's hyperperiod is at most this, and so many releases are in one.
@@ -22,14 +22,14 @@ const MOST_RELEASES: u64 = 256;
 
 const GROUPS: u64 = 16;
 
-pub fn fail(cause: Cause, place: u32) -> Checked
+pub fn fail(cause: Cause, place: u32) -> Result<(), Refusal>
     ensures { result ≡ failed cause place }
 {
-    Checked::Failed(Refusal { cause, place })
+    Err(Refusal { cause, place })
 }
 
 // The check of a file's length.
-pub fn check_length(size: usize) -> Checked
+pub fn check_length(size: usize) -> Result<(), Refusal>
     ensures value { result ≡ file_size_check size }
     ensures in_numbers { check_returns result ≡ file_size_returns size }
 {
@@ -42,11 +42,11 @@ pub fn check_length(size: usize) -> Checked
     if MOST_LINES < size / LINE {
         return fail(Cause::TooManyLines, 0);
     }
-    Checked::Passed
+    Ok(())
 }
 
 // The check of how many numbers stand in memory.
-pub fn rows_size(size: usize) -> Checked
+pub fn rows_size(size: usize) -> Result<(), Refusal>
     ensures { result ≡ rows_size_check size }
 {
     if size == 0 {
@@ -58,7 +58,7 @@ pub fn rows_size(size: usize) -> Checked
     if MOST_NUMBERS < size {
         return fail(Cause::RowsLength, 0);
     }
-    Checked::Passed
+    Ok(())
 }
 
 // Whether v is within low..high.
@@ -72,6 +72,7 @@ pub fn is_between(low: u64, high: u64, v: u64) -> bool
 pub fn is_identifier(kind: u64, identifier: u64) -> bool
     ensures { result ≡ is_identifier kind identifier }
 {
+    // Kinds are numbers, since rows in memory hold them so, for C.
     if kind == 11 {
         identifier <= 2047
     } else {
@@ -84,27 +85,18 @@ fn is_within(j: usize, before: u64, v: u64) -> bool
     ensures { result ≡ within j before v }
 {
     match j {
-        NODE => is_between(1, 16, v),
-        GROUP => is_between(1, 16, v),
+        NODE | GROUP => is_between(1, 16, v),
         IDENTIFIER => true,
         KIND => is_identifier(v, before),
         PAYLOAD => v <= 8,
-        PERIOD => is_between(1, 1_000_000, v),
+        PERIOD | CLAIM => is_between(1, 1_000_000, v),
         OFFSET => v <= 1_000_000,
-        CLAIM => is_between(1, 1_000_000, v),
         _ => false,
     }
 }
 
-// The column before column j, or the first.
-pub fn previous(j: usize) -> usize
-    ensures { result ≡ j - 1 }
-{
-    if j == 0 { 0 } else { j - 1 }
-}
-
 // The check of column j of line i.
-fn column(t: &[u64], i: usize, j: usize) -> Checked
+fn column(t: &[u64], i: usize, j: usize) -> Result<(), Refusal>
     requires { (columns * i + columns ≤ length t.now) × (i < most_lines) × (j < columns) }
     ensures { result ≡ column_check t.now i j }
 {
@@ -116,28 +108,23 @@ fn column(t: &[u64], i: usize, j: usize) -> Checked
     if v == MALFORMED {
         return fail(Cause::Notation, line);
     }
-    let before = t[ROW * i + previous(j)];
+    let before = t[ROW * i + j.saturating_sub(1)];
     if is_within(j, before, v) {
-        Checked::Passed
+        Ok(())
     } else {
         fail(Cause::Limit, line)
     }
 }
 
 // The check of the columns of line i.
-fn columns(t: &[u64], i: usize) -> Checked
+fn columns(t: &[u64], i: usize) -> Result<(), Refusal>
     requires { (columns * i + columns ≤ length t.now) × (i < most_lines) }
     ensures { result ≡ columns_check t.now i }
 {
-    let mut j = 0;
-    while j < ROW {
-        let checked = column(t, i, j);
-        let Checked::Passed = checked else {
-            return checked;
-        };
-        j += 1;
+    for j in 0..ROW {
+        column(t, i, j)?;
     }
-    Checked::Passed
+    Ok(())
 }
 
 // Whether the kind and identifier of line i stand on line m.
@@ -153,12 +140,10 @@ fn stands_earlier(t: &[u64], i: usize) -> bool
     requires { columns * i + columns ≤ length t.now }
     ensures { result ≡ stands_earlier t.now i }
 {
-    let mut m = 0;
-    while m < i {
+    for m in 0..i {
         if is_same_frame(t, i, m) {
             return true;
         }
-        m += 1;
     }
     false
 }
@@ -172,53 +157,44 @@ fn is_other_group(t: &[u64], i: usize, m: usize) -> bool
 }
 
 // Whether it does on an earlier line.
+// Not one with `stands_earlier`: a test handed over would need a clause for its indexing.
 fn has_second_group(t: &[u64], i: usize) -> bool
     requires { columns * i + columns ≤ length t.now }
     ensures { result ≡ has_second_group t.now i }
 {
-    let mut earlier = 0;
-    while earlier < i {
+    for earlier in 0..i {
         if is_other_group(t, i, earlier) {
             return true;
         }
-        earlier += 1;
     }
     false
 }
 
 // The check of line i.
-fn line(t: &[u64], i: usize) -> Checked
+fn line(t: &[u64], i: usize) -> Result<(), Refusal>
     requires { (columns * i + columns ≤ length t.now) × (i < most_lines) }
     ensures { result ≡ line_check t.now i }
 {
-    let checked = columns(t, i);
-    let Checked::Passed = checked else {
-        return checked;
-    };
+    columns(t, i)?;
     if stands_earlier(t, i) {
         return fail(Cause::Duplicate, (i + 1) as u32);
     }
     if has_second_group(t, i) {
         fail(Cause::SecondGroup, (i + 1) as u32)
     } else {
-        Checked::Passed
+        Ok(())
     }
 }
 
 // The check of the lines.
-fn lines(t: &[u64]) -> Checked
+fn lines(t: &[u64]) -> Result<(), Refusal>
     requires { length t.now ≤ most_numbers }
     ensures { result ≡ lines_check t.now }
 {
-    let mut i = 0;
-    while i < t.len() / ROW {
-        let checked = line(t, i);
-        let Checked::Passed = checked else {
-            return checked;
-        };
-        i += 1;
+    for i in 0..t.len() / ROW {
+        line(t, i)?;
     }
-    Checked::Passed
+    Ok(())
 }
 
 // The least common multiple of h and the period of a frame, where it is the group's.
@@ -239,9 +215,7 @@ pub fn bounded_hyperperiod(t: &[u64], group: u64) -> u64
     ensures { result ≡ min (hyperperiod (of_group (unmeasured t.now) group)) 1000001 }
 {
     let mut h = 1;
-    let mut i = t.len() / ROW;
-    while 0 < i {
-        i -= 1;
+    for i in (0..t.len() / ROW).rev() {
         h = joined(h, group, t[ROW * i + GROUP], t[ROW * i + PERIOD]);
         if MOST_TICKS < h {
             return MOST_TICKS + 1;
@@ -265,16 +239,14 @@ fn group_releases(t: &[u64], group: u64, h: u64) -> u64
     ensures { result ≡ sum (λ g. h / g.period) (of_group (unmeasured t.now) group) }
 {
     let mut sum = 0;
-    let mut i = t.len() / ROW;
-    while 0 < i {
-        i -= 1;
+    for i in (0..t.len() / ROW).rev() {
         sum = frame_releases(h, group, t[ROW * i + GROUP], t[ROW * i + PERIOD]) + sum;
     }
     sum
 }
 
 // The check of a group.
-fn group(t: &[u64], group: u64) -> Checked
+fn group(t: &[u64], group: u64) -> Result<(), Refusal>
     requires periods { Periods t.now }
     requires t_len_bound { (length t.now ≤ most_numbers) × (group ≤ 16) }
     ensures { result ≡ group_check (unmeasured t.now) group }
@@ -286,47 +258,36 @@ fn group(t: &[u64], group: u64) -> Checked
     if MOST_RELEASES < group_releases(t, group, h) {
         fail(Cause::Releases, group as u32)
     } else {
-        Checked::Passed
+        Ok(())
     }
 }
 
 // The check of the groups.
-fn groups(t: &[u64]) -> Checked
+fn groups(t: &[u64]) -> Result<(), Refusal>
     requires periods { Periods t.now }
     requires t_len_bound { length t.now ≤ most_numbers }
     ensures { result ≡ groups_check (unmeasured t.now) }
 {
-    let mut j = 1;
-    while j <= GROUPS {
-        let checked = group(t, j);
-        let Checked::Passed = checked else {
-            return checked;
-        };
-        j += 1;
+    for j in 1..=GROUPS {
+        group(t, j)?;
     }
-    Checked::Passed
+    Ok(())
 }
 
 // The check of a table of any size.
-pub fn check_fields(t: &[u64]) -> Checked
+pub fn check_fields(t: &[u64]) -> Result<(), Refusal>
     ensures value { result ≡ rows_check t.now }
     ensures in_numbers { check_returns result ≡ rows_returns t.now }
 {
-    let sized = rows_size(t.len());
-    let Checked::Passed = sized else {
-        return sized;
-    };
+    rows_size(t.len())?;
     table(t)
 }
 
 // The check of a table whose size is right.
-pub fn table(t: &[u64]) -> Checked
+pub fn table(t: &[u64]) -> Result<(), Refusal>
     requires { length t.now ≤ most_numbers }
     ensures { result ≡ table_check t.now }
 {
-    let checked = lines(t);
-    let Checked::Passed = checked else {
-        return checked;
-    };
+    lines(t)?;
     groups(t)
 }

@@ -24,6 +24,7 @@ pub fn standard_lengths() -> [[u32; 9]; 2]
 pub fn priority(kind: u32, identifier: u32) -> u64
     ensures { result ≡ priority_of kind identifier }
 {
+    // Kinds are numbers, since rows in memory hold them so, for C.
     if kind == 11 {
         524288 * identifier as u64
     } else {
@@ -39,6 +40,7 @@ pub fn largest_length(lengths: [[u32; 9]; 2], kind: u32, payload: u32) -> u32
         return 0;
     }
     let s = payload as usize;
+    // Kinds are numbers, since rows in memory hold them so, for C.
     if kind == 11 {
         lengths[0][s]
     } else {

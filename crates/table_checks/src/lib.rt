@@ -2,6 +2,7 @@
 // A table is a row of numbers a line, one a column.
 #![tactic(auto)]
 
+mod accepted;
 mod checks;
 mod frames;
 mod lengths;
@@ -10,7 +11,7 @@ ghost use Rattle.std.specs.Prelude.{◌≡◌, ◌≤◌, ◌++◌, length, drop
 ghost use Rattle.bus_model.specs.Pattern.{of_group, hyperperiod};
 ghost use Rattle.table_checks.specs.Frames.{unmeasured};
 ghost use Rattle.table_checks.specs.Refusal.{number_of, check_returns};
-ghost use Rattle.table_checks.specs.Checks.{rows_check, loaded_check, Accepted};
+ghost use Rattle.table_checks.specs.Checks.{rows_check, loaded_check, Loadable, Accepted};
 ghost use Rattle.table_checks.specs.Returns.{rows_returns, loaded_returns};
 
 pub use checks::{check_fields, check_length, is_between, is_identifier};
@@ -90,11 +91,12 @@ pub struct Refusal {
     pub place: u32,
 }
 
-// What checking a table finds: nothing against it, or the first cause against it.
+// The rows of an accepted table, and lengths that passed their check, by which they are frames.
 #[derive(Clone, Copy)]
-pub enum Checked {
-    Passed,
-    Failed(Refusal),
+pub struct Table<'a> {
+    pub lengths: [[u32; 9]; 2],
+    pub rows: &'a [u32],
+    ghost accepted: { Loadable lengths × Accepted rows.now },
 }
 
 // The number of a cause in documents 01 and 02.
@@ -118,29 +120,23 @@ pub fn number(cause: Cause) -> u32
 }
 
 // Checks rows in memory.
-pub fn check(rows: &[u32]) -> Checked
+pub fn check(rows: &[u32]) -> Result<(), Refusal>
     ensures value { result ≡ rows_check rows.now }
     ensures in_numbers { check_returns result ≡ rows_returns rows.now }
 {
     let size = rows.len();
-    let sized = checks::rows_size(size);
-    let Checked::Passed = sized else {
-        return sized;
-    };
+    checks::rows_size(size)?;
     let mut fields = [0u64; MOST_NUMBERS];
     widen(rows, &mut fields);
     checks::table(&fields[..size])
 }
 
 // Checks lengths, and then rows in memory.
-pub fn check_loaded(lengths: [[u32; 9]; 2], rows: &[u32]) -> Checked
+pub fn check_loaded(lengths: [[u32; 9]; 2], rows: &[u32]) -> Result<(), Refusal>
     ensures value { result ≡ loaded_check lengths rows.now }
     ensures in_numbers { check_returns result ≡ loaded_returns lengths rows.now }
 {
-    let checked = check_lengths(lengths);
-    let Checked::Passed = checked else {
-        return checked;
-    };
+    check_lengths(lengths)?;
     check(rows)
 }
 
@@ -157,20 +153,12 @@ pub fn hyperperiod(rows: &[u32], group: u64) -> u64
 }
 
 // Copies rows to the start of wider fields.
+// By hand: std copies between equal widths.
 fn widen(rows: &[u32], fields: &mut [u64])
     requires { length rows.now ≤ length fields.old }
     ensures { fields.new ≡ rows.now ++ drop (length rows.now) fields.old }
 {
-    let mut k = 0;
-    while k < rows.len() {
-        fields[k] = wide(rows[k]);
-        k += 1;
+    for (k, row) in rows.iter().enumerate() {
+        fields[k] = u64::from(*row);
     }
-}
-
-// A number of a row as a field.
-pub fn wide(x: u32) -> u64
-    ensures { result ≡ x }
-{
-    x as u64
 }

@@ -1,15 +1,8 @@
 // Lengths as numbers one after the other: nine of kind 11, then nine of kind 29. Those that are missing are 0.
-ghost use Rattle.std.specs.Prelude.{◌≡◌, ◌≤◌, get_or};
+ghost use Rattle.std.specs.Prelude.{◌≡◌, ◌≤◌};
 ghost use Rattle.test_entries.specs.Lengths.{line_from, array_of};
 
 const PAYLOADS: usize = 9;
-
-// The number at a place.
-fn number(numbers: &[u32], at: usize) -> u32
-    ensures { result ≡ get_or numbers.now at 0 }
-{
-    if at < numbers.len() { numbers[at] } else { 0 }
-}
 
 // Nine numbers from a place on.
 fn line(numbers: &[u32], from: usize) -> [u32; 9]
@@ -17,10 +10,8 @@ fn line(numbers: &[u32], from: usize) -> [u32; 9]
     ensures { result ≡ line_from numbers.now from }
 {
     let mut line = [0u32; PAYLOADS];
-    let mut s = 0;
-    while s < PAYLOADS {
-        line[s] = number(numbers, from + s);
-        s += 1;
+    for s in 0..PAYLOADS {
+        line[s] = numbers.get(from + s).copied().unwrap_or(0);
     }
     line
 }

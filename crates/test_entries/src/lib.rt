@@ -16,17 +16,15 @@ ghost use Rattle.test_entries.specs.Lengths.{array_of};
 ghost use Rattle.test_entries.specs.Encode.{read_answer, write_answer, write_lengths_answer, encode_checked};
 
 use crate::lengths::array;
-use table_checks::Checked;
 
 // Checks rows in memory.
 #[unsafe(no_mangle)]
 pub extern "C" fn test_check(rows: &[u32]) -> i64
     ensures { result ≡ encode_checked (rows_check rows.now) }
 {
-    let checked = table_checks::check(rows);
-    match checked {
-        Checked::Passed => 0,
-        Checked::Failed(refusal) => certifier::encode_refusal(certifier::of_table(refusal)),
+    match table_checks::check(rows) {
+        Ok(()) => 0,
+        Err(refusal) => certifier::encode_refusal(certifier::Refusal::from(refusal)),
     }
 }
 

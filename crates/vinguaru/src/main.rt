@@ -2,13 +2,15 @@
 // variant of Command, a line in `read_command`, an arm in `main` with a function of its own, and a line of the usage text.
 #![tactic(auto)]
 
-ghost use Rattle.std.specs.Prelude.{◌≡◌, ◌↔◌, IsTrue};
+ghost use Rattle.std.specs.Prelude.{◌≡◌, ◌↔◌, IsTrue, IfSome};
 ghost use Rattle.console.specs.Steps.{IsPrefixLen};
 
-use certifier::Reply;
-use console::{BUFFER, Input, Streams};
+use console::{BUFFER, Streams};
 use std::env::FillError;
 use std::rt::{Env, Files};
+use table_checks::Refusal;
+
+const PROGRAM: &[u8] = b"vinguaru";
 
 // A line more than the longest log.
 const LOG: usize = 64_040;
@@ -19,7 +21,7 @@ const LISTING: usize = 1984;
 // Room for any path; a longer argument counts as an empty one.
 const ARGUMENT: usize = 4096;
 
-#[derive(Drop)]
+#[derive(Clone, Copy)]
 enum Command {
     LoadSheet,
     FrameLength,
@@ -33,8 +35,7 @@ enum Command {
 }
 
 fn main(rt: HostRuntime) {
-    let command = read_command(&rt);
-    match command {
+    match read_command(&rt) {
         Command::LoadSheet => load_sheet(&rt),
         Command::FrameLength => frame_length(&rt),
         Command::CheckLog => check_log(&rt),
@@ -84,10 +85,10 @@ fn print_usage(rt: &impl Streams) {
 }
 
 // Prints what a command has written, or how the program is used where an argument breaks its notation.
-fn print_reply(rt: &impl Streams, reply: Reply, text: &[u8]) {
+fn print_reply(rt: &impl Streams, reply: Option<Result<usize, Refusal>>, text: &[u8]) {
     match reply {
-        Reply::Malformed => print_usage(rt),
-        Reply::Answered(answer) => console::print_answer(rt, b"vinguaru", answer, text),
+        None => print_usage(rt),
+        Some(answer) => console::print_answer(rt, PROGRAM, answer, text),
     }
 }
 
@@ -116,10 +117,7 @@ fn has_argument(env: &impl Env, i: usize) -> bool {
 fn argument(env: &impl Env, i: usize, space: &mut [u8]) -> usize
     ensures { IsPrefixLen result space.new }
 {
-    match env.arg(i, space) {
-        Ok(n) => n,
-        Err(_) => 0,
-    }
+    env.arg(i, space).unwrap_or(0)
 }
 
 // Whether two words are the same.
@@ -129,17 +127,28 @@ fn is_word(a: &[u8], b: &[u8]) -> bool
     a == b
 }
 
+// Reads the input, lets a command write about it into the text, and prints that.
+fn with_input<F: FnOnce(&[u8], &mut [u8]) -> Option<Result<usize, Refusal>>>(
+    rt: &impl Streams,
+    text: &mut [u8],
+    command: F,
+)
+    requires { F.IsAlwaysCallable command }
+{
+    let mut bytes = [0u8; BUFFER];
+    let Some(size) = console::read_input(rt, PROGRAM, &mut bytes) else {
+        return;
+    };
+    let reply = command(&bytes[..size], text);
+    print_reply(rt, reply, text);
+}
+
 // Prints the load sheet of the table, or its refusal.
 fn load_sheet(rt: &impl Streams) {
-    let mut bytes = [0u8; BUFFER];
-    let input = console::read_input(rt, b"vinguaru", &mut bytes);
-    if !input.held {
-        return;
-    }
-    let size = input.size;
     let mut sheet = [0u8; load_sheet::LONGEST];
-    let answer = load_sheet::write_input(&bytes[..size], &mut sheet);
-    console::print_answer(rt, b"vinguaru", answer, &sheet);
+    with_input(rt, &mut sheet, |input, out| {
+        Some(load_sheet::write_input(input, out))
+    });
 }
 
 // Prints the exact length of the frame that the arguments name, or its refusal.
@@ -163,20 +172,14 @@ fn frame_length(rt: &(impl Streams + Env)) {
 // Prints the starts of the groups that explain the log, or the log's refusal. A longer log is turned back by its length alone.
 fn check_log(rt: &(impl Streams + Env + Files)) {
     let mut log = [0u8; LOG];
-    let file = read_log(rt, &mut log);
-    if !file.held {
+    let Some(length) = read_log(rt, &mut log) else {
         return;
-    }
-    let length = file.size;
-    let mut bytes = [0u8; BUFFER];
-    let input = console::read_input(rt, b"vinguaru", &mut bytes);
-    if !input.held {
-        return;
-    }
-    let size = input.size;
+    };
+    let log = &log[..length];
     let mut text = [0u8; log_command::LONGEST];
-    let answer = log_command::write_input(&bytes[..size], &log[..length], &mut text);
-    console::print_answer(rt, b"vinguaru", answer, &text);
+    with_input(rt, &mut text, |input, out| {
+        Some(log_command::write_input(input, log, out))
+    });
 }
 
 // Prints the busiest stretch of the log and what it shows of each row, or the log's refusal.
@@ -184,34 +187,24 @@ fn busiest(rt: &(impl Streams + Env + Files)) {
     let mut width = [0u8; ARGUMENT];
     let w = argument(rt, 3, &mut width);
     let mut log = [0u8; LOG];
-    let file = read_log(rt, &mut log);
-    if !file.held {
+    let Some(length) = read_log(rt, &mut log) else {
         return;
-    }
-    let length = file.size;
-    let mut bytes = [0u8; BUFFER];
-    let input = console::read_input(rt, b"vinguaru", &mut bytes);
-    if !input.held {
-        return;
-    }
-    let size = input.size;
+    };
+    let width = &width[..w];
+    let log = &log[..length];
     let mut text = [0u8; busiest_command::LONGEST];
-    let reply = busiest_command::write_input(
-        &bytes[..size],
-        &log[..length],
-        &width[..w],
-        &mut text,
-    );
-    print_reply(rt, reply, &text);
+    with_input(rt, &mut text, |input, out| {
+        busiest_command::write_input(input, log, width, out)
+    });
 }
 
 // Reads the log in the file that the argument behind the command names.
-fn read_log(rt: &(impl Streams + Env + Files), log: &mut [u8]) -> Input
-    ensures { IsPrefixLen result.size log.new }
+fn read_log(rt: &(impl Streams + Env + Files), log: &mut [u8]) -> Option<usize>
+    ensures { IfSome result (λ size. IsPrefixLen size log.new) }
 {
     let mut path = [0u8; ARGUMENT];
     let n = argument(rt, 2, &mut path);
-    console::read_file(rt, b"vinguaru", &path[..n], log)
+    console::read_file(rt, PROGRAM, &path[..n], log)
 }
 
 // Prints a log that is drawn from the seed, or its refusal.
@@ -220,56 +213,40 @@ fn simulate(rt: &(impl Streams + Env)) {
     let s = argument(rt, 2, &mut seed);
     let mut lines = [0u8; ARGUMENT];
     let n = argument(rt, 3, &mut lines);
-    let mut bytes = [0u8; BUFFER];
-    let input = console::read_input(rt, b"vinguaru", &mut bytes);
-    if !input.held {
-        return;
-    }
-    let size = input.size;
+    let seed = &seed[..s];
+    let lines = &lines[..n];
     let mut log = [0u8; simulator::LONGEST];
-    let reply = simulate_command::write_log(&seed[..s], &lines[..n], &bytes[..size], &mut log);
-    print_reply(rt, reply, &log);
+    with_input(rt, &mut log, |input, out| {
+        simulate_command::write_log(seed, lines, input, out)
+    });
 }
 
 // Prints the judgement of a row with the case that breaks its claim, or its refusal.
 fn explain(rt: &(impl Streams + Env)) {
     let mut row = [0u8; ARGUMENT];
     let r = argument(rt, 2, &mut row);
-    let mut bytes = [0u8; BUFFER];
-    let input = console::read_input(rt, b"vinguaru", &mut bytes);
-    if !input.held {
-        return;
-    }
-    let size = input.size;
+    let row = &row[..r];
     let mut text = [0u8; explain_command::LONGEST];
-    let reply = explain_command::write_input(&bytes[..size], &row[..r], &mut text);
-    print_reply(rt, reply, &text);
+    with_input(rt, &mut text, |input, out| {
+        explain_command::write_input(input, row, out)
+    });
 }
 
 // Prints the line of the frame that ranks last and its worst case, or the table's refusal.
 fn worst(rt: &impl Streams) {
-    let mut bytes = [0u8; BUFFER];
-    let input = console::read_input(rt, b"vinguaru", &mut bytes);
-    if !input.held {
-        return;
-    }
-    let size = input.size;
     let mut text = [0u8; worst_command::LONGEST];
-    let answer = worst_command::write_input(&bytes[..size], &mut text);
-    console::print_answer(rt, b"vinguaru", answer, &text);
+    with_input(rt, &mut text, |input, out| {
+        Some(worst_command::write_input(input, out))
+    });
 }
 
 // Prints the listing of the table under faults, or its refusal.
 fn faults(rt: &(impl Streams + Env)) {
     let mut gap = [0u8; ARGUMENT];
     let g = argument(rt, 2, &mut gap);
-    let mut bytes = [0u8; BUFFER];
-    let input = console::read_input(rt, b"vinguaru", &mut bytes);
-    if !input.held {
-        return;
-    }
-    let size = input.size;
+    let gap = &gap[..g];
     let mut listing = [0u8; LISTING];
-    let reply = faults_command::write_input(&bytes[..size], &gap[..g], &mut listing);
-    print_reply(rt, reply, &listing);
+    with_input(rt, &mut listing, |input, out| {
+        faults_command::write_input(input, gap, out)
+    });
 }

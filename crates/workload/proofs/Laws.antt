@@ -3,3 +3,5 @@ pub mod Prepared
 pub mod Fine
 pub mod Groups
 pub mod Placed
+pub mod Longest
+pub mod Placing

@@ -1,4 +1,5 @@
 -- The faults of a premise (document 02, request 9), as the searches count them.
+use denote.Struct.Props as logic
 use Rattle.std.specs.Prelude.{ℕ, ◌-◌, ◌≤◌, List}
 use Rattle.arith.specs.Releases.{releases_before}
 use Rattle.bus_model.specs.declared.Frame.{Frame}
@@ -31,6 +32,15 @@ lead_of (Instance q) k = k.length - 1
 unfoldable pub FineFaults : Faults → Type 0
 FineFaults Never = Unit {0}
 FineFaults (Apart g) = (1 ≤ g) × (g ≤ 1000000)
+
+-- which is a fact
+pub FineFaults-prop : (f : Faults) → IsProp (FineFaults f)
+unfolding FineFaults
+FineFaults-prop Never = Prim.hlevel logic.props
+FineFaults-prop (Apart g) = Prim.hlevel logic.props
+
+-- the facts of this module in a ghost field
+pub ruleset props = (logic.props, FineFaults-prop)
 
 -- and of a frame that is judged
 pub record FineTarget (t : Target) : Type 0 where

@@ -1,5 +1,5 @@
 -- The frames that load a scenario, placed for a search: each as if its group's alignment were at 0. Faults are one frame more.
-use Rattle.std.specs.Prelude.{◌≡◌, ℕ, ◌+◌, ◌-◌, ◌*◌, ◌/◌, ◌≤◌, Bool, List, [], ◌∷◌, ◌++◌, map, length, slice_index, slice_set}
+use Rattle.std.specs.Prelude.{◌≡◌, ℕ, ◌-◌, ◌*◌, ◌≤◌, Bool, List, [], ◌∷◌, ◌++◌, map, length}
 use mathlib.Core.List.{Memᴰ as Mem}
 use Rattle.arith.specs.Lists.{sum, keep, range}
 use Rattle.arith.specs.Releases.{releases_before}
@@ -12,6 +12,7 @@ use Rattle.bus_model.specs.Bounds.{groups, is_ahead, is_better, distance, choice
 use Rattle.workload.specs.declared.Search.{Search}
 use Rattle.workload.specs.declared.Search.TheVariants.{Window, Instance}
 use Rattle.workload.specs.declared.Target.{Target}
+use Rattle.workload.specs.declared.placed.PlacedFrame.{PlacedFrame}
 use Rattle.workload.specs.Faults.{lead_of}
 
 -- a placed frame: its length, its period and its first release
@@ -82,18 +83,11 @@ pub record FinePlaced (gs : List Placed) : Type 0 where
   pub few : length gs ≤ 65
   pub fine : (g : Placed) → Mem g gs → FineOne g
 
--- ---- in memory, four numbers a frame; the fourth is free: an inverse of the period, of which nothing is promised
+-- ---- in memory, beside an inverse of the period, of which nothing is promised
 
--- what stands at no place
-abbrev pub no_placed : Placed
-no_placed = record { length = 0; period = 0; first = 0 }
+-- the frame at a place
+abbrev pub placed_at : PlacedFrame → Placed
+placed_at p = record { length = p.length; period = p.period; first = p.first }
 
-unfoldable pub placed_at : List ℕ → ℕ → Placed
-placed_at t i = record { length = slice_index t (4 * i); period = slice_index t (4 * i + 1); first = slice_index t (4 * i + 2) }
-
-unfoldable pub placed_in : List ℕ → List Placed
-placed_in t = map (placed_at t) (range 0 (length t / 4))
-
--- with a frame put at place i, and v as its inverse
-unfoldable pub put_at : List ℕ → ℕ → ℕ → ℕ → ℕ → ℕ → List ℕ
-put_at t i length period first v = slice_set (slice_set (slice_set (slice_set t (4 * i) length) (4 * i + 1) period) (4 * i + 2) first) (4 * i + 3) v
+unfoldable pub placed_in : List PlacedFrame → List Placed
+placed_in ps = map placed_at ps

@@ -1,9 +1,7 @@
 -- The table as the searches read it: the rows, and beside them what is prepared once for a judged frame k.
-use Rattle.std.specs.Prelude.{◌≡◌, ℕ, ◌+◌, ◌*◌, ◌/◌, ◌<◌, ◌≤◌, Bool, List, map, length, take, drop, slice_index}
+use Rattle.std.specs.Prelude.{◌≡◌, ℕ, ◌+◌, ◌*◌, ◌/◌, ◌<◌, ◌≤◌, Bool, List, map, length, take, drop, slice_index, Option, Some, None}
 use mathlib.Core.List.{Memᴰ as Mem}
 use Rattle.arith.specs.Lists.{keep, exists, range}
-use Rattle.arith.specs.declared.Found.{Found}
-use Rattle.arith.specs.declared.Found.TheVariants.{At, Nothing}
 use Rattle.bus_model.specs.declared.Frame.{Frame}
 use Rattle.bus_model.specs.Frame.{row}
 use Rattle.bus_model.specs.Pattern.{of_group, hyperperiod}
@@ -118,6 +116,6 @@ abbrev pub instants_in : List Frame → ℕ → List ℕ
 instants_in gs e = keep (is_instant gs) (range 0 e)
 
 -- what a search below e found, or e where it found nothing
-unfoldable pub or_end : ℕ → Found → ℕ
-or_end e (At m) = m
-or_end e Nothing = e
+unfoldable pub or_end : ℕ → Option ℕ → ℕ
+or_end e (Some m) = m
+or_end e None = e

@@ -1,37 +1,17 @@
 // The faults of a premise: what one costs at most, and how many a search counts.
 ghost use Rattle.std.specs.Prelude.{◌≡◌, ◌-◌, ◌*◌, ◌≤◌};
-ghost use Rattle.arith.specs.Lists.{greatest};
 ghost use Rattle.arith.specs.Releases.{releases_before};
-ghost use Rattle.bus_model.specs.Bounds.{ahead};
 ghost use Rattle.workload.specs.Prepared.{table_of, Filled};
 ghost use Rattle.workload.specs.Faults.{cost_of, FineTarget, faults_in, lead_of};
 
-use crate::blocking::longer;
-use crate::prepared::row_at;
+use crate::blocking::longest;
 use crate::work::releases_before;
 use crate::{Search, Target};
 use arith::product;
 use bus_model::{Faults, Frame};
-use table_checks::ROW;
 
 // So many ticks of signalling follow a fault's tick.
 const SIGNALLING: u32 = 31;
-
-// The greatest largest length among the frames ahead.
-fn longest_ahead(rows: &[u32], prepared: &[u32], k: Frame) -> u32
-    requires { Filled rows.now prepared.now }
-    ensures value { result ≡ greatest (λ g. g.length) (ahead (table_of rows.now prepared.now) k) }
-    ensures small { result ≤ 400 }
-{
-    let mut longest: u32 = 0;
-    let mut i = rows.len() / ROW;
-    while 0 < i {
-        i -= 1;
-        let g = row_at(rows, prepared, i).frame;
-        longest = longer(longest, g.priority <= k.priority, g);
-    }
-    longest
-}
 
 // What a fault costs at most: the longest transmission it may cut, and the signalling. Where none ever begins, nothing.
 pub fn fault_time(rows: &[u32], prepared: &[u32], faults: Faults, k: Frame) -> u32
@@ -40,7 +20,7 @@ pub fn fault_time(rows: &[u32], prepared: &[u32], faults: Faults, k: Frame) -> u
 {
     match faults {
         Faults::Never => 0,
-        Faults::Apart(_) => SIGNALLING + longest_ahead(rows, prepared, k),
+        Faults::Apart(_) => SIGNALLING + longest(rows, prepared, k, false),
     }
 }
 
@@ -51,8 +31,7 @@ pub fn fault_cost(target: Target, n: u32) -> u64
     ensures value { result ≡ faults_in target.faults n * target.cost }
     ensures small { result ≤ 431172400 }
 {
-    let faults = target.faults;
-    match faults {
+    match target.faults {
         Faults::Never => 0,
         Faults::Apart(gap) => product(releases_before(0, gap, n, 0), target.cost),
     }

@@ -1,5 +1,5 @@
 // The rows of the frames ahead of k, group by group, and after how many ticks these look the same again.
-ghost use Rattle.std.specs.Prelude.{◌≡◌, ◌≤◌, ◌&&◌, length, take, if◌then◌else◌, ◌==◌, nat_le};
+ghost use Rattle.std.specs.Prelude.{◌≡◌, ◌≤◌, ◌&&◌, length, take, ◌==◌, nat_le};
 ghost use mathlib.Core.List.{Memᴰ as Mem};
 ghost use Rattle.arith.specs.Multiples.{lcm};
 ghost use Rattle.bus_model.specs.declared.Frame.{Frame};
@@ -10,7 +10,6 @@ ghost use Rattle.table_checks.specs.Frames.{frames_of};
 ghost use Rattle.workload.specs.Prepared.{Fine, frames_in, FineTable, ByGroup};
 
 use crate::prepared::{GROUP_NUMBERS, GROUPS, LISTED, NUMBERS};
-use crate::work::index;
 use bus_model::Frame;
 use table_checks::{ROW, frame};
 
@@ -21,46 +20,39 @@ fn belongs(g: Frame, k: Frame, group: u32) -> bool
     (g.group == group) & (g.priority <= k.priority)
 }
 
-// The least common multiple of h and the period of a frame, where it counts.
-fn joined(h: u32, counts: bool, g: Frame) -> u32
-    requires { (1 ≤ h) × (g.period ≤ 1000000) × ((if counts then lcm g.period h else h) ≤ 1000000) }
-    ensures { result ≡ (if counts then lcm g.period h else h) }
+// The least common multiple of h and the period of a frame.
+fn joined(h: u32, g: Frame) -> u32
+    requires { (1 ≤ h) × (g.period ≤ 1000000) × (lcm g.period h ≤ 1000000) }
+    ensures { result ≡ lcm g.period h }
 {
-    if counts {
-        arith::lcm(g.period as u64, h as u64) as u32
-    } else {
-        h
-    }
+    arith::lcm(u64::from(g.period), u64::from(h)) as u32
 }
 
-// The hyperperiod of a group: the least common multiple of its frames' periods.
+// The hyperperiod of a group: the least common multiple of its frames' periods, from the last on, as the definition takes them together.
 fn group_hyperperiod(lengths: [[u32; 9]; 2], rows: &[u32], group: u32) -> u32
     requires fine_table { FineTable (frames_of lengths rows.now) }
     requires le_group { (1 ≤ group) × (group ≤ 16) }
     ensures { result ≡ hyper_of group (frames_of lengths rows.now) }
 {
     let mut h: u32 = 1;
-    let mut i = rows.len() / ROW;
-    while 0 < i {
-        i -= 1;
+    for i in (0..rows.len() / ROW).rev() {
         let g = frame(lengths, rows, i);
-        h = joined(h, g.group == group, g);
+        if g.group == group {
+            h = joined(h, g);
+        }
     }
     h
 }
 
-// That of the frames in some rows.
+// That of the frames in some rows, which are few of the table's.
 fn part_hyperperiod(lengths: [[u32; 9]; 2], rows: &[u32], part: &[u32]) -> u32
     requires fine { (g : Frame) → Mem g (frames_in (frames_of lengths rows.now) part.now) → Fine g }
     requires part_bound { hyperperiod (frames_in (frames_of lengths rows.now) part.now) ≤ 1000000 }
     ensures { result ≡ hyperperiod (frames_in (frames_of lengths rows.now) part.now) }
 {
     let mut h: u32 = 1;
-    let mut i = part.len();
-    while 0 < i {
-        i -= 1;
-        let g = frame(lengths, rows, index(part[i]));
-        h = joined(h, true, g);
+    for i in (0..part.len()).rev() {
+        h = joined(h, frame(lengths, rows, part[i] as usize));
     }
     h
 }
@@ -72,15 +64,12 @@ fn gather(lengths: [[u32; 9]; 2], rows: &[u32], k: Frame, group: u32, area: &mut
     ensures area_after { frames_in (frames_of lengths rows.now) (take result area.new) ≡ of_group (ahead (frames_of lengths rows.now) k) group }
     ensures count { result ≡ length (of_group (ahead (frames_of lengths rows.now) k) group) }
 {
-    let all = rows.len() / ROW;
     let mut found = 0;
-    let mut i = 0;
-    while i < all {
+    for i in 0..rows.len() / ROW {
         if belongs(frame(lengths, rows, i), k, group) {
             area[found] = i as u32;
             found += 1;
         }
-        i += 1;
     }
     found
 }
@@ -92,8 +81,7 @@ pub fn by_group(lengths: [[u32; 9]; 2], rows: &[u32], k: Frame, lists: &mut [u32
     ensures { ByGroup (frames_of lengths rows.now) k lists.new }
 {
     let mut listed = 0;
-    let mut j = 0;
-    while j < GROUPS {
+    for j in 0..GROUPS {
         let group = (j + 1) as u32;
         let from = LISTED + listed;
         let count = gather(lengths, rows, k, group, &mut lists[from..NUMBERS]);
@@ -106,6 +94,5 @@ pub fn by_group(lengths: [[u32; 9]; 2], rows: &[u32], k: Frame, lists: &mut [u32
         lists[at + 2] = cycle;
         lists[at + 3] = hyperperiod;
         listed += count;
-        j += 1;
     }
 }

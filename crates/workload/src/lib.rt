@@ -12,7 +12,7 @@ mod work;
 pub use blocking::frame_blocking;
 use bus_model::{Faults, Frame};
 pub use faults::{fault_cost, fault_time, lead_of};
-pub use placed::{PLACED, PLACES, place, placed_work};
+pub use placed::{PLACES, PlacedFrame, place, placed_work};
 pub use prepared::{
     AREA, GROUP_ROWS, GROUPS, Row, count_of, cycle_of, first_of, hyperperiod_of, part_of, prepare,
 };
@@ -30,6 +30,7 @@ pub struct Target {
 }
 
 // What is looked for in a scenario: its busy window, or the start of an instance.
+// No Option: either has a name of its own in contracts, and functions of a line each say what differs (`base_of`, `lead_of`, `shift_of`, `is_load`).
 #[derive(Clone, Copy)]
 pub enum Search {
     Window,

@@ -12,6 +12,7 @@ use crate::groups::by_group;
 use bus_model::Frame;
 use table_checks::{GROUP, OFFSET, PERIOD, ROW};
 
+// The area is one of plain numbers: fixed memory, passed on as one by six crates.
 pub const GROUPS: usize = 16;
 
 // A group has at most so many rows.
@@ -33,22 +34,10 @@ const ROW_NUMBERS: usize = 3;
 pub const AREA: usize = 320;
 
 // A frame of the table, and the inverse of its period.
-#[derive(Drop)]
+#[derive(Clone, Copy)]
 pub struct Row {
     pub frame: Frame,
     pub inverse: u32,
-}
-
-fn wide(n: u32) -> u64
-    ensures { result ≡ n }
-{
-    n as u64
-}
-
-fn size(n: u32) -> usize
-    ensures { result ≡ n }
-{
-    n as usize
 }
 
 // Row i, all zeros where there is none.
@@ -72,7 +61,7 @@ pub fn row_at(rows: &[u32], prepared: &[u32], i: usize) -> Row
     let at = NUMBERS + ROW_NUMBERS * i;
     let frame = Frame {
         group: rows[ROW * i + GROUP],
-        priority: wide(prepared[at]),
+        priority: u64::from(prepared[at]),
         length: prepared[at + 1],
         period: rows[ROW * i + PERIOD],
         offset: rows[ROW * i + OFFSET],
@@ -88,7 +77,7 @@ pub fn first_of(prepared: &[u32], i: usize) -> usize
     requires { (length prepared.now ≡ 320) × (i < 16) }
     ensures { result ≡ first_in prepared.now i }
 {
-    size(prepared[GROUP_NUMBERS * i])
+    prepared[GROUP_NUMBERS * i] as usize
 }
 
 // How many they are.
@@ -96,7 +85,7 @@ pub fn count_of(prepared: &[u32], i: usize) -> usize
     requires { (length prepared.now ≡ 320) × (i < 16) }
     ensures { result ≡ count_in prepared.now i }
 {
-    size(prepared[GROUP_NUMBERS * i + 1])
+    prepared[GROUP_NUMBERS * i + 1] as usize
 }
 
 // After how many ticks they look the same again.
@@ -128,9 +117,10 @@ pub fn part_of(prepared: &[u32], i: usize) -> &[u32]
 // 2^32 / period, rounded up, and 0 where that does not fit.
 fn inverse_of(period: u32) -> u32 {
     if period == 0 {
-        return 0;
+        0
+    } else {
+        (u32::MAX / period).wrapping_add(1)
     }
-    std::num::wrapping_add_u32(4294967295 / period, 1)
 }
 
 // Puts the numbers of each row of an accepted table into an area, by the lengths loaded.
@@ -138,14 +128,12 @@ fn fill(lengths: [[u32; 9]; 2], rows: &[u32], area: &mut [u32])
     requires { Accepted rows.now × (length area.old ≡ 192) }
     ensures { table_by rows.now area.new ≡ frames_of lengths rows.now }
 {
-    let mut i = 0;
-    while i < rows.len() / ROW {
+    for i in 0..rows.len() / ROW {
         let g = table_checks::frame(lengths, rows, i);
         let at = ROW_NUMBERS * i;
         area[at] = g.priority as u32;
         area[at + 1] = g.length;
         area[at + 2] = inverse_of(g.period);
-        i += 1;
     }
 }
 

@@ -9,13 +9,6 @@ ghost use Rattle.workload.specs.Prepared.{Fine, FinePart, frames_in, table_of};
 use crate::prepared::{Row, row_at};
 use bus_model::Frame;
 
-// A row number as an index.
-pub fn index(row: u32) -> usize
-    ensures { result ≡ row }
-{
-    row as usize
-}
-
 // The quotient of x and p, by an inverse of p that may be off: the product is looked at, and where it does not fit, the
 // machine divides. Where no inverse is at hand, 0 will do.
 pub fn quotient(x: u32, p: u32, inverse: u32) -> u32
@@ -116,7 +109,7 @@ pub fn listed_row(rows: &[u32], prepared: &[u32], part: &[u32], i: usize) -> Row
     ensures listed { Mem result.frame (frames_in (table_of rows.now prepared.now) part.now) }
     ensures fine { Fine result.frame }
 {
-    row_at(rows, prepared, index(part[i]))
+    row_at(rows, prepared, part[i] as usize)
 }
 
 // The work of the frames in some rows.
@@ -127,11 +120,9 @@ pub fn work_in(rows: &[u32], prepared: &[u32], part: &[u32], a: u32, n: u32) -> 
     ensures small { result ≤ 64 * 400400400 }
 {
     let mut sum: u64 = 0;
-    let mut i = 0;
-    while i < part.len() {
+    for i in 0..part.len() {
         let r = listed_row(rows, prepared, part, i);
         sum += frame_demand(r.frame, a, n, r.inverse);
-        i += 1;
     }
     sum
 }

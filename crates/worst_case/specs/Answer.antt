@@ -1,39 +1,31 @@
 -- The frame that ranks last and its worst case (document 02, request 14), for rows and the lengths ls that were loaded.
-use Rattle.std.specs.Prelude.{ℕ, List, cond, replicate}
-use Rattle.arith.specs.declared.Found.TheVariants.{At, Nothing}
+use Rattle.std.specs.Prelude.{ℕ, List, cond, Option, Some, None, Result, Ok, Err}
+use Rattle.row_judgement.specs.declared.Refusal.{Refusal}
+use Rattle.table_checks.specs.declared.Refusal.{Refusal as TableRefusal}
 use Rattle.bus_model.specs.declared.Frame.{Frame}
 use Rattle.bus_model.specs.declared.Faults.TheVariants.{Never}
 use Rattle.bus_model.specs.Frame.{row}
 use Rattle.bus_model.specs.Judgement.{judge}
 use Rattle.bus_model.specs.Worst.{last_row, all_early, worst_starts, worst_instance}
-use Rattle.table_checks.specs.declared.Checked.{Checked}
-use Rattle.table_checks.specs.declared.Checked.TheVariants.{Passed, Failed}
 use Rattle.table_checks.specs.Frames.{frames_of}
 use Rattle.table_checks.specs.Checks.{loaded_check}
-use Rattle.row_judgement.specs.declared.Judged.TheVariants.{Verdict}
-use Rattle.row_judgement.specs.declared.Bounded.{Bounded}
-use Rattle.row_judgement.specs.declared.Bounded.TheVariants.{Bound, NotBounded}
 use Rattle.row_judgement.specs.Judge.{claim_of, judge_row, bound_frame}
 use Rattle.worst_case.specs.declared.WorstCase.{WorstCase}
 use Rattle.worst_case.specs.declared.LastFrame.{LastFrame}
 
--- nothing is shown
-unfoldable pub no_worst : WorstCase
-no_worst = record { response = Nothing; instance = 0; starts = replicate 16 0 }
-
 -- by what the operation answers that gives only the exact bound: where that gives it, it is the response
-unfoldable pub worst_bounded : List Frame → Frame → Bounded → WorstCase
-worst_bounded fs k (Bound b) = record { response = At b; instance = worst_instance fs k; starts = worst_starts fs k }
-worst_bounded fs k (NotBounded f) = no_worst
+unfoldable pub worst_bounded : List Frame → Frame → Result ℕ Refusal → Option WorstCase
+worst_bounded fs k (Ok b) = Some (record { response = b; instance = worst_instance fs k; starts = worst_starts fs k })
+worst_bounded fs k (Err f) = None
 
 -- of row r of an accepted table: "in a table whose offsets are below their periods"
-unfoldable pub worst_row : List Frame → ℕ → WorstCase
-worst_row fs r = cond (all_early fs) (worst_bounded fs (row fs r) (bound_frame fs r)) no_worst
+unfoldable pub worst_row : List Frame → ℕ → Option WorstCase
+worst_row fs r = cond (all_early fs) (worst_bounded fs (row fs r) (bound_frame fs r)) None
 
 -- a refused table shows none
-unfoldable pub worst_checked : Checked → List Frame → WorstCase
-worst_checked (Failed f) fs = no_worst
-worst_checked Passed fs = worst_row fs (last_row fs)
+unfoldable pub worst_checked : Result (Unit {0}) TableRefusal → List Frame → Option WorstCase
+worst_checked (Err f) fs = None
+worst_checked (Ok _) fs = worst_row fs (last_row fs)
 
 -- what judging the last frame's row answers, and its worst case
 unfoldable pub worst_of : List (List ℕ) → List ℕ → LastFrame
@@ -46,4 +38,4 @@ unfoldable pub judged_last : List (List ℕ) → List ℕ → LastFrame
 judged_last ls rows =
     let fs = frames_of ls rows in
     let r = last_row fs in
-    record { judged = Verdict (judge Never fs (row fs r) (claim_of rows r)); worst = worst_row fs r }
+    record { judged = Ok (judge Never fs (row fs r) (claim_of rows r)); worst = worst_row fs r }

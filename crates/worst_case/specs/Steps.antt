@@ -1,6 +1,5 @@
 -- What one step of the code hands to the next.
 use Rattle.std.specs.Prelude.{ℕ, ◌≤◌, ◌<◌, List, cond, ltb}
-use Rattle.arith.specs.declared.Found.TheVariants.{At}
 use Rattle.bus_model.specs.declared.Frame.{Frame}
 use Rattle.bus_model.specs.Frame.{row}
 use Rattle.bus_model.specs.Worst.{for_group, starts_of, instance_from}
@@ -27,4 +26,4 @@ pub record CaseWithin (als : List ℕ) (q : ℕ) (k : Frame) : Type 0 where
 
 -- the starts and the instance by them, where the response is the bound
 unfoldable pub case_shown : List ℕ → ℕ → Frame → ℕ → WorstCase
-case_shown als q k bound = record { response = At bound; instance = instance_from k (for_group als k.group) q; starts = starts_of als }
+case_shown als q k bound = record { response = bound; instance = instance_from k (for_group als k.group) q; starts = starts_of als }

@@ -1,32 +1,30 @@
 // The row of the frame that ranks last, and whether every offset is below its period.
 ghost use Rattle.std.specs.Prelude.{◌≡◌, ◌<◌, length};
 ghost use Rattle.bus_model.specs.Worst.{last_row, all_early};
-ghost use Rattle.table_checks.specs.Frames.{frames_of};
-ghost use Rattle.table_checks.specs.Checks.{Loadable, Accepted};
+ghost use Rattle.table_checks.specs.Table.{frames};
 ghost use Rattle.worst_case.specs.Steps.{later_of};
 
+use table_checks::Table;
+
 // The row of the frame that ranks last in an accepted table.
-pub fn last_row(lengths: [[u32; 9]; 2], rows: &[u32]) -> usize
-    requires { Loadable lengths × Accepted rows.now }
-    ensures value { result ≡ last_row (frames_of lengths rows.now) }
-    ensures listed { result < length (frames_of lengths rows.now) }
+pub fn last_row(table: &Table) -> usize
+    ensures value { result ≡ last_row (frames table.now) }
+    ensures listed { result < length (frames table.now) }
 {
-    let lines = rows.len() / table_checks::ROW;
+    let lines = table.count();
     let mut last = 0;
-    let mut i = 1;
-    while i < lines {
-        last = later(lengths, rows, last, i);
-        i += 1;
+    for i in 1..lines {
+        last = later(table, last, i);
     }
     last
 }
 
 // Of two rows the one whose frame ranks behind the other's.
-fn later(lengths: [[u32; 9]; 2], rows: &[u32], a: usize, b: usize) -> usize
-    ensures { result ≡ later_of (frames_of lengths rows.now) a b }
+fn later(table: &Table, a: usize, b: usize) -> usize
+    ensures { result ≡ later_of (frames table.now) a b }
 {
-    let first = table_checks::frame(lengths, rows, a);
-    let second = table_checks::frame(lengths, rows, b);
+    let first = table.frame(a);
+    let second = table.frame(b);
     if first.priority < second.priority {
         b
     } else {
@@ -35,17 +33,15 @@ fn later(lengths: [[u32; 9]; 2], rows: &[u32], a: usize, b: usize) -> usize
 }
 
 // Whether every offset is below its period.
-pub fn all_early(lengths: [[u32; 9]; 2], rows: &[u32]) -> bool
-    ensures { result ≡ all_early (frames_of lengths rows.now) }
+pub fn all_early(table: &Table) -> bool
+    ensures { result ≡ all_early (frames table.now) }
 {
-    let lines = rows.len() / table_checks::ROW;
-    let mut i = 0;
-    while i < lines {
-        let frame = table_checks::frame(lengths, rows, i);
+    let lines = table.count();
+    for i in 0..lines {
+        let frame = table.frame(i);
         if frame.period <= frame.offset {
             return false;
         }
-        i += 1;
     }
     true
 }

@@ -7,71 +7,58 @@ mod last;
 mod row;
 mod starts;
 
-ghost use Rattle.std.specs.Prelude.{◌≡◌, ℕ};
-ghost use Rattle.arith.specs.declared.Found.TheVariants.{At};
+ghost use Rattle.std.specs.Prelude.{◌≡◌, Some};
 ghost use Rattle.bus_model.specs.Worst.{last_row, for_group, Responds};
 ghost use Rattle.table_checks.specs.Frames.{frames_of};
-ghost use Rattle.table_checks.specs.Checks.{Loadable, Accepted};
 ghost use Rattle.table_checks.specs.Returns.{loaded_returns};
-ghost use Rattle.row_judgement.specs.declared.Judged.TheVariants.{NotJudged};
 ghost use Rattle.row_judgement.specs.Returns.{judged_returns, judge_returns};
-ghost use Rattle.worst_case.specs.Answer.{no_worst, judged_last, worst_of};
+ghost use Rattle.worst_case.specs.declared.WorstCase.{WorstCase};
+ghost use Rattle.worst_case.specs.Answer.{judged_last, worst_of};
 
-use arith::Found;
-use bus_model::Faults;
+use bus_model::{Faults, Judgement};
 pub use last::last_row;
 pub use row::worst_row;
-use row_judgement::{Judged, Refusal, of_table};
-use table_checks::Checked;
+use row_judgement::Refusal;
+use table_checks::Table;
 
-// The starts of groups 1 to 16, the instance, from 0, and its response. Where no case is shown, the response is nothing and the numbers
-// are 0.
-#[derive(Drop)]
+// The starts of groups 1 to 16, the instance, from 0, and its response.
+#[derive(Clone, Copy)]
 pub struct WorstCase {
-    pub response: Found,
+    pub response: u32,
     pub instance: u32,
     pub starts: [u32; 16],
 }
 
-// What judging the last frame's row answers, and its worst case.
-#[derive(Drop)]
+// What judging the last frame's row answers, and its worst case, where one is shown.
+#[derive(Clone, Copy)]
 pub struct LastFrame {
-    pub judged: Judged,
-    pub worst: WorstCase,
+    pub judged: Result<Judgement, Refusal>,
+    pub worst: Option<WorstCase>,
 }
 
 // Judges the claim of the frame that ranks last, by the lengths loaded, and finds its worst case, where its precise bound can be had and
 // every offset is below its period. The response that is shown is reached in some schedule with these starts.
 pub fn worst(lengths: [[u32; 9]; 2], rows: &[u32]) -> LastFrame
     ensures value { result ≡ worst_of lengths rows.now }
-    ensures reached { (response : ℕ) → result.worst.response ≡ At response → Responds (frames_of lengths rows.now) (for_group result.worst.starts) (last_row (frames_of lengths rows.now)) result.worst.instance response }
+    ensures reached { (w : WorstCase) → result.worst ≡ Some w → Responds (frames_of lengths rows.now) (for_group w.starts) (last_row (frames_of lengths rows.now)) w.instance w.response }
     ensures in_numbers { judged_returns result.judged ≡ judge_returns (loaded_returns lengths rows.now) lengths rows.now (last_row (frames_of lengths rows.now)) }
 {
-    let checked = table_checks::check_loaded(lengths, rows);
-    match checked {
-        Checked::Failed(refusal) => turned_back(of_table(refusal)),
-        Checked::Passed => worst_of_rows(lengths, rows),
-    }
-}
-
-// A table that is turned back has no worst case.
-fn turned_back(refusal: Refusal) -> LastFrame
-    ensures { result ≡ record { judged = NotJudged refusal; worst = no_worst } }
-{
-    LastFrame {
-        judged: Judged::NotJudged(refusal),
-        worst: row::no_worst(),
+    match Table::check(lengths, rows) {
+        Ok(table) => worst_of_rows(&table),
+        Err(refusal) => LastFrame {
+            judged: Err(Refusal::from(refusal)),
+            worst: None,
+        },
     }
 }
 
 // The same for the rows of an accepted table.
-fn worst_of_rows(lengths: [[u32; 9]; 2], rows: &[u32]) -> LastFrame
-    requires { Loadable lengths × Accepted rows.now }
-    ensures { result ≡ judged_last lengths rows.now }
+fn worst_of_rows(table: &Table) -> LastFrame
+    ensures { result ≡ judged_last table.now.lengths table.now.rows.now }
 {
-    let i = last_row(lengths, rows);
+    let i = last_row(table);
     LastFrame {
-        judged: Judged::Verdict(row_judgement::judge_row(lengths, rows, i, Faults::Never)),
-        worst: worst_row(lengths, rows, i),
+        judged: Ok(row_judgement::judge_row(table, i, Faults::Never)),
+        worst: worst_row(table, i),
     }
 }

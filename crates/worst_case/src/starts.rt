@@ -2,7 +2,6 @@
 ghost use Rattle.std.specs.Prelude.{◌≡◌, ◌≤◌};
 ghost use Rattle.bus_model.specs.Worst.{for_group, meeting_tick, starts_of, instance_from};
 
-use arith::greater;
 use bus_model::Frame;
 use workload::GROUPS;
 
@@ -11,10 +10,8 @@ fn meeting_tick(alignments: [u32; 16]) -> u32
     ensures { result ≡ meeting_tick alignments }
 {
     let mut most = 0;
-    let mut i = 0;
-    while i < GROUPS {
-        most = greater(most, alignments[i]);
-        i += 1;
+    for i in 0..GROUPS {
+        most = most.max(alignments[i]);
     }
     most
 }
@@ -25,10 +22,8 @@ pub fn starts_of(alignments: [u32; 16]) -> [u32; 16]
 {
     let meeting = meeting_tick(alignments);
     let mut starts = [0u32; 16];
-    let mut i = 0;
-    while i < GROUPS {
+    for i in 0..GROUPS {
         starts[i] = meeting - alignments[i];
-        i += 1;
     }
     starts
 }

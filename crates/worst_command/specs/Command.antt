@@ -1,6 +1,5 @@
 -- What the command worst prints (document 02, request 14: "the group starts" with which "the frame's exact bound" is reached).
-use Rattle.std.specs.Prelude.{ℕ, List, [], ◌∷◌, ◌++◌}
-use Rattle.arith.specs.declared.Found.TheVariants.{At, Nothing}
+use Rattle.std.specs.Prelude.{ℕ, List, [], ◌∷◌, ◌++◌, Option, Some, None}
 use Rattle.bus_model.specs.Worst.{last_row}
 use Rattle.bus_model.specs.declared.Faults.TheVariants.{Never}
 use Rattle.decimal.specs.Decimal.{write_column}
@@ -15,8 +14,9 @@ unfoldable pub response_line : ℕ → ℕ → List ℕ
 response_line instance response = write_column 8 instance ++ (write_column 8 response ++ (10 ∷ []))
 
 -- the lines of a worst case: group (3) and start (8) for each of the sixteen groups, and the instance with its response
-unfoldable pub worst_text : WorstCase → List ℕ
-worst_text w = elim w.response [ At b ↦ numbered_lines 8 w.starts 16 0 ++ response_line w.instance b | Nothing ↦ [] ]
+unfoldable pub worst_text : Option WorstCase → List ℕ
+worst_text (Some w) = numbered_lines 8 w.starts 16 0 ++ response_line w.instance w.response
+worst_text None = []
 
 -- the last frame's line of the listing, and its worst case
 unfoldable pub text_of : List (List ℕ) → List ℕ → List ℕ

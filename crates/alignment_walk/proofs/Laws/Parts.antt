@@ -1,5 +1,5 @@
 -- The frames in some rows: their next releases, and the instants that these give.
-use Rattle.std.specs.Prelude.{ℕ, ◌+◌, ◌-◌, ◌*◌, ◌/◌, ◌%◌, ◌≤◌, ◌<◌, min, max, ◌≡◌, List, [], ◌∷◌, Bool, T, length, get_or}
+use Rattle.std.specs.Prelude.{ℕ, ◌+◌, ◌-◌, ◌*◌, ◌/◌, ◌%◌, ◌≤◌, ◌<◌, min, max, ◌≡◌, List, [], ◌∷◌, Bool, T, length, get_or, Option, Some, None}
 use Rattle.std.proofs.Math.Path.{refl, sym, ap}
 use Rattle.std.proofs.Common.{◌∙◌, arith, mul-le-mul_right, mod-eq_of_lt}
 use Rattle.std.proofs.Math.Decide.{dec_le}
@@ -12,8 +12,6 @@ use Rattle.arith.specs.Laws.Sums.{le-greatest, greatest-exceeds}
 use Rattle.arith.specs.Laws.Walks.{Through, through-start, through-more, through-end, greatest-more}
 use Rattle.arith.specs.Laws.Releases.{count-le, next-after}
 use Rattle.arith.specs.Laws.Least.{least-here, least_skip, least-none, least-within}
-use Rattle.arith.specs.declared.Found.{Found}
-use Rattle.arith.specs.declared.Found.TheVariants.{At, Nothing}
 use Rattle.bus_model.specs.declared.Frame.{Frame}
 use Rattle.bus_model.specs.Frame.{row}
 use Rattle.bus_model.specs.Bounds.{phase, is_released_at, distance, or_empty}
@@ -106,7 +104,7 @@ module _ {rows p part : List ℕ} (fine : FinePart rows p part) {a e best i : �
       omega (arith, is, next-first (fine.fine g l) a m low u, le-greatest (λ (h : Frame). e - next_release a h) l)
 
   -- The search for an instant finds it, where it is below e.
-  pub next-is : best < e → At best ≡ least (is_instant (frames_in fs part)) (e - a) a
+  pub next-is : best < e → Some best ≡ least (is_instant (frames_in fs part)) (e - a) a
   next-is inside =
       let p = is_instant (frames_in fs part) in
       let (g, l, less) = greatest-exceeds (λ (h : Frame). e - next_release a h) (e - best - 1) (frames_in fs part) (omega (arith, is)) in
@@ -116,7 +114,7 @@ module _ {rows p part : List ℕ} (fine : FinePart rows p part) {a e best i : �
       sym (least_skip p e a best late (omega arith) (λ m low less. none_before low less (omega arith)) ∙ least-here p e best inside passes)
 
   -- Elsewhere it finds none.
-  pub next-none : e ≤ best → Nothing ≡ least (is_instant (frames_in fs part)) (e - a) a
+  pub next-none : e ≤ best → None ≡ least (is_instant (frames_in fs part)) (e - a) a
   next-none high = sym (least-none (is_instant (frames_in fs part)) (e - a) a (λ m low less. none_before low (omega arith) (omega arith)))
 
   -- So that release, cut at e, is what the search ends with.
@@ -131,22 +129,22 @@ module _ {rows p part : List ℕ} (fine : FinePart rows p part) {a e best i : �
 -- ---- a search below e that ended at m
 
 module _ (p : ℕ → Bool) (e n : ℕ) {m : ℕ} where
-  end-at : (found : Found) → m ≡ or_end e found → m < e → found ≡ At m
+  end-at : (found : Option ℕ) → m ≡ or_end e found → m < e → found ≡ Some m
   unfolding or_end
-  end-at (At l) is inside = ap At (sym is)
-  end-at Nothing is inside = absurd (omega arith)
+  end-at (Some l) is inside = ap Some (sym is)
+  end-at None is inside = absurd (omega arith)
 
   -- Where that is below e, it found m.
-  pub ended_at : m ≡ or_end e (least p (e - n) n) → m < e → least p (e - n) n ≡ At m
+  pub ended_at : m ≡ or_end e (least p (e - n) n) → m < e → least p (e - n) n ≡ Some m
   ended_at is inside = end-at (least p (e - n) n) is inside
 
-  end_none : (found : Found) → least p (e - n) n ≡ found → m ≡ or_end e found → e ≤ m → found ≡ Nothing
+  end_none : (found : Option ℕ) → least p (e - n) n ≡ found → m ≡ or_end e found → e ≤ m → found ≡ None
   unfolding or_end
-  end_none (At l) at is over = let (low, high, t) = least-within p e at in absurd (omega arith)
-  end_none Nothing at is over = refl
+  end_none (Some l) at is over = let (low, high, t) = least-within p e at in absurd (omega arith)
+  end_none None at is over = refl
 
   -- Elsewhere it found none.
-  pub ended-none : m ≡ or_end e (least p (e - n) n) → e ≤ m → least p (e - n) n ≡ Nothing
+  pub ended-none : m ≡ or_end e (least p (e - n) n) → e ≤ m → least p (e - n) n ≡ None
   ended-none is over = end_none (least p (e - n) n) refl is over
 
 -- A group without alignments counts 1.

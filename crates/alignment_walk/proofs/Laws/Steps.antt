@@ -1,5 +1,5 @@
 -- A walk along the alignments of a group: the demand of the whole periods and of their rest, and what is noted of each frame.
-use Rattle.std.specs.Prelude.{ℕ, ◌+◌, ◌-◌, ◌/◌, ◌%◌, ◌≤◌, ◌<◌, ◌≡◌, refl, ◌≢◌, Bool, true, false, cond, eqb, ltb, length, get_or, set}
+use Rattle.std.specs.Prelude.{ℕ, ◌+◌, ◌-◌, ◌/◌, ◌%◌, ◌≤◌, ◌<◌, ◌≡◌, refl, ◌≢◌, Bool, true, false, cond, eqb, ltb, length, get_or, set, Some}
 use Rattle.std.proofs.Common.{ap, ◌∙◌, mod-lt, mul-le-mul_right, mul-le-mul, div-le_self, length-set, get_or-set_same, get_or-set_other, below_more, lt-ltb, le-ltb, eq-eqb, ne_eqb}
 use mathlib.Core.List.Memᴰ.{head as here}
 use mathlib.Core.List.Memᴰ.{tail as there}
@@ -10,7 +10,6 @@ use Rattle.std.proofs.Math.Nat.{mod-add-div'}
 use Rattle.arith.specs.Lists.{sum}
 use Rattle.arith.specs.Least.{least}
 use Rattle.arith.specs.Releases.{releases_before}
-use Rattle.arith.specs.declared.Found.TheVariants.{At}
 use Rattle.arith.specs.Laws.Members.{exists-mem}
 use Rattle.arith.specs.Laws.Least.{least-within, least-le}
 use Rattle.arith.specs.Laws.Releases.{counted, count-le, next-after}
@@ -160,7 +159,7 @@ module _ {n : ℕ} {fs : List Frame} {part area : List ℕ} where
 
 -- ---- the next alignment
 
-module _ {rows p part : List ℕ} (fine : FinePart rows p part) (a e : ℕ) {b : ℕ} (found : least (is_instant (frames_in (table_of rows p) part)) (e - a) a ≡ At b) where
+module _ {rows p part : List ℕ} (fine : FinePart rows p part) (a e : ℕ) {b : ℕ} (found : least (is_instant (frames_in (table_of rows p) part)) (e - a) a ≡ Some b) where
   abbrev fs : List Frame
   fs = table_of rows p
 
@@ -179,6 +178,6 @@ module _ {rows p part : List ℕ} (fine : FinePart rows p part) (a e : ℕ) {b :
   }
 
 -- No frame is released before the first alignment.
-pub phase-late : {rows p part : List ℕ} (fine : FinePart rows p part) (e : ℕ) {b : ℕ} → least (is_instant (frames_in (table_of rows p) part)) (e - 0) 0 ≡ At b
+pub phase-late : {rows p part : List ℕ} (fine : FinePart rows p part) (e : ℕ) {b : ℕ} → least (is_instant (frames_in (table_of rows p) part)) (e - 0) 0 ≡ Some b
     → (g : Frame) → Mem g (frames_in (table_of rows p) part) → b ≤ phase g
 phase-late fine e found g m = omega (arith, next-inside fine 0 e found m, next-phase (fine.fine g m))

@@ -1,14 +1,12 @@
 -- The walk visits every alignment of a group once, rising, and nothing else, and their number is the one in the scenario count (document 02,
 -- request 3).
 use Prim.Native.Nat.{ℕ, zero, suc, ◌+◌, ◌-◌, ◌%◌, ◌≤◌, ◌<◌, max}
-use Rattle.std.specs.Prelude.{◌≡◌, refl, Bool, true, false, cond, T, length}
+use Rattle.std.specs.Prelude.{◌≡◌, refl, Bool, true, false, cond, T, length, Option, Some, None}
 use Rattle.std.proofs.Common.{sym, ◌∙◌, arith, add-one}
 use Rattle.std.proofs.Math.Path.{ap, fun_ext}
 use mathlib.Core.List.{List, [], ◌∷◌, Memᴰ as Mem}
 use Rattle.std.proofs.Math.Nat.{sub-zero}
 use Rattle.arith.specs.Lists.{product, keep, range}
-use Rattle.arith.specs.declared.Found.{Found}
-use Rattle.arith.specs.declared.Found.TheVariants.{At, Nothing}
 use Rattle.arith.specs.Laws.Least.{least-within, least-end}
 use Rattle.arith.specs.Laws.Members.{mem-keep, of-keep, mem-range, of_range}
 use Rattle.arith.specs.Laws.Walks.{keep-next, keep-end}
@@ -34,12 +32,12 @@ unfolding visits_from on_from
 visits-from zero gs end a few = sym (keep-end (is_instant gs) end a (least-end (is_instant gs) end a (omega arith)))
 visits-from (suc n) gs end a few = go (step gs end a) refl (λ b le. visits-from n gs end b le)
   where
-    go : (found : Found) → step gs end a ≡ found → ((b : ℕ) → end - b ≤ n → visits_from n gs end b ≡ keep (is_instant gs) (range b (end - b))) → on_from found (λ b. visits_from n gs end (b + 1)) ≡ keep (is_instant gs) (range a (end - a))
-    go (At b) is later =
+    go : (found : Option ℕ) → step gs end a ≡ found → ((b : ℕ) → end - b ≤ n → visits_from n gs end b ≡ keep (is_instant gs) (range b (end - b))) → on_from found (λ b. visits_from n gs end (b + 1)) ≡ keep (is_instant gs) (range a (end - a))
+    go (Some b) is later =
         let (low, high, t) = least-within (is_instant gs) end is in
         let rest = rw add-one at (later (b + 1) (omega arith)) in
         rw add-one (ap (λ (xs : List ℕ). b ∷ xs) rest) ∙ sym (keep-next (is_instant gs) end a b is)
-    go Nothing is later = sym (keep-end (is_instant gs) end a is)
+    go None is later = sym (keep-end (is_instant gs) end a is)
 
 -- The whole walk visits the instants below the end, in this order,
 pub visits-are : (gs : List Frame) (end : ℕ) → visits gs end ≡ instants_in gs end

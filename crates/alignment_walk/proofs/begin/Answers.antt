@@ -1,48 +1,26 @@
 use Prim.Native.Nat.{ℕ, ◌+◌, ◌-◌, ◌*◌, ◌≤◌}
 use mathlib.Core.Path.{sym, ap, ◌∙◌}
 use native.Mathlib.Omega.{arith}
-use native.Mathlib.Nat.{div-mul-le_self, mod-eq-sub-div-mul}
+use native.Mathlib.Nat.{mod-eq-sub-div-mul}
 use Rattle.bus_model.specs.Bounds.{phase}
-use Rattle.workload.proofs.Laws.Fine.{sum-none, sum-next, sum-all}
+use Rattle.workload.proofs.Laws.Fine.{sum-next, sum-all}
 use Rattle.alignment_walk.specs.Steps.{wait_from, whole_demand}
 use Rattle.alignment_walk.proofs.Laws.Parts.{wait-first}
-use Rattle.alignment_walk.proofs.Laws.Steps.{note-none, note-more, note-all, notes-none, notes-more, notes-all, whole-small}
+use Rattle.alignment_walk.proofs.Laws.Steps.{note-more, note-all, notes-more, notes-all, whole-small}
 use Rattle.alignment_walk.proofs.begin.Goals as goal
 use Rattle.alignment_walk.proofs.begin.Goals.{After-listed_row-r, After-quotient-times, In-loop-i}
-
-pub loop-i-init : goal.loop-i-init
-loop-i-init c = let p = c.requires.notes_len in (sum-none, notes-none p.0, note-none p.1)
 
 -- the row is one of 64
 few : (c : In-loop-i) → c.loop-i.i + 1 ≤ 64
 few c = omega (arith, c.loop-i-test.true, c.requires.fine_part.few)
 
--- the whole periods are no more than n,
-inside : (c : After-quotient-times) → c.quotient-times.result * c.listed_row-r.result.frame.period ≤ c.args.n
-inside c = rw c.quotient-times.ensures (div-mul-le_self _ _)
-
 -- and their demand is small
 small : (c : After-quotient-times) → c.listed_row-r.result.frame.length * c.quotient-times.result ≤ 400000400
 small c = rw c.quotient-times.ensures (whole-small c.listed_row-r.ensures.fine c.args.n c.requires.n_bound.0)
 
-pub overflow_mul-notes : goal.overflow_mul-notes
-overflow_mul-notes c = omega (arith, inside (goal.at.overflow_mul-notes c).After-quotient-times)
-
-pub overflow_sub-notes : goal.overflow_sub-notes
-overflow_sub-notes c = omega (arith, inside (goal.at.overflow_sub-notes c).After-quotient-times)
-
 -- the first alignment is not after its first release
 first-inside : (c : After-listed_row-r) → c.args.first ≤ phase c.listed_row-r.result.frame
 first-inside c = c.requires.n_bound.1 _ c.listed_row-r.ensures.listed
-
-pub overflow_sub-waits : goal.overflow_sub-waits
-overflow_sub-waits c = rw c.phase_of.ensures.value (first-inside (goal.at.overflow_sub-waits c).After-listed_row-r)
-
-pub overflow_mul-whole : goal.overflow_mul-whole
-overflow_mul-whole c = omega (arith, small (goal.at.overflow_mul-whole c).After-quotient-times)
-
-pub overflow_add-whole : goal.overflow_add-whole
-overflow_add-whole c = omega (arith, small (goal.at.overflow_add-whole c).After-quotient-times, c.loop-i.invariant.0.small, few (goal.at.overflow_add-whole c).In-loop-i)
 
 pub loop-i-preserved : goal.loop-i-preserved
 loop-i-preserved c =

@@ -1,3 +1,4 @@
+use Rattle.std.specs.Prelude.{Some}
 use Prim.Native.Nat.{ℕ, ◌+◌, ◌-◌, ◌*◌, ◌≤◌, max}
 use mathlib.Core.Path.{◌≡◌, refl, sym, ap, ◌∙◌}
 use mathlib.Core.List.Memᴰ.{head as here}
@@ -7,7 +8,6 @@ use native.Mathlib.Nat.{max-zero, zero-max, add-zero, zero-add, sub-zero}
 use lib.ListN.{length}
 use Rattle.arith.specs.Lists.{sum, greatest}
 use Rattle.arith.specs.Least.{least}
-use Rattle.arith.specs.declared.Found.TheVariants.{At}
 use Rattle.arith.specs.Laws.Least.{least-within}
 use Rattle.arith.specs.Laws.Walks.{keep-next, keep-found, keep-end, walk_start, walk_more, walk-less, walk_end, greatest-more, length_more}
 use Rattle.bus_model.specs.Bounds.{work_at, or_empty}
@@ -24,34 +24,28 @@ pub returns-in_default : goal.returns-in_default
 unfolding greatest or_empty
 returns-in_default c =
     let a = c.args in
-    let empty = rw sub-zero at (keep-end (is_instant (frames_in (table_of a.rows.now a.prepared.now) a.part.now)) a.end 0 (sym c.next_alignment-found.ensures ∙ c.in_default.is)) in
+    let empty = rw sub-zero at (keep-end (is_instant (frames_in (table_of a.rows.now a.prepared.now) a.part.now)) a.end 0 (sym c.next_alignment.ensures ∙ c.in_default.is)) in
     record { among = rw empty (here refl); work_value = rw empty; count = sym (ap length (visits-are _ a.end ∙ empty)); small = (omega arith, omega arith) }
 
 pub begin-whole-requires : goal.begin-whole-requires
 begin-whole-requires c =
-    record { fine_part = c.requires.fine_part; n_bound = (c.requires.end_bound.1, phase-late c.requires.fine_part c.args.end (sym c.next_alignment-found.ensures ∙ c.in-At.is)); notes_len = (refl, refl) }
+    record { fine_part = c.requires.fine_part; n_bound = (c.requires.end_bound.1, phase-late c.requires.fine_part c.args.end (sym c.next_alignment.ensures ∙ c.in-Some.is)); notes_len = (refl, refl) }
 
 pub loop-work-init : goal.loop-work-init
 loop-work-init c =
-    let is = c.next_alignment-found.ensures in
+    let is = c.next_alignment.ensures in
     let e = c.args.end in
-    let (low, high, t) = least-within _ _ (sym is ∙ c.in-At.is) in
-    let from = rw sub-zero at (keep-next _ e 0 _ (sym is ∙ c.in-At.is)) in (
+    let (low, high, t) = least-within _ _ (sym is ∙ c.in-Some.is) in
+    let from = rw sub-zero at (keep-next _ e 0 _ (sym is ∙ c.in-Some.is)) in (
       walk_start _ _ _ _ _ _ high from (zero-max _),
-      keep-found _ _ 0 is c.in-At.is,
+      keep-found _ _ 0 is c.in-Some.is,
       omega arith,
-      keep-found _ _ 0 is c.in-At.is,
+      keep-found _ _ 0 is c.in-Some.is,
       omega arith,
       rw sub-zero c.begin-whole.ensures.waits,
       walk_start _ _ _ _ _ _ high from (zero-add _),
       omega arith,
     )
-
-pub visit-v-requires : goal.visit-v-requires
-visit-v-requires c =
-    let l = c.loop-work in
-    let b = c.begin-whole.ensures in
-    record { fine_part = c.requires.fine_part; gap_le_a = (l.invariant.4, l.invariant.0.inside, c.requires.end_bound.0); notes = b.notes; noted = l.invariant.5 }
 
 -- the visit's work
 visits : (c : After-visit-v)
@@ -82,15 +76,6 @@ among c =
     let l = c.loop-work in
     elim c.if-work-visited.branch [ then-work-visited t ↦ rw t.alignment-is l.invariant.1 | else-work-visited t ↦ rw t.alignment-is l.invariant.3 ]
 
-pub overflow_add-visited : goal.overflow_add-visited
-overflow_add-visited c = omega (arith, c.begin-whole.ensures.small, c.visit-v.ensures.small.0)
-
-pub overflow_add-count : goal.overflow_add-count
-overflow_add-count c = omega (arith, c.loop-work.invariant.7, c.loop-work.invariant.0.inside, c.requires.end_bound.0)
-
-pub overflow_add-a : goal.overflow_add-a
-overflow_add-a c = omega (arith, c.visit-v.ensures.small.1, c.loop-work.invariant.0.inside, c.requires.end_bound.0)
-
 pub returns-then-end-a : goal.returns-then-end-a
 unfolding greatest
 returns-then-end-a c =
@@ -104,11 +89,8 @@ returns-then-end-a c =
 -- the next alignment
 found : (c : Else-end-a)
     → let l = c.loop-work in
-    least (is_instant (frames_in (table_of c.args.rows.now c.args.prepared.now) c.args.part.now)) (c.args.end - (l.a + 1)) (l.a + 1) ≡ At (l.a + c.visit-v.result.gap)
+    least (is_instant (frames_in (table_of c.args.rows.now c.args.prepared.now) c.args.part.now)) (c.args.end - (l.a + 1)) (l.a + 1) ≡ Some (l.a + c.visit-v.result.gap)
 found c = ended_at _ _ _ c.visit-v.ensures.next c.if-end-a.false
-
-pub overflow_add-a-in-loop-work : goal.overflow_add-a-in-loop-work
-overflow_add-a-in-loop-work c = omega (arith, c.visit-v.ensures.small.1, c.loop-work.invariant.0.inside, c.requires.end_bound.0)
 
 pub loop-work-smaller : goal.loop-work-smaller
 loop-work-smaller c = walk-less _ _ _ _ _ c.loop-work.invariant.0 (found (goal.at.loop-work-smaller c).Else-end-a)

@@ -1,9 +1,7 @@
 -- The next release is small.
-use Prim.Native.Nat.{ℕ, ◌+◌, ◌*◌, ◌≤◌}
-use mathlib.Core.Path.{ap, ◌∙◌}
+use Prim.Native.Nat.{◌*◌, ◌≤◌}
 use native.Mathlib.Omega.{arith}
 use Rattle.arith.specs.Laws.Releases.{count-short}
-use Rattle.arith.specs.Releases.{releases_before}
 use Rattle.alignment_walk.proofs.next_release.Goals as goal
 use Rattle.alignment_walk.proofs.next_release.Goals.{After-releases_before}
 
@@ -17,8 +15,3 @@ overflow_mul-result c = omega (arith, short (goal.at.overflow_mul-result c).Afte
 
 pub overflow_add-result : goal.overflow_add-result
 overflow_add-result c = omega (arith, short (goal.at.overflow_add-result c).After-releases_before, c.phase_of-phase.ensures.small, c.requires.fine.period-high)
-
-pub returns : goal.returns
-returns c =
-    let g = c.args.g in
-    ap (λ (t : ℕ). c.phase_of-phase.result + t * g.period) c.releases_before.ensures.value ∙ ap (λ (x : ℕ). x + releases_before x g.period c.args.after * g.period) c.phase_of-phase.ensures.value

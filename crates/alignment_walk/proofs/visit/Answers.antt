@@ -5,16 +5,12 @@ use lib.ListN.{get_or}
 use Rattle.bus_model.specs.declared.Frame.{Frame}
 use Rattle.bus_model.specs.Frame.{row}
 use Rattle.workload.specs.Prepared.{Fine, table_of}
-use Rattle.workload.proofs.Laws.Fine.{part-listed, sum-none, sum-next, sum-all}
+use Rattle.workload.proofs.Laws.Fine.{part-listed, sum-next, sum-all}
 use Rattle.alignment_walk.specs.Steps.{wait_from, extra_demand, NotesOf}
-use Rattle.alignment_walk.proofs.Laws.Parts.{next-late, first-none, first_next, next-or-end}
-use Rattle.alignment_walk.proofs.Laws.Steps.{note-none, note-more, note-left, note-all, extra-small, wait-rest, wait-next}
+use Rattle.alignment_walk.proofs.Laws.Parts.{next-late, first_next, next-or-end}
+use Rattle.alignment_walk.proofs.Laws.Steps.{note-more, note-left, note-all, extra-small, wait-rest, wait-next}
 use Rattle.alignment_walk.proofs.visit.Goals as goal
 use Rattle.alignment_walk.proofs.visit.Goals.{After-in_rest-extra, In-loop-i}
-
-pub loop-i-init : goal.loop-i-init
-loop-i-init c =
-    (sum-none, first-none (omega (arith, c.requires.gap_le_a)), omega arith, note-none c.requires.noted.size, record { each = λ j late l. c.requires.noted.each j l })
 
 -- the frame of the row
 abbrev frame : (c : In-loop-i) → Frame
@@ -50,11 +46,6 @@ extra c good noted late =
     let is = rw (noted.length, noted.rest) at c.in_rest-extra.ensures ∙ wait-rest good c.args.a late c.args.n in
     (is, omega (arith, is, extra-small good c.args.a c.args.n))
 
-pub overflow_add-extra : goal.overflow_add-extra
-overflow_add-extra c =
-    let i = (goal.at.overflow_add-extra c).In-loop-i in
-    omega (arith, extra (goal.at.overflow_add-extra c).After-in_rest-extra (fine i) (notes i) (waited i).1, c.loop-i.invariant.0.small, few i)
-
 pub loop-i-preserved : goal.loop-i-preserved
 loop-i-preserved c =
     let l = c.loop-i in
@@ -64,8 +55,8 @@ loop-i-preserved c =
     let asked = extra (goal.at.loop-i-preserved c).After-in_rest-extra (fine i) (notes i) (waited i).1 in
     let later = rw (notes i).period at c.wait_after-later.ensures ∙ wait-next (fine i) a.a (waited i).1 in (
       sum-next l.invariant.0 less asked.0 asked.1,
-      first_next {x = a.a + c.wait_after-later.result} l.invariant.1 less (omega (arith, later, next-late (fine i) (a.a + 1))) (omega (arith, c.lesser-least.ensures)),
-      omega (arith, l.invariant.2, c.lesser-least.ensures),
+      first_next {x = a.a + c.wait_after-later.result} l.invariant.1 less (omega (arith, later, next-late (fine i) (a.a + 1))) (omega (arith, c.min-least.ensures)),
+      omega (arith, l.invariant.2, c.min-least.ensures),
       note-more _ l.invariant.3 (omega (arith, few i)) later,
       note-left _ l.invariant.4,
     )

@@ -1,6 +1,5 @@
 -- The loop goes through the rows, adds what the rest asks for, notes the wait for the next release of the frame in each, and keeps the least.
 use Prim.Native.Nat.{◌+◌, ◌-◌, ◌≤◌}
-use lib.ListN.{length}
 use Rattle.workload.specs.Prepared.{table_of}
 use Rattle.workload.proofs.Laws.Fine.{SumTo}
 use Rattle.alignment_walk.specs.Steps.{wait_from, extra_demand}
@@ -14,6 +13,3 @@ invariant-loop-i l =
     × FirstTo (l.a + 1) l.end (table_of l.rows l.prepared) l.part (l.a + l.least) l.i
     × (l.least ≤ l.end - l.a)
     × NotedTo (wait_from l.a (l.a + 1)) (table_of l.rows l.prepared) l.part l.waits l.i × NotedFrom (wait_from (l.a - l.gap) l.a) (table_of l.rows l.prepared) l.part l.waits l.i
-
-abbrev pub decreases-loop-i : goal.decreases-loop-i
-decreases-loop-i l = length l.part - l.i

@@ -5,7 +5,7 @@ use Prim.Native.Nat.{ℕ, zero, suc, ◌+◌, ◌-◌, ◌≤◌, ◌<◌, max}
 use Rattle.std.proofs.Math.Path.{◌≡◌, refl}
 use Rattle.std.proofs.Common.{sym, ap, ◌∙◌, drop_of_length-le, drop-cons}
 use mathlib.Core.List.{List, [], ◌∷◌, ◌++◌, Memᴰ as Mem}
-use Rattle.std.specs.Prelude.{Bool, length, get_or, drop}
+use Rattle.std.specs.Prelude.{Bool, length, get_or, drop, Option, Some, None}
 use Rattle.std.proofs.Math.Bool.{true, false, cond}
 use Rattle.std.proofs.Math.Nat.{sub-zero}
 use Rattle.std.proofs.Math.Numerals.{add-one}
@@ -15,8 +15,6 @@ use Rattle.arith.specs.Lists.{sum, greatest, keep, range}
 use Rattle.arith.specs.Least.{least}
 use Rattle.arith.specs.Laws.Members.{mem-keep, mem-range}
 use Rattle.arith.specs.Laws.Least.{least-within}
-use Rattle.arith.specs.declared.Found.{Found}
-use Rattle.arith.specs.declared.Found.TheVariants.{At, Nothing}
 
 -- ---- one element more: how a loop's body carries it from what is left to what is done
 
@@ -71,41 +69,41 @@ module _ {A B : Type 0} (F : List ℕ → B) (join : A → B → B) (e : ℕ) (g
 -- ---- through the numbers that pass
 
 module _ (p : ℕ → Bool) where
-  kept_at : (k n b : ℕ) → least p k n ≡ At b → keep p (range n k) ≡ b ∷ keep p (range (suc b) (n + k - suc b))
+  kept_at : (k n b : ℕ) → least p k n ≡ Some b → keep p (range n k) ≡ b ∷ keep p (range (suc b) (n + k - suc b))
   unfolding least keep range
   kept_at zero n b q = let z : ◌≡◌ {A = ℕ} 0 1 = cc in absurd (omega arith)
   kept_at (suc k) n b q = go (p n) (kept_at k (suc n) b) q
     where
-      go : (c : Bool) → (least p k (suc n) ≡ At b → keep p (range (suc n) k) ≡ b ∷ keep p (range (suc b) (suc n + k - suc b)))
-          → elim c as (λ (d : Bool). Found) [ true ↦ At n | false ↦ least p k (suc n) ] ≡ At b
+      go : (c : Bool) → (least p k (suc n) ≡ Some b → keep p (range (suc n) k) ≡ b ∷ keep p (range (suc b) (suc n + k - suc b)))
+          → elim c as (λ (d : Bool). (Option ℕ)) [ true ↦ Some n | false ↦ least p k (suc n) ] ≡ Some b
           → cond c (n ∷ keep p (range (suc n) k)) (keep p (range (suc n) k)) ≡ b ∷ keep p (range (suc b) (n + suc k - suc b))
       go true later r = let same : n ≡ b = cc in let rest : b + suc k - suc b ≡ k = omega arith in rw same (rw rest)
       go false later r = let next : suc n + k ≡ n + suc k = omega arith in rw next at (later r)
 
-  kept-none : (k n : ℕ) → least p k n ≡ Nothing → keep p (range n k) ≡ []
+  kept-none : (k n : ℕ) → least p k n ≡ None → keep p (range n k) ≡ []
   unfolding least keep range
   kept-none zero n q = refl
   kept-none (suc k) n q = go (p n) (kept-none k (suc n)) q
     where
-      go : (c : Bool) → (least p k (suc n) ≡ Nothing → keep p (range (suc n) k) ≡ [])
-          → elim c as (λ (d : Bool). Found) [ true ↦ At n | false ↦ least p k (suc n) ] ≡ Nothing
+      go : (c : Bool) → (least p k (suc n) ≡ None → keep p (range (suc n) k) ≡ [])
+          → elim c as (λ (d : Bool). (Option ℕ)) [ true ↦ Some n | false ↦ least p k (suc n) ] ≡ None
           → cond c (n ∷ keep p (range (suc n) k)) (keep p (range (suc n) k)) ≡ []
       go true later r = let z : ◌≡◌ {A = ℕ} 0 1 = cc in absurd (omega arith)
       go false later r = later r
 
   -- Of the numbers n .. e - 1 that pass, the first is the one that the search finds, and the others come after it.
-  pub keep-next : (e n b : ℕ) → least p (e - n) n ≡ At b → keep p (range n (e - n)) ≡ b ∷ keep p (range (suc b) (e - suc b))
+  pub keep-next : (e n b : ℕ) → least p (e - n) n ≡ Some b → keep p (range n (e - n)) ≡ b ∷ keep p (range (suc b) (e - suc b))
   keep-next e n b found =
       let (low, high, t) = least-within p e found in
       let end : n + (e - n) ≡ e = omega arith in
       rw end at (kept_at (e - n) n b found)
 
   -- What it finds is one of all of them.
-  pub keep-found : (e n : ℕ) {b : ℕ} {found : Found} → found ≡ least p (e - n) n → found ≡ At b → Mem b (keep p (range 0 e))
+  pub keep-found : (e n : ℕ) {b : ℕ} {found : Option ℕ} → found ≡ least p (e - n) n → found ≡ Some b → Mem b (keep p (range 0 e))
   keep-found e n {b} is at = let (low, high, t) = least-within p e (sym is ∙ at) in mem-keep p (mem-range 0 e b (omega arith) (omega arith)) t
 
   -- There are none where it finds none.
-  pub keep-end : (e n : ℕ) → least p (e - n) n ≡ Nothing → keep p (range n (e - n)) ≡ []
+  pub keep-end : (e n : ℕ) → least p (e - n) n ≡ None → keep p (range n (e - n)) ≡ []
   keep-end e n none = kept-none (e - n) n none
 
 -- The walk stands at a, the first of what is left.
@@ -121,21 +119,21 @@ module _ {A B : Type 0} (F : List ℕ → B) (join : A → B → B) (p : ℕ →
 
   -- It goes on to the next number that passes.
   pub walk_more : {done next : A} {a b : ℕ} → Walk F join p e goal done a → ((xs : List ℕ) → join done (F (a ∷ xs)) ≡ join next (F xs))
-      → least p (e - (a + 1)) (a + 1) ≡ At b → Walk F join p e goal next b
+      → least p (e - (a + 1)) (a + 1) ≡ Some b → Walk F join p e goal next b
   walk_more {a = a} {b} w step found =
-      let after : least p (e - suc a) (suc a) ≡ At b = rw add-one at found in
+      let after : least p (e - suc a) (suc a) ≡ Some b = rw add-one at found in
       let (low, high, t) = least-within p e after in
       record { inside = high; is = rw (keep-next p e (suc a) b after) at (sym (step _) ∙ w.is) }
 
   -- That is nearer to e.
-  pub walk-less : {done : A} {a b : ℕ} → Walk F join p e goal done a → least p (e - (a + 1)) (a + 1) ≡ At b → e - b < e - a
+  pub walk-less : {done : A} {a b : ℕ} → Walk F join p e goal done a → least p (e - (a + 1)) (a + 1) ≡ Some b → e - b < e - a
   walk-less w found = let (low, high, t) = least-within p e found in omega arith
 
   -- It ends where no more passes.
   pub walk_end : {done next : A} {a : ℕ} → Walk F join p e goal done a → ((xs : List ℕ) → join done (F (a ∷ xs)) ≡ join next (F xs))
-      → least p (e - (a + 1)) (a + 1) ≡ Nothing → join next (F []) ≡ goal
+      → least p (e - (a + 1)) (a + 1) ≡ None → join next (F []) ≡ goal
   walk_end {a = a} w step none =
-      let over : least p (e - suc a) (suc a) ≡ Nothing = rw add-one at none in
+      let over : least p (e - suc a) (suc a) ≡ None = rw add-one at none in
       rw (keep-end p e (suc a) over) at (sym (step _) ∙ w.is)
 
 -- ---- through a list

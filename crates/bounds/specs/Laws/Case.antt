@@ -1,10 +1,8 @@
 -- What the search for the case that breaks a claim needs: the visit of a group's alignments, and the last scenario.
-use Rattle.std.specs.Prelude.{ℕ, zero, suc, ◌+◌, ◌-◌, ◌≤◌, ◌<◌, ◌≡◌, refl, false, T, length, get_or, set, replicate}
+use Rattle.std.specs.Prelude.{ℕ, zero, suc, ◌+◌, ◌-◌, ◌≤◌, ◌<◌, ◌≡◌, refl, false, T, length, get_or, set, replicate, Option, Some, None}
 use Rattle.std.proofs.Common.{sym, subst, ◌∙◌, arith}
 use Rattle.std.proofs.Math.Path.{ap}
 use mathlib.Core.List.{List, [], ◌∷◌, map, Memᴰ as Mem}
-use Rattle.arith.specs.declared.Found.{Found}
-use Rattle.arith.specs.declared.Found.TheVariants.{At, Nothing}
 use Rattle.arith.specs.Lists.{range}
 use Rattle.arith.specs.Least.{least, or_zero}
 use Rattle.arith.specs.Laws.Members.{mem-range}
@@ -31,7 +29,7 @@ use Rattle.bus_model.specs.Theory.FirstCase.{completions}
 use Rattle.bus_model.proofs.Theory.FirstCase.{prefix-start, prefix-more, case-start, case-last, Trying, try-first, try-take, try-last, try-next}
 use Rattle.workload.specs.Prepared.{FineTable, InTable}
 use Rattle.response_time.specs.Load.{OwnFixed}
-use Rattle.bounds.specs.Case.{LeadsTo, case_by}
+use Rattle.bounds.specs.Case.{LeadsTo}
 
 -- ---- the own group where it is fixed
 
@@ -51,7 +49,7 @@ own-again k cs (low, high) {a} e = set-again Any (Fixed a) cs (k.group - 1) (ome
 abbrev pub Tries : Faults → List Frame → Frame → ℕ → List Choice → ℕ → ℕ → Type 0
 Tries faults fs k claim cs j a = (valid : Valid fs) (table : InTable fs k) → Trying faults valid table.inside claim cs j a
 
-pub tries-first : {faults : Faults} {fs : List Frame} {k : Frame} {claim : ℕ} {cs : List Choice} {j : ℕ} → LeadsTo faults fs k claim j cs → (1 ≤ j) × (j ≤ 16) → {a : ℕ} (first : Found)
+pub tries-first : {faults : Faults} {fs : List Frame} {k : Frame} {claim : ℕ} {cs : List Choice} {j : ℕ} → LeadsTo faults fs k claim j cs → (1 ≤ j) × (j ≤ 16) → {a : ℕ} (first : Option ℕ)
     → first ≡ least (is_alignment fs k j) (turn fs k j - 0) 0 → a ≡ or_zero first → Tries faults fs k claim cs j a
 tries-first {faults = faults} {claim = claim} {cs} {j} l (low, high) first is start valid table =
     rw start (try-first faults valid table.inside claim cs l.prefix (mem-range 1 groups j low (omega arith)) first (rw table.is at is))
@@ -93,22 +91,22 @@ module _ {faults : Faults} {fs : List Frame} (accepted : FineTable fs) {k : Fram
         (sym table.is) (λ more. try-take faults accepted.valid table.inside claim cs l.prefix.long tried more) over)
 
     -- or at the last;
-    pub tries-last : least (is_alignment fs k j) (turn fs k j - (a + 1)) (a + 1) ≡ Nothing → LeadsTo faults fs k claim (j + 1) (set cs (j - 1) (Fixed a))
+    pub tries-last : least (is_alignment fs k j) (turn fs k j - (a + 1)) (a + 1) ≡ None → LeadsTo faults fs k claim (j + 1) (set cs (j - 1) (Fixed a))
     tries-last none =
-        leads-on (subst (λ (f : Frame). least (is_alignment fs f j) (turn fs f j - (a + 1)) (a + 1) ≡ Nothing → first_among faults fs f claim (completions fs f cs) ≡ first_among faults fs f claim (completions fs f (set cs (j - 1) (Fixed a))))
+        leads-on (subst (λ (f : Frame). least (is_alignment fs f j) (turn fs f j - (a + 1)) (a + 1) ≡ None → first_among faults fs f claim (completions fs f cs) ≡ first_among faults fs f claim (completions fs f (set cs (j - 1) (Fixed a))))
         (sym table.is) (λ over. try-last faults accepted.valid table.inside claim cs l.prefix.long tried over) none)
 
     -- otherwise it goes on to the next.
-    module _ {b : ℕ} (found : least (is_alignment fs k j) (turn fs k j - (a + 1)) (a + 1) ≡ At b) where
+    module _ {b : ℕ} (found : least (is_alignment fs k j) (turn fs k j - (a + 1)) (a + 1) ≡ Some b) where
       pub tries-next : fixing_more faults fs k 16 (set cs (j - 1) (Fixed a)) ≤ claim → Tries faults fs k claim cs j b
       tries-next within valid t =
           try-next faults valid t.inside claim cs l.prefix.long (tries valid t)
           (subst (λ (f : Frame). fixing_more faults fs f 16 (set cs (j - 1) (Fixed a)) ≤ claim) t.is within)
-          (subst (λ (f : Frame). least (is_alignment fs f j) (turn fs f j - (a + 1)) (a + 1) ≡ At b) t.is found)
+          (subst (λ (f : Frame). least (is_alignment fs f j) (turn fs f j - (a + 1)) (a + 1) ≡ Some b) t.is found)
 
       pub tries-less : turn fs k j - b < turn fs k j - a
       tries-less =
-          subst (λ (f : Frame). least (is_alignment fs f j) (turn fs f j - (a + 1)) (a + 1) ≡ At b → turn fs f j - b < turn fs f j - a)
+          subst (λ (f : Frame). least (is_alignment fs f j) (turn fs f j - (a + 1)) (a + 1) ≡ Some b → turn fs f j - b < turn fs f j - a)
           (sym table.is) (λ is. walk-less _ _ _ _ _ tried.walk is) found
 
 -- ---- the scenario that is found
@@ -127,15 +125,6 @@ pub shown-free : replicate 16 0 ≡ map shown free
 unfolding shown
 shown-free = refl
 
--- The case of a scenario, by its instance and its alignments.
-pub case-by : (faults : Faults) (fs : List Frame) (k : Frame) (claim : ℕ) (cs : List Choice) → case_by (exceeding_instance faults fs k claim cs) (map shown cs) ≡ case_in faults fs k claim cs
-unfolding case_by
-case-by faults fs k claim cs = go (exceeding_instance faults fs k claim cs) refl
-  where
-    go : (r : Found) → exceeding_instance faults fs k claim cs ≡ r → case_by (exceeding_instance faults fs k claim cs) (map shown cs) ≡ case_in faults fs k claim cs
-    go (At q) e = rw e (sym (in-at faults fs k claim cs q e))
-    go Nothing e = rw e (sym (in-none faults fs k claim cs e))
-
 -- The groups count from 1.
 pub leads-at : {faults : Faults} {fs : List Frame} {k : Frame} {claim : ℕ} (cs : List Choice) (i a : ℕ) → LeadsTo faults fs k claim (i + 1 + 1) (set cs (i + 1 - 1) (Fixed a)) → LeadsTo faults fs k claim (i + 1 + 1) (set cs i (Fixed a))
 leads-at {faults} {fs} {k} {claim} cs i a = let same : i + 1 - 1 ≡ i = omega arith in subst (λ (n : ℕ). LeadsTo faults fs k claim (i + 1 + 1) (set cs n (Fixed a))) same
@@ -145,9 +134,9 @@ module _ {fs : List Frame} (accepted : FineTable fs) {k : Frame} (table : InTabl
   self-valid = subst ValidFrame (sym table.is) (accepted.valid.frame table.at table.inside)
 
   -- Where the own group is fixed, there is a window, if none lacks.
-  pub refined-window : (faults : Faults) (cs : List Choice) → length cs ≡ groups → RefinedBy fs k free cs → lacks_window faults fs k ≡ false → OwnFixed k cs → (w : ℕ) × (busy_window faults fs k cs ≡ At w)
+  pub refined-window : (faults : Faults) (cs : List Choice) → length cs ≡ groups → RefinedBy fs k free cs → lacks_window faults fs k ≡ false → OwnFixed k cs → (w : ℕ) × (busy_window faults fs k cs ≡ Some w)
   refined-window faults cs long refines has (a, own) =
-      subst (λ (f : Frame). lacks_window faults fs f ≡ false → RefinedBy fs f free cs → choice_of cs f.group ≡ Fixed a → (w : ℕ) × (busy_window faults fs f cs ≡ At w))
+      subst (λ (f : Frame). lacks_window faults fs f ≡ false → RefinedBy fs f free cs → choice_of cs f.group ≡ Fixed a → (w : ℕ) × (busy_window faults fs f cs ≡ Some w))
       (sym table.is) (λ windows r fixed. more-window accepted.valid table.inside cs long faults (has-windows faults fs (row fs table.at) (λ t. subst T windows t)) r fixed) has refines own
 
   module _ {faults : Faults} {claim : ℕ} {cs : List Choice} (l : LeadsTo faults fs k claim 17 cs) where
@@ -155,10 +144,15 @@ module _ {fs : List Frame} (accepted : FineTable fs) {k : Frame} (table : InTabl
     pub leads-own : OwnFixed k cs
     leads-own = l.prefix.fixed k.group (group-listed self-valid) (omega (arith, self-valid.group-high))
 
-    pub leads-window : lacks_window faults fs k ≡ false → {found : Found} {window : ℕ} → found ≡ busy_window faults fs k cs → window ≡ or_zero found → busy_window faults fs k cs ≡ At window
-    unfolding or_zero
-    leads-window has {found} {window} is start = let (w, e) = refined-window faults cs l.prefix.long l.refines has leads-own in let same : window ≡ w = start ∙ ap or_zero (is ∙ e) in e ∙ ap At (sym same)
+    pub leads-window : lacks_window faults fs k ≡ false → {found : Option ℕ} {window : ℕ} → found ≡ busy_window faults fs k cs → window ≡ or_zero found → busy_window faults fs k cs ≡ Some window
+    leads-window has {found} {window} is start = let (w, e) = refined-window faults cs l.prefix.long l.refines has leads-own in let same : window ≡ w = start ∙ ap or_zero (is ∙ e) in e ∙ ap Some (sym same)
 
     -- and its case is the first.
-    pub leads-case : {instance : Found} {shows : List ℕ} → instance ≡ exceeding_instance faults fs k claim cs → shows ≡ map shown cs → case_by instance shows ≡ first_case faults fs k claim
-    leads-case is same = rw (is, same) (case-by faults fs k claim cs ∙ sym (case-last faults fs k claim cs l.prefix) ∙ l.first)
+    pub leads-case : case_in faults fs k claim cs ≡ first_case faults fs k claim
+    leads-case = sym (case-last faults fs k claim cs l.prefix) ∙ l.first
+
+    pub leads-none : None ≡ exceeding_instance faults fs k claim cs → None ≡ first_case faults fs k claim
+    leads-none is = sym (in-none faults fs k claim cs (sym is)) ∙ leads-case
+
+    pub leads-some : {q : ℕ} {shows : List ℕ} → Some q ≡ exceeding_instance faults fs k claim cs → shows ≡ map shown cs → Some (record { instance = q; alignments = shows }) ≡ first_case faults fs k claim
+    leads-some {q} is same = rw same (sym (in-at faults fs k claim cs q (sym is)) ∙ leads-case)

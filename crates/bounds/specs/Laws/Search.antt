@@ -1,7 +1,7 @@
 -- What the searches for the bounds need: the number of a group's alignments, the greatest value over a group's alignments as a loop finds it,
 -- and the choices of a search that fixes one group more.
 use Prim.Native.Nat.{ℕ, suc, ◌+◌, ◌-◌, ◌%◌, ◌≤◌, ◌<◌, max}
-use Rattle.std.specs.Prelude.{◌≡◌, Bool, cond, ◌||◌, ◌≢◌, eqb, ltb, length, set}
+use Rattle.std.specs.Prelude.{◌≡◌, Bool, cond, ◌||◌, ◌≢◌, eqb, ltb, length, set, Option, Some, None, is_none}
 use Rattle.std.proofs.Math.Path.{refl, ap}
 use Rattle.std.proofs.Common.{sym, subst, ◌∙◌, eqb-true, eq-eqb, ne_eqb, le-leb, lt-ltb, le-ltb, ltb-true, ltb-false, length-set}
 use mathlib.Core.List.Memᴰ
@@ -12,10 +12,8 @@ use native.Mathlib.Omega.{arith}
 use Rattle.std.proofs.Math.Numerals.{add-one}
 use Rattle.std.proofs.lemmas.Bool.{eqb-false, lt-leb}
 use Rattle.std.proofs.Math.Dec.{T}
-use Rattle.arith.specs.declared.Found.{Found}
-use Rattle.arith.specs.declared.Found.TheVariants.{At, Nothing}
 use Rattle.arith.specs.Lists.{greatest, exists, keep, range}
-use Rattle.arith.specs.Least.{least, or_zero, is_none}
+use Rattle.arith.specs.Least.{least, or_zero}
 use Rattle.arith.specs.Laws.Tests.{same_test, by-test}
 use Rattle.arith.specs.Laws.Members.{of_range, exists-mem, of-exists}
 use Rattle.arith.specs.Laws.Least.{least-within}
@@ -104,16 +102,16 @@ module _ (fs : List Frame) (k : Frame) (j : ℕ) (f : ℕ → ℕ) where
   goal from = max from (greatest f (or_empty (first_turn fs k j)))
 
   -- It starts at the first.
-  pub best-first : Valid fs → {from a : ℕ} (first : Found) → first ≡ least passes (end - 0) 0 → a ≡ or_zero first → Best fs k j f from from a
+  pub best-first : Valid fs → {from a : ℕ} (first : Option ℕ) → first ≡ least passes (end - 0) 0 → a ≡ or_zero first → Best fs k j f from from a
   best-first valid {from} first is at = rw at (record { walk = visit-first (greatest f) max (goal from) valid k j first is refl; listed = first-listed valid k j first is })
 
   module _ {from most next a : ℕ} (best : Best fs k j f from most a) (more : next ≡ max most (f a)) where
     -- It goes on to the next.
-    pub best-more : Valid fs → {b : ℕ} → least passes (end - (a + 1)) (a + 1) ≡ At b → Best fs k j f from next b
+    pub best-more : Valid fs → {b : ℕ} → least passes (end - (a + 1)) (a + 1) ≡ Some b → Best fs k j f from next b
     best-more valid is = record { walk = walk_more (greatest f) max passes end (goal from) best.walk (greatest-more f most a more) is; listed = found-listed valid k j (a + 1) is }
 
     -- It ends after the last.
-    pub best-end : least passes (end - (a + 1)) (a + 1) ≡ Nothing → next ≡ max from (greatest f (or_empty (first_turn fs k j)))
+    pub best-end : least passes (end - (a + 1)) (a + 1) ≡ None → next ≡ max from (greatest f (or_empty (first_turn fs k j)))
     unfolding greatest
     best-end none = let ended = walk_end (greatest f) max passes end (goal from) best.walk (greatest-more f most a more) none in omega arith
 
@@ -141,7 +139,7 @@ module _ (fs : List Frame) (k : Frame) (j : ℕ) (f : ℕ → ℕ) where
 
   module _ {from most next a n : ℕ} (best : BestFrom fs k j f from most a n) (more : next ≡ max most (f a)) where
     -- It goes on to the next.
-    pub from_more : Valid fs → {b : ℕ} → least (passes) (end - n) n ≡ At b → BestFrom fs k j f from next b (b + 1)
+    pub from_more : Valid fs → {b : ℕ} → least (passes) (end - n) n ≡ Some b → BestFrom fs k j f from next b (b + 1)
     unfolding greatest
     from_more valid {b} is =
         let (low, high, t) = least-within (passes) (end) is in
@@ -149,7 +147,7 @@ module _ (fs : List Frame) (k : Frame) (j : ℕ) (f : ℕ → ℕ) where
         record { inside = omega arith; listed = found-listed valid k j n is; is = rw add-one (omega arith) }
 
     -- It ends after the last.
-    pub from-end : least (passes) (end - n) n ≡ Nothing → next ≡ max from (greatest f (or_empty (first_turn fs k j)))
+    pub from-end : least (passes) (end - n) n ≡ None → next ≡ max from (greatest f (or_empty (first_turn fs k j)))
     unfolding greatest
     from-end none = let ended = rw (keep-end (passes) (end) n none) at best.is in omega arith
 
@@ -201,8 +199,8 @@ module _ {fs : List Frame} (valid : Valid fs) {n : ℕ} (inside : n < length fs)
       let same = window-alike fs f (own_at f (a % turn fs f f.group)) (own_at f a) (alike-turn valid inside free refl f.group (group-listed self) a) faults in
       exists-mem (is_missing faults fs f) {x = a % turn fs f f.group} (turned valid f f.group l) (rw same (rw e at u)))
 
-  row-free : (faults : Faults) {l : ℕ} → busy_window faults fs f free ≡ At l → lacks_window faults fs f ≡ false
-  unfolding lacks_window is_none
+  row-free : (faults : Faults) {l : ℕ} → busy_window faults fs f free ≡ Some l → lacks_window faults fs f ≡ false
+  unfolding lacks_window
   row-free faults {l} is = none (lacks_window faults fs f) refl
     where
       none : (b : Bool) → lacks_window faults fs f ≡ b → b ≡ false
@@ -214,9 +212,9 @@ module _ {fs : List Frame} (valid : Valid fs) {n : ℕ} (inside : n < length fs)
           absurd (rw w.is at u)
 
 -- A window that is found is a limit.
-pub found-limits : (faults : Faults) (fs : List Frame) (k : Frame) (cs : List Choice) (limit : Found) → limit ≡ busy_window faults fs k cs → Limits faults fs k cs limit
-found-limits faults fs k cs (At l) is = record { window = l; is = sym is; within = omega arith; small = window-small faults fs k cs (sym is) }
-found-limits faults fs k cs Nothing is = tt
+pub found-limits : (faults : Faults) (fs : List Frame) (k : Frame) (cs : List Choice) (limit : Option ℕ) → limit ≡ busy_window faults fs k cs → Limits faults fs k cs limit
+found-limits faults fs k cs (Some l) is = record { window = l; is = sym is; within = omega arith; small = window-small faults fs k cs (sym is) }
+found-limits faults fs k cs None is = tt
 
 module _ {fs : List Frame} (accepted : FineTable fs) {k : Frame} (table : InTable fs k) where
   valid-self : ValidFrame k
@@ -230,34 +228,34 @@ module _ {fs : List Frame} (accepted : FineTable fs) {k : Frame} (table : InTabl
   own-aligned = subst (λ (f : Frame). Mem (phase f) (alignments fs f f.group)) (sym table.is) (phase-aligned accepted.valid (row fs table.at) (row fs table.at).group (self-ahead fs table.at table.inside))
 
   -- Where there is a window with all groups open, none lacks.
-  pub lacks-none : (faults : Faults) {l : ℕ} → busy_window faults fs k free ≡ At l → lacks_window faults fs k ≡ false
+  pub lacks-none : (faults : Faults) {l : ℕ} → busy_window faults fs k free ≡ Some l → lacks_window faults fs k ≡ false
   lacks-none faults = rw table.is (row-free accepted.valid table.inside faults)
 
   lacks-turn : (faults : Faults) → exists (is_missing faults fs k) (or_empty (first_turn fs k k.group)) ≡ lacks_window faults fs k
   lacks-turn faults = rw table.is (row-lacks accepted.valid table.inside faults)
 
   -- A loop looks at the first,
-  pub missing-first : {faults : Faults} {a : ℕ} (first : Found) → first ≡ least (is_alignment fs k k.group) (turn fs k k.group - 0) 0 → a ≡ or_zero first → Missing faults fs k a
+  pub missing-first : {faults : Faults} {a : ℕ} (first : Option ℕ) → first ≡ least (is_alignment fs k k.group) (turn fs k k.group - 0) 0 → a ≡ or_zero first → Missing faults fs k a
   missing-first {faults} first is at =
       rw at (record { walk = visit-first (exists (is_missing faults fs k)) ◌||◌ (lacks_window faults fs k) accepted.valid k k.group first is (lacks-turn faults); listed = first-listed accepted.valid k k.group first is })
 
   module _ {faults : Faults} {a : ℕ} (m : Missing faults fs k a) where
     -- stops where one lacks,
-    pub missing-here : busy_window faults fs k (own_at k a) ≡ Nothing → true ≡ lacks_window faults fs k
-    unfolding exists is_none
+    pub missing-here : busy_window faults fs k (own_at k a) ≡ None → true ≡ lacks_window faults fs k
+    unfolding exists
     missing-here none = rw none at m.walk.is
 
-    module _ {l : ℕ} (has : busy_window faults fs k (own_at k a) ≡ At l) where
+    module _ {l : ℕ} (has : busy_window faults fs k (own_at k a) ≡ Some l) where
       goes_by : (xs : List ℕ) → (false || exists (is_missing faults fs k) (a ∷ xs)) ≡ (false || exists (is_missing faults fs k) xs)
-      unfolding exists is_none
+      unfolding exists
       goes_by xs = rw has
 
       -- goes on,
-      pub missing-more : {b : ℕ} → least (is_alignment fs k k.group) (turn fs k k.group - (a + 1)) (a + 1) ≡ At b → Missing faults fs k b
+      pub missing-more : {b : ℕ} → least (is_alignment fs k k.group) (turn fs k k.group - (a + 1)) (a + 1) ≡ Some b → Missing faults fs k b
       missing-more is = record { walk = walk_more _ _ _ _ _ {next = false} m.walk goes_by is; listed = found-listed accepted.valid k k.group (a + 1) is }
 
       -- and ends where none does.
-      pub missing-end : least (is_alignment fs k k.group) (turn fs k k.group - (a + 1)) (a + 1) ≡ Nothing → false ≡ lacks_window faults fs k
+      pub missing-end : least (is_alignment fs k k.group) (turn fs k k.group - (a + 1)) (a + 1) ≡ None → false ≡ lacks_window faults fs k
       unfolding exists
       missing-end none = walk_end _ _ _ _ _ {next = false} m.walk goes_by none
 
@@ -281,35 +279,35 @@ module _ {fs : List Frame} (accepted : FineTable fs) {k : Frame} (table : InTabl
 
   module _ (cs : List Choice) (long : length cs ≡ groups) where
     -- The next group is one of the groups.
-    pub open-group : {j : ℕ} → next_open k cs ≡ At j → (1 ≤ j) × (j ≤ 16)
+    pub open-group : {j : ℕ} → next_open k cs ≡ Some j → (1 ≤ j) × (j ≤ 16)
     open-group is = let (low, high) = of_range 1 groups (next-open valid-self cs long is).0 in (low, omega arith)
 
     -- The greatest over its alignments is that with one group more.
-    pub open_more : (faults : Faults) (m : ℕ) {j : ℕ} → next_open k cs ≡ At j → greatest (λ a. fixing_more faults fs k m (set cs (j - 1) (Fixed a))) (or_empty (first_turn fs k j)) ≡ fixing_more faults fs k (suc m) cs
+    pub open_more : (faults : Faults) (m : ℕ) {j : ℕ} → next_open k cs ≡ Some j → greatest (λ a. fixing_more faults fs k m (set cs (j - 1) (Fixed a))) (or_empty (first_turn fs k j)) ≡ fixing_more faults fs k (suc m) cs
     open_more faults m {j} is =
-        subst (λ (f : Frame). next_open f cs ≡ At j → greatest (λ a. fixing_more faults fs f m (set cs (j - 1) (Fixed a))) (or_empty (first_turn fs f j)) ≡ fixing_more faults fs f (suc m) cs)
+        subst (λ (f : Frame). next_open f cs ≡ Some j → greatest (λ a. fixing_more faults fs f m (set cs (j - 1) (Fixed a))) (or_empty (first_turn fs f j)) ≡ fixing_more faults fs f (suc m) cs)
         (sym table.is) (λ e. sym (more_turn accepted.valid table.inside cs long faults m e)) is
 
     -- No more are fixed, or none is left.
     pub open-end : (faults : Faults) → fixing_more faults fs k 0 cs ≡ scenario_response faults fs k cs
     open-end faults = more-end valid-self cs long faults fs
 
-    pub open_none : (faults : Faults) (m : ℕ) → next_open k cs ≡ Nothing → fixing_more faults fs k m cs ≡ scenario_response faults fs k cs
+    pub open_none : (faults : Faults) (m : ℕ) → next_open k cs ≡ None → fixing_more faults fs k m cs ≡ scenario_response faults fs k cs
     open_none faults m none = more-none valid-self cs long faults fs m none
 
     -- No scenario further on has a greater response.
     pub open-pruned : OwnFixed k cs → {faults : Faults} {best reach : ℕ} → Reaches faults fs k cs best reach → (m : ℕ) → fixing_more faults fs k m cs ≤ scenario_response faults fs k cs
     open-pruned own {faults} w m =
-        subst (λ (f : Frame). (a : ℕ) × (choice_of cs f.group ≡ Fixed a) → busy_window faults fs f cs ≡ At w.window → fixing_more faults fs f m cs ≤ scenario_response faults fs f cs)
+        subst (λ (f : Frame). (a : ℕ) × (choice_of cs f.group ≡ Fixed a) → busy_window faults fs f cs ≡ Some w.window → fixing_more faults fs f m cs ≤ scenario_response faults fs f cs)
         (sym table.is) (λ fixed is. more-pruned accepted.valid table.inside cs long fixed faults w.window is m) own w.is
 
     -- With an alignment of an open group the scenario is refined.
     finer : {j : ℕ} → Mem j (range 1 groups) → choice_of cs j ≡ Any → {a : ℕ} → Mem a (or_empty (alignments fs k j)) → RefinedBy fs k cs (set cs (j - 1) (Fixed a))
     finer listed any m = refines-group fs k cs listed long any m
 
-    window-shorter : (faults : Faults) (cs' : List Choice) → RefinedBy fs k cs cs' → (l : ℕ) → busy_window faults fs k cs ≡ At l → (l' : ℕ) × (busy_window faults fs k cs' ≡ At l') × (l' ≤ l)
+    window-shorter : (faults : Faults) (cs' : List Choice) → RefinedBy fs k cs cs' → (l : ℕ) → busy_window faults fs k cs ≡ Some l → (l' : ℕ) × (busy_window faults fs k cs' ≡ Some l') × (l' ≤ l)
     window-shorter faults cs' refines l is =
-        subst (λ (f : Frame). RefinedBy fs f cs cs' → busy_window faults fs f cs ≡ At l → (l' : ℕ) × (busy_window faults fs f cs' ≡ At l') × (l' ≤ l))
+        subst (λ (f : Frame). RefinedBy fs f cs cs' → busy_window faults fs f cs ≡ Some l → (l' : ℕ) × (busy_window faults fs f cs' ≡ Some l') × (l' ≤ l))
         (sym table.is) (λ r e. window-refine accepted.valid table.inside faults cs cs' r l e) refines is
 
     window-finer : {faults : Faults} {cs' : List Choice} → RefinedBy fs k cs cs' → {limit : ℕ} → WindowWithin faults fs k cs limit → WindowWithin faults fs k cs' limit
@@ -317,7 +315,7 @@ module _ {fs : List Frame} (accepted : FineTable fs) {k : Frame} (table : InTabl
         subst (λ (f : Frame). RefinedBy fs f cs cs' → WindowWithin faults fs f cs limit → WindowWithin faults fs f cs' limit) (sym table.is) (λ r w. within-refined accepted.valid table.inside r w) refines
 
     -- What a search knows it still knows there.
-    module _ {j : ℕ} (next : next_open k cs ≡ At j) {a : ℕ} (m : Mem a (or_empty (alignments fs k j))) {cs' : List Choice} (is : cs' ≡ set cs (j - 1) (Fixed a)) (own : OwnFixed k cs) where
+    module _ {j : ℕ} (next : next_open k cs ≡ Some j) {a : ℕ} (m : Mem a (or_empty (alignments fs k j))) {cs' : List Choice} (is : cs' ≡ set cs (j - 1) (Fixed a)) (own : OwnFixed k cs) where
       refines : RefinedBy fs k cs cs'
       refines = let (listed, any) = next-open valid-self cs long next in rw is (finer listed any m)
 
@@ -335,7 +333,7 @@ module _ {fs : List Frame} (accepted : FineTable fs) {k : Frame} (table : InTabl
     -- ---- k's own group is the next
 
     module _ (start : OwnOpen fs k cs) where
-      pub own-next : next_open k cs ≡ At k.group
+      pub own-next : next_open k cs ≡ Some k.group
       unfolding next_open
       own-next = rw start.any
 
@@ -358,16 +356,16 @@ module _ {fs : List Frame} (accepted : FineTable fs) {k : Frame} (table : InTabl
         own-set = (a, own_is)
 
         -- A limit is one there,
-        pub own-limits : (faults : Faults) (limit : Found) → Limits faults fs k cs limit → Limits faults fs k cs' limit
-        own-limits faults (At l) w = window-finer own-refines w
-        own-limits faults Nothing w = tt
+        pub own-limits : (faults : Faults) (limit : Option ℕ) → Limits faults fs k cs limit → Limits faults fs k cs' limit
+        own-limits faults (Some l) w = window-finer own-refines w
+        own-limits faults None w = tt
 
         -- and there is a window, if none lacks.
-        pub own-window : (faults : Faults) → lacks_window faults fs k ≡ false → (l : ℕ) × (busy_window faults fs k cs' ≡ At l)
+        pub own-window : (faults : Faults) → lacks_window faults fs k ≡ false → (l : ℕ) × (busy_window faults fs k cs' ≡ Some l)
         own-window faults has =
             let long' : length cs' ≡ groups = rw is (length-set cs (k.group - 1) (Fixed a) ∙ long) in
             let free' : RefinedBy fs k free cs' = rw is (more-refined fs k cs start.refines long (group-listed valid-self) m) in
-            subst (λ (f : Frame). lacks_window faults fs f ≡ false → RefinedBy fs f free cs' → choice_of cs' f.group ≡ Fixed a → (l : ℕ) × (busy_window faults fs f cs' ≡ At l))
+            subst (λ (f : Frame). lacks_window faults fs f ≡ false → RefinedBy fs f free cs' → choice_of cs' f.group ≡ Fixed a → (l : ℕ) × (busy_window faults fs f cs' ≡ Some l))
             (sym table.is) (λ windows refines own. more-window accepted.valid table.inside cs' long' faults (has-windows faults fs (row fs table.at) (λ t. subst T windows t)) refines own) has free' own_is
 
   -- All groups are open at first.
@@ -383,15 +381,15 @@ module _ {fs : List Frame} (accepted : FineTable fs) {k : Frame} (table : InTabl
 
   -- ---- what level m decides
 
-  module _ (faults : Faults) (m : ℕ) (claim : Found) (rough : ℕ) where
+  module _ (faults : Faults) (m : ℕ) (claim : Option ℕ) (rough : ℕ) where
     -- Without a claim nothing is searched.
-    pub decided-unasked : enough_for m claim ≡ Nothing → TooMany rough ≡ decided_at faults fs k m claim rough
+    pub decided-unasked : enough_for m claim ≡ None → TooMany rough ≡ decided_at faults fs k m claim rough
     decided-unasked none =
         by-test (eqb m 15)
         (λ last. absurd (let z : ◌≡◌ {A = ℕ} 0 1 = cc (rw last at none) in omega arith))
         (λ other. rw (other, rw other at none))
 
-    module _ {enough r : ℕ} (asked : enough_for m claim ≡ At enough) (found : Settles enough (max 0 (fixing_more faults fs k (m + 1) free)) r) where
+    module _ {enough r : ℕ} (asked : enough_for m claim ≡ Some enough) (found : Settles enough (max 0 (fixing_more faults fs k (m + 1) free)) r) where
       -- A bound above the claim leaves it open; at the last level none is above what is enough.
       pub decided-above : r ≤ 4294967295 → enough < r → TooMany rough ≡ decided_at faults fs k m claim rough
       decided-above small above =

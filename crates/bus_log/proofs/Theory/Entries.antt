@@ -4,22 +4,18 @@ use Rattle.std.proofs.Math.Path.{◌≡◌, refl, sym, ap, subst}
 use Rattle.std.proofs.Common.{◌∙◌}
 use mathlib.Core.List.{List, [], ◌∷◌}
 use Rattle.std.proofs.Math.Bool.{true}
-use Rattle.std.specs.Prelude.{◌↔◌}
+use Rattle.std.specs.Prelude.{◌↔◌, Option, Some, None}
 use native.Mathlib.Omega.{arith}
 use borrow.Author.Tests.{eqb-true, eq-eqb}
 use Rattle.std.proofs.Math.Dec.{T}
 use Rattle.std.proofs.Math.ListN.{length}
 use Rattle.arith.specs.Least.{least}
-use Rattle.arith.specs.declared.Found.{Found}
-use Rattle.arith.specs.declared.Found.TheVariants.{At, Nothing}
 use Rattle.arith.specs.Laws.Tests.{and_both}
 use Rattle.arith.specs.Laws.Least.{least_at, least-finds}
 use Rattle.bus_model.specs.Frame.{row}
 use Rattle.bus_model.specs.Release.{release}
 use Rattle.bus_model.specs.Bus.{Transmission, one_more, Waiting, Idle, Next}
 use Rattle.bus_model.proofs.Theory.Uncut.{PlainRuns, never-plain}
-use Rattle.arith.specs.declared.Found.{Found}
-use Rattle.arith.specs.declared.Found.TheVariants.{Nothing}
 use Rattle.bus_model.specs.declared.Frame.{Frame}
 use Rattle.table_checks.specs.Columns.{field, columns, identifier_column, kind_column}
 use Rattle.bus_log.specs.declared.Line.{Line}
@@ -46,10 +42,10 @@ module _ (fs : List Frame) (t : List ℕ) (names : Names fs t) where
   unfolding row_of found_or
   row_named l h = go (least (is_named t l) (length t / columns) 0) refl h
     where
-      go : (r : Found) → least (is_named t l) (length t / columns) 0 ≡ r → let k : ℕ = found_or (length t / columns) r in k < length fs
+      go : (r : Option ℕ) → least (is_named t l) (length t / columns) 0 ≡ r → let k : ℕ = found_or (length t / columns) r in k < length fs
           → (field t k identifier_column ≡ l.identifier) × (field t k kind_column ≡ l.kind)
-      go (At i) e h = named l i (least_at (is_named t l) (length t / columns) 0 i e).2
-      go Nothing e h = absurd (omega (arith, names.count))
+      go (Some i) e h = named l i (least_at (is_named t l) (length t / columns) 0 i e).2
+      go None e h = absurd (omega (arith, names.count))
 
   -- A row that is named so is the one.
   pub named-row : (l : Line) (i : ℕ) → i < length fs → field t i identifier_column ≡ l.identifier → field t i kind_column ≡ l.kind → i ≡ row_of t l
@@ -66,14 +62,14 @@ module _ (fs : List Frame) (t : List ℕ) (names : Names fs t) where
     -- ---- from a schedule to entries
 
     -- the transmission that a line shows is its entry's
-    shown : (sent : ℕ → ℕ) (free : ℕ) (l : Line) (x : Transmission) → Shows fs t starts l x → Next fs starts sent free x → x.fault ≡ Nothing → x ≡ sending sent (entry_of t l)
+    shown : (sent : ℕ → ℕ) (free : ℕ) (l : Line) (x : Transmission) → Shows fs t starts l x → Next fs starts sent free x → x.fault ≡ None → x ≡ sending sent (entry_of t l)
     unfolding entry_of Waiting
     shown sent free l x s next whole =
         let a : x.frame ≡ row_of t l = named-row l x.frame next.waiting.0 s.identifier s.kind in
         fields x.frame x.instance x.start x.length x.fault a (next.oldest ∙ ap sent a) s.start s.length whole
       where
-        fields : (f n u c : ℕ) (r : Found) {f' n' u' c' : ℕ} → f ≡ f' → n ≡ n' → u ≡ u' → c ≡ c' → r ≡ Nothing
-            → ◌≡◌ {A = Transmission} (record { frame = f; instance = n; start = u; length = c; fault = r }) (record { frame = f'; instance = n'; start = u'; length = c'; fault = Nothing })
+        fields : (f n u c : ℕ) (r : Option ℕ) {f' n' u' c' : ℕ} → f ≡ f' → n ≡ n' → u ≡ u' → c ≡ c' → r ≡ None
+            → ◌≡◌ {A = Transmission} (record { frame = f; instance = n; start = u; length = c; fault = r }) (record { frame = f'; instance = n'; start = u'; length = c'; fault = None })
         fields f n u c r a b d e g = cc
 
     to-entries : (T : ℕ) (sent : ℕ → ℕ) (free : ℕ) (log : List Line) (xs : List Transmission) → ShowsAll fs t starts log xs → PlainRuns fs starts T sent free xs

@@ -1,6 +1,6 @@
 -- All lines: where following a log stops, and which starts the lines before allow.
 use Prim.Native.Nat.{ℕ, suc, ◌+◌, ◌≤◌, ◌<◌}
-use Rattle.std.specs.Prelude.{◌≡◌, false, ◌↔◌, length, take}
+use Rattle.std.specs.Prelude.{◌≡◌, false, ◌↔◌, length, take, Result, Ok, Err}
 use Rattle.std.proofs.Math.Path.{refl, sym, ap}
 use Rattle.std.proofs.Common.{◌∙◌, arith, ltb-true}
 use mathlib.Core.List.{List, [], ◌∷◌}
@@ -12,9 +12,8 @@ use Rattle.bus_model.specs.Bus.{one_more}
 use Rattle.bus_model.specs.declared.Frame.{Frame}
 use Rattle.bus_log.specs.declared.Entry.{Entry}
 use Rattle.bus_log.specs.declared.Progress.{Progress}
-use Rattle.bus_log.specs.declared.Followed.{Followed}
 use Rattle.bus_log.specs.Beginning.{Follows}
-use Rattle.bus_log.specs.Follow.{is_allowed, advance, follow_line, follow}
+use Rattle.bus_log.specs.Follow.{Followed, is_allowed, advance, follow_line, follow}
 use Rattle.bus_log.proofs.Theory.Step.{Fits, Counts, clash, sent-allowed, counts-after, fits_after, fits-before, sends-before}
 
 -- where following stopped
@@ -49,20 +48,26 @@ unfolding is_allowed
 allowed-frame fs p e t = ltb-true _ _ (and_both _ _ t).0
 
 -- A line as a loop follows it: it goes on, or stops there.
-module _ (fs : List Frame) (p : Progress) (n : ℕ) (e : Entry) (es : List Entry) (r : Followed) (is : r ≡ follow_line fs p n e) where
-  pub line-goes : r.place ≡ 0 → follow fs r.progress (n + 1) es ≡ follow fs p n (e ∷ es)
+module _ (fs : List Frame) (p : Progress) (n : ℕ) (e : Entry) (es : List Entry) where
+  pub line-goes : (q : Progress) → Ok q ≡ follow_line fs p n e → follow fs q (n + 1) es ≡ follow fs p n (e ∷ es)
   unfolding follow_line
-  line-goes z =
+  line-goes q is =
       by-test (is_allowed fs p e)
-      (λ t. let s : r ≡ record { place = 0; progress = advance fs p e } = rw t at is in rw (s, add-one n) (sym (follow-more fs p n e es t)))
-      (λ f. let s : r ≡ record { place = n + 1; progress = p } = rw f at is in absurd (omega (arith, ap (λ (x : Followed). x.place) s)))
+      (λ t.
+      let s : ◌≡◌ {A = Result Progress ℕ} (Ok q) (Ok (advance fs p e)) = rw t at is in
+      let same : q ≡ advance fs p e = cc in
+      rw (same, add-one n) (sym (follow-more fs p n e es t)))
+      (λ f. let s : ◌≡◌ {A = Result Progress ℕ} (Ok q) (Err (n + 1)) = rw f at is in let z : ◌≡◌ {A = ℕ} 0 1 = cc in absurd (omega arith))
 
-  pub line-stops : (r.place ≡ 0 → ⊥) → r ≡ follow fs p n (e ∷ es)
+  pub line-stops : (k : ℕ) → Err k ≡ follow_line fs p n e → (k ≡ n + 1) × (record { place = k; progress = p } ≡ follow fs p n (e ∷ es))
   unfolding follow_line
-  line-stops some =
+  line-stops k is =
       by-test (is_allowed fs p e)
-      (λ t. let s : r ≡ record { place = 0; progress = advance fs p e } = rw t at is in absurd (some (ap (λ (x : Followed). x.place) s)))
-      (λ f. let s : r ≡ record { place = n + 1; progress = p } = rw f at is in s ∙ ap (λ (k : ℕ). record { place = k; progress = p }) (add-one n) ∙ sym (follow-fails fs p n e es f))
+      (λ t. let s : ◌≡◌ {A = Result Progress ℕ} (Err k) (Ok (advance fs p e)) = rw t at is in let z : ◌≡◌ {A = ℕ} 0 1 = cc in absurd (omega arith))
+      (λ f.
+      let s : ◌≡◌ {A = Result Progress ℕ} (Err k) (Err (n + 1)) = rw f at is in
+      let same : k ≡ n + 1 = cc in
+      (same, rw (same, add-one n) (sym (follow-fails fs p n e es f))))
 
 module _ {fs : List Frame} (valid : Valid fs) (few : length fs ≤ 64) where
   pub followable : (p : Progress) (sent : ℕ → ℕ) → Counts fs p sent → (n : ℕ) (es : List Entry) → Followable fs p sent n es (follow fs p n es)

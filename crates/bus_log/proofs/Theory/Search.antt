@@ -1,13 +1,12 @@
 -- A search as a loop makes it: n is next, and it ends before e.
-use Rattle.std.specs.Prelude.{ℕ, ◌+◌, ◌-◌, ◌≤◌, ◌<◌, ◌≡◌, Bool, true, false, T}
+use Rattle.std.specs.Prelude.{ℕ, ◌+◌, ◌-◌, ◌≤◌, ◌<◌, ◌≡◌, Bool, true, false, T, Some}
 use Rattle.std.proofs.Common.{sym, arith}
 use Rattle.arith.specs.Least.{least}
-use Rattle.arith.specs.declared.Found.TheVariants.{At}
 use Rattle.arith.specs.Laws.Least.{least-here, least_skip}
 
 module _ (p : ℕ → Bool) (e n : ℕ) (b : Bool) (inside : n < e) (is : b ≡ p n) where
   -- It stops at a number that passes.
-  pub search-stop : b ≡ true → least p (e - n) n ≡ At n
+  pub search-stop : b ≡ true → least p (e - n) n ≡ Some n
   search-stop t = least-here p e n inside (rw (← is, t) tt)
 
   -- It goes on after one that fails.

@@ -19,10 +19,9 @@ use Rattle.bus_model.specs.declared.Frame.{Frame}
 use Rattle.bus_log.specs.declared.Line.{Line}
 use Rattle.bus_log.specs.declared.Entry.{Entry}
 use Rattle.bus_log.specs.declared.Progress.{Progress}
-use Rattle.bus_log.specs.declared.Followed.{Followed}
 use Rattle.bus_log.specs.Log.{end_from, IsBeginning, AcceptedLog, ShortestFailing, row_of, start_from, shown_start}
 use Rattle.bus_log.specs.Beginning.{Follows}
-use Rattle.bus_log.specs.Follow.{entry_of, entries_of, is_seen, start_of, due_of, begin, is_allowed, advance, follow, follow_log, start_shown}
+use Rattle.bus_log.specs.Follow.{Followed, entry_of, entries_of, is_seen, start_of, due_of, begin, is_allowed, advance, follow, follow_log, start_shown}
 use Rattle.bus_log.proofs.Theory.Known.{seen_same, seen_other, start-same, start-kept}
 use Rattle.bus_log.proofs.Theory.Step.{Fits, Counts, clash, counts-after, allowed-inside}
 use Rattle.bus_log.proofs.Theory.Lines.{Stopped, whole, failing, Followable, followable, follow-more, follow-fails}

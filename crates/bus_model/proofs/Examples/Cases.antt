@@ -1,18 +1,17 @@
 -- Cases that break a claim, as the definition gives them.
-use Rattle.std.specs.Prelude.{ℕ, ◌≡◌, refl, List, [], ◌∷◌, ◌++◌, replicate}
+use Rattle.std.specs.Prelude.{ℕ, ◌≡◌, refl, List, [], ◌∷◌, ◌++◌, replicate, Option, Some, None}
 use Rattle.bus_model.specs.Frame.{row}
-use Rattle.bus_model.specs.Case.{no_case, first_case, case_of}
+use Rattle.bus_model.specs.Case.{first_case, case_of}
 use Rattle.bus_model.specs.Judgement.{judge}
 use Rattle.bus_model.proofs.Examples.Compute.{everything}
 use Rattle.bus_model.proofs.Examples.Errors.{listing, three}
-use Rattle.arith.specs.declared.Found.TheVariants.{At}
 use Rattle.bus_model.specs.declared.Frame.{Frame}
 use Rattle.bus_model.specs.declared.Faults.TheVariants.{Never, Apart}
 use Rattle.bus_model.specs.declared.Case.{Case}
 
 -- the alignments of the first groups, those of the others being empty, and the instance
-abbrev shows : List ℕ → ℕ → ℕ → Case
-shows first rest q = record { instance = At q; alignments = first ++ replicate rest 0 }
+abbrev shows : List ℕ → ℕ → ℕ → Option Case
+shows first rest q = Some (record { instance = q; alignments = first ++ replicate rest 0 })
 
 -- Frame 48 of document 01's listing: its group stands where it is released itself.
 pub frame48 : first_case Never listing (row listing 2) 198 ≡ shows (300 ∷ []) 15 1
@@ -53,6 +52,6 @@ unfolding everything
 under-faults = (refl, refl)
 
 -- A certified frame has none.
-pub certified : case_of Never listing (row listing 3) 200 (judge Never listing (row listing 3) 200).outcome ≡ no_case
+pub certified : case_of Never listing (row listing 3) 200 (judge Never listing (row listing 3) 200).outcome ≡ None
 unfolding everything
 certified = refl

@@ -1,13 +1,12 @@
 -- Document 01's "Reasoning errors to catch": each of them gives another number than the definition.
 -- A bound with the error built in stands beside the right one.
-use Rattle.std.specs.Prelude.{ℕ, suc, ◌+◌, ◌-◌, ◌*◌, min, ◌≡◌, refl, List, [], ◌∷◌, Bool, leb}
+use Rattle.std.specs.Prelude.{ℕ, suc, ◌+◌, ◌-◌, ◌*◌, min, ◌≡◌, refl, List, [], ◌∷◌, Bool, leb, Some, None}
 use Rattle.arith.specs.Lists.{greatest, range}
 use Rattle.arith.specs.Least.{least, or_zero}
 use Rattle.arith.specs.Releases.{releases_before}
 use Rattle.bus_model.specs.Frame.{row}
 use Rattle.bus_model.specs.Bounds.{window_limit, ahead, better, below, blocking, work, fault_load, window_load, busy_window, delay_load, queueing_delay, own_distance, instance_response, response_time, scenario_response, scenarios, every_group, bound_of, approximate_bound, precise_bound}
 use Rattle.bus_model.proofs.Examples.Compute.{everything}
-use Rattle.arith.specs.declared.Found.TheVariants.{At, Nothing}
 use Rattle.bus_model.specs.declared.Frame.{Frame}
 use Rattle.bus_model.specs.declared.Faults.{Faults}
 use Rattle.bus_model.specs.declared.Faults.TheVariants.{Never}
@@ -23,8 +22,8 @@ module _ (b : ℕ) (reach many : ℕ → ℕ) (faults : Faults) (fs : List Frame
   unfoldable pub scenario_by : List Choice → ℕ
   scenario_by cs =
       elim (least (λ l. leb (b + work fs k (ahead fs k) cs l + fault_load faults fs k l) l) window_limit 1) [
-        | At l ↦ greatest (response_by cs) (range 0 (many (releases_before (own_distance k cs) k.period l)))
-        | Nothing ↦ 0
+        | Some l ↦ greatest (response_by cs) (range 0 (many (releases_before (own_distance k cs) k.period l)))
+        | None ↦ 0
       ]
 
   unfoldable pub bound_by : (ℕ → Bool) → ℕ

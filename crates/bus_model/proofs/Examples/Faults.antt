@@ -1,5 +1,5 @@
 -- Bounds under faults (document 02, request 9), and a schedule in which a fault costs as much as the bound says.
-use Rattle.std.specs.Prelude.{ℕ, zero, suc, ◌+◌, ◌≤◌, ◌<◌, ◌≡◌, refl}
+use Rattle.std.specs.Prelude.{ℕ, zero, suc, ◌+◌, ◌≤◌, ◌<◌, ◌≡◌, refl, Some, None}
 use Rattle.std.proofs.Common.{sym, ap, ◌∙◌, arith}
 use mathlib.Core.List.Memᴰ.{head as here}
 use mathlib.Core.List.Memᴰ.{tail as there}
@@ -10,7 +10,6 @@ use Rattle.bus_model.specs.Bus.{Transmission, Waiting, Idle, Next, free_after, s
 use Rattle.bus_model.specs.Bounds.{precise_bound, approximate_bound}
 use Rattle.bus_model.proofs.Examples.Compute.{everything}
 use Rattle.bus_model.proofs.Examples.Errors.{listing}
-use Rattle.arith.specs.declared.Found.TheVariants.{At, Nothing}
 use Rattle.bus_model.specs.declared.Frame.{Frame}
 use Rattle.bus_model.specs.declared.Faults.TheVariants.{Never, Apart}
 
@@ -28,13 +27,13 @@ abbrev zeros : ℕ → ℕ
 zeros j = 0
 
 abbrev first : Transmission
-first = record { frame = 0; instance = 0; start = 0; length = 135; fault = At 134 }
+first = record { frame = 0; instance = 0; start = 0; length = 135; fault = Some 134 }
 
 abbrev again : Transmission
-again = record { frame = 0; instance = 0; start = 166; length = 135; fault = Nothing }
+again = record { frame = 0; instance = 0; start = 166; length = 135; fault = None }
 
 -- A transmission of instance 0 that starts when the bus becomes free goes next.
-goes : (x : Transmission) → x.frame ≡ 0 → x.instance ≡ 0 → x.length ≡ 135 → ((f : ℕ) → x.fault ≡ At f → (x.start ≤ f) × (f < x.start + x.length))
+goes : (x : Transmission) → x.frame ≡ 0 → x.instance ≡ 0 → x.length ≡ 135 → ((f : ℕ) → x.fault ≡ Some f → (x.start ≤ f) × (f < x.start + x.length))
     → Next alone zeros (λ i. 0) x.start x
 unfolding Waiting Idle release
 goes x mine oldest long hit = record {
@@ -52,10 +51,10 @@ goes x mine oldest long hit = record {
     only zero l = omega arith
     only (suc i) l = omega arith
 
-not_at : {f : ℕ} → Nothing ≡ At f → ⊥
+not_at : {f : ℕ} → None ≡ Some f → ⊥
 not_at is = let z : ◌≡◌ {A = ℕ} 0 1 = cc in omega arith
 
-same-tick : {e f : ℕ} → At e ≡ At f → e ≡ f
+same-tick : {e f : ℕ} → Some e ≡ Some f → e ≡ f
 same-tick is = cc
 
 -- The only fault is that of tick 134.
@@ -82,7 +81,7 @@ alone-late meets =
     let f = meets zeros 300 (first ∷ again ∷ []) scheduled 0 (omega arith) in
     omega (arith, f.ended, ends f.sent f.listed f.whole)
   where
-    ends : (x : Transmission) → Mem x (first ∷ again ∷ []) → x.fault ≡ Nothing → 301 ≤ x.start + x.length
+    ends : (x : Transmission) → Mem x (first ∷ again ∷ []) → x.fault ≡ None → 301 ≤ x.start + x.length
     ends x (there (there x10)) whole = elim x10 [ ]
     ends x (here e) whole = absurd (not_at (sym whole ∙ ap (λ (y : Transmission). y.fault) e))
     ends x (there (here e)) whole = rw e (omega arith)

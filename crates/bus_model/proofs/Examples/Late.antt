@@ -1,7 +1,7 @@
 -- Document 01's listing: frame 64 does not meet a claim of 199, for there is a schedule in which it takes 200 ticks.
 -- So `MeetsClaim` is not weaker than it should be here: of no smaller claim could it be proved. And it asks for an instance as
 -- soon as the claim has run out: at 200, of a schedule up to 200.
-use Rattle.std.specs.Prelude.{ℕ, ◌+◌, ◌≤◌, ◌<◌, ◌≡◌, refl, Bool, cond, T, leb}
+use Rattle.std.specs.Prelude.{ℕ, ◌+◌, ◌≤◌, ◌<◌, ◌≡◌, refl, Bool, cond, T, leb, Option, Some, None}
 use Rattle.std.proofs.Common.{ap, arith, le→leb}
 use mathlib.Core.List.Memᴰ.{head as here}
 use mathlib.Core.List.Memᴰ.{tail as there}
@@ -13,8 +13,6 @@ use Rattle.bus_model.specs.Frame.{row}
 use Rattle.bus_model.specs.Release.{release}
 use Rattle.bus_model.specs.Bus.{Transmission, one_more, Waiting, Idle, Next, free_after, sent_after, Runs, Keeps, Schedule, Finished, MeetsClaim}
 use Rattle.bus_model.proofs.Examples.Errors.{listing}
-use Rattle.arith.specs.declared.Found.{Found}
-use Rattle.arith.specs.declared.Found.TheVariants.{At, Nothing}
 use Rattle.bus_model.specs.declared.Faults.TheVariants.{Never}
 
 -- all groups start at tick 0
@@ -24,11 +22,11 @@ zeros j = 0
 -- frames 16 and 64 are released at tick 0, and go one after the other
 abbrev run : List Transmission
 run =
-    record { frame = 0; instance = 0; start = 0; length = 135; fault = Nothing } ∷
-    record { frame = 3; instance = 0; start = 135; length = 65; fault = Nothing } ∷ []
+    record { frame = 0; instance = 0; start = 0; length = 135; fault = None } ∷
+    record { frame = 3; instance = 0; start = 135; length = 65; fault = None } ∷ []
 
 -- No fault cuts a transmission that has none.
-not-cut : {r : Found} {f : ℕ} → r ≡ Nothing → r ≡ At f → ⊥
+not-cut : {r : Option ℕ} {f : ℕ} → r ≡ None → r ≡ Some f → ⊥
 not-cut whole cut = let z : ◌≡◌ {A = ℕ} 0 1 = cc in omega arith
 
 module _ (sent : ℕ → ℕ) (x : Transmission) where
@@ -45,7 +43,7 @@ module _ (sent : ℕ → ℕ) (x : Transmission) where
 
   -- A waiting frame that starts when the bus becomes free goes next, if one computed test finds none better.
   goes : Waiting listing zeros sent x.start x.frame → x.instance ≡ sent x.frame → T (all_below worse 4)
-      → x.fault ≡ Nothing → 1 ≤ x.length → x.length ≤ (row listing x.frame).length → Next listing zeros sent x.start x
+      → x.fault ≡ None → 1 ≤ x.length → x.length ≤ (row listing x.frame).length → Next listing zeros sent x.start x
   unfolding Waiting Idle
   goes waits oldest test whole positive fits = record {
     after = omega arith;
@@ -59,7 +57,7 @@ module _ (sent : ℕ → ℕ) (x : Transmission) where
   }
 
 -- No fault cuts one of its transmissions.
-whole : (x : Transmission) → Mem x run → x.fault ≡ Nothing
+whole : (x : Transmission) → Mem x run → x.fault ≡ None
 whole x (there (there x9)) = elim x9 [ ]
 whole x (here e) = rw e refl
 whole x (there (here e)) = rw e refl

@@ -4,13 +4,13 @@ use Prim.Native.Nat.{ℕ, suc, ◌+◌, ◌-◌, ◌*◌, ◌≤◌, ◌<◌}
 use Rattle.std.proofs.Math.Path.{◌≡◌, refl, sym, ap, fun_ext}
 use Rattle.std.proofs.Common.{◌∙◌, inl, inr, arith, eq-or-lt_of_le, leb→le, ltb→lt, lt→ltb}
 use mathlib.Core.List.{List, [], ◌∷◌, map, Memᴰ as Mem}
-use Rattle.std.specs.Prelude.{Bool, ◌↔◌, ltb}
+use Rattle.std.specs.Prelude.{Bool, ◌↔◌, ltb, Some, None, is_none}
 use Rattle.std.proofs.Math.Bool.{true, false}
 use Rattle.std.proofs.Math.Nat.{mod-mod}
 use Rattle.std.proofs.Math.Dec.{leb, le→leb}
 use Rattle.std.proofs.Math.ListN.{length, length-map, get_or-map}
 use Rattle.arith.specs.Lists.{sum, product, greatest, keep, exists, range, combinations}
-use Rattle.arith.specs.Least.{least, or_zero, is_none}
+use Rattle.arith.specs.Least.{least, or_zero}
 use Rattle.arith.specs.Releases.{releases_before}
 use Rattle.arith.specs.Laws.Tests.{same_test}
 use Rattle.arith.specs.Laws.Members.{mem-get_d, get_d-within}
@@ -23,7 +23,6 @@ use Rattle.bus_model.specs.Pattern.{of_group, hyperperiod}
 use Rattle.bus_model.specs.Bounds.{groups, window_limit, is_ahead, is_better, is_below, ahead, better, below, blocking, fault_time, fault_load, phase, is_released_at, alignments, distance, choice_of, or_empty, choices, scenarios, own_group, demand, work_at, group_work, work, window_load, busy_window, delay_load, queueing_delay, own_distance, instance_response, response_time, scenario_response, bound_of, scenario_count}
 use Rattle.bus_model.specs.Levels.{fixing_order, fixed_at, fixes, level_bound, level_count}
 use Rattle.bus_model.specs.Judgement.{scenario_limit, lacks_window, too_many_scenarios, deepest_level, precise_outcome, crowded_outcome, refined_outcome, windowed_outcome, outcome_of, judge}
-use Rattle.arith.specs.declared.Found.TheVariants.{At, Nothing}
 use Rattle.bus_model.specs.declared.Frame.{Frame}
 use Rattle.bus_model.specs.declared.Faults.{Faults}
 use Rattle.bus_model.specs.declared.Faults.TheVariants.{Never, Apart}
@@ -173,8 +172,8 @@ module _ (r o : Frame → ℕ) (phased : (g : Frame) → phase (recast r o g) �
     unfolding scenario_response response_time instance_response
     response-alike = λ i cs.
         elim (window-alike i cs) as (λ _. ℕ) [
-          | At l ↦ greatest (λ q. or_zero (delay-alike i cs q) + k.length - (own-distance-alike i cs + q * k.period)) (range 0 (releases_before (own-distance-alike i cs) k.period l))
-          | Nothing ↦ 0
+          | Some l ↦ greatest (λ q. or_zero (delay-alike i cs q) + k.length - (own-distance-alike i cs + q * k.period)) (range 0 (releases_before (own-distance-alike i cs) k.period l))
+          | None ↦ 0
         ]
 
     -- ---- the bounds and the judgement

@@ -1,7 +1,7 @@
 -- The busy window of an instance: a tick t1 from which the bus is kept busy until the instance is released, and from which
 -- the work that goes before the instance bounds its start. One induction along a schedule finds it for every instance.
 use Prim.Native.Nat.{ℕ, zero, suc, ◌+◌, ◌-◌, ◌*◌, ◌≤◌, ◌<◌, max}
-use Rattle.std.specs.Prelude.{◌≡◌, refl, ◌≢◌, ◌↔◌, ◌⊎◌, eqb, length}
+use Rattle.std.specs.Prelude.{◌≡◌, refl, ◌≢◌, ◌↔◌, ◌⊎◌, eqb, length, Option, Some, None}
 use Rattle.std.proofs.Math.Logic.{inl, inr}
 use mathlib.Core.List.Memᴰ.{head as here}
 use mathlib.Core.List.Memᴰ.{tail as there}
@@ -16,8 +16,6 @@ use Rattle.arith.specs.Laws.Members.{mem-keep, mem-get_d}
 use Rattle.arith.specs.Laws.Tests.{cond_yes, cond_no}
 use Rattle.arith.specs.Laws.Sums.{le-greatest}
 use Rattle.arith.specs.Laws.Releases.{counted, count-mono}
-use Rattle.arith.specs.declared.Found.{Found}
-use Rattle.arith.specs.declared.Found.TheVariants.{At, Nothing}
 use Rattle.bus_model.specs.Frame.{no_frame, row}
 use Rattle.bus_model.specs.Valid.{Valid, ValidFaults}
 use Rattle.bus_model.specs.Release.{release}
@@ -45,7 +43,7 @@ pub record Started (fs : List Frame) (xs : List Transmission) (k n limit : ℕ) 
   pub listed : Mem sent xs
   pub frame : sent.frame ≡ k
   pub instance : sent.instance ≡ n
-  pub whole : sent.fault ≡ Nothing
+  pub whole : sent.fault ≡ None
   pub start : sent.start ≤ limit
   pub fits : sent.length ≤ (row fs k).length
 
@@ -62,9 +60,9 @@ not_more : {a b : ℕ} → ¬ (b < a) → a ≤ b
 not_more h = omega arith
 
 -- a transmission is whole, or cut
-pub whole-or-cut : (fault : Found) → (fault ≡ Nothing) ⊎ ((e : ℕ) × (fault ≡ At e))
-whole-or-cut Nothing = inl refl
-whole-or-cut (At e) = inr (e, refl)
+pub whole-or-cut : (fault : Option ℕ) → (fault ≡ None) ⊎ ((e : ℕ) × (fault ≡ Some e))
+whole-or-cut None = inl refl
+whole-or-cut (Some e) = inr (e, refl)
 
 -- sending an instance of row i counts at row i alone
 pub one-more : (sent : ℕ → ℕ) (i j : ℕ) → ((i ≢ j) × (one_more sent i j ≡ sent j)) ⊎ ((i ≡ j) × (one_more sent i j ≡ suc (sent j)))
@@ -136,7 +134,7 @@ module _ (faults : Faults) (fs : List Frame) (starts : ℕ → ℕ) (k : ℕ) (a
     faulty : ℕ
     lost : Lost faulty t1 x.start
     loaded : x.start + x.length ≤ t1 + blocking fs f + load t1 (one_more sent x.frame) + faulty * cost
-    cut : (e : ℕ) → t1 ≤ e → x.fault ≡ At e → suc e + signalling ≤ t1 + blocking fs f + load t1 sent + suc faulty * cost
+    cut : (e : ℕ) → t1 ≤ e → x.fault ≡ Some e → suc e + signalling ≤ t1 + blocking fs f + load t1 sent + suc faulty * cost
 
   module _ (valid : Valid fs) (inside : k < length fs) (fine : ValidFaults faults) (keeps : Keeps faults all) where
     -- ---- faults
@@ -377,7 +375,7 @@ module _ (faults : Faults) (fs : List Frame) (starts : ℕ → ℕ) (k : ℕ) (a
 
           -- ---- x is cut in tick e
 
-          module _ {e : ℕ} (is : x.fault ≡ At e) where
+          module _ {e : ℕ} (is : x.fault ≡ Some e) where
             -- all that is sent is released by the start
             sent-due : (u : ℕ) → x.start ≤ u → sent ≼ due u
             sent-due u le = due-mono inv.released (omega (arith, next.after))
@@ -479,7 +477,7 @@ module _ (faults : Faults) (fs : List Frame) (starts : ℕ → ℕ) (k : ℕ) (a
 
       -- the instance is sent
       begun : {x : Transmission} {sent : ℕ → ℕ} {free : ℕ} → Mem x all → Next fs starts sent free x → Begun sent x →
-          x.frame ≡ k → sent k ≡ n → x.fault ≡ Nothing → Window faults fs starts T all k n
+          x.frame ≡ k → sent k ≡ n → x.fault ≡ None → Window faults fs starts T all k n
       unfolding Waiting
       begun {x} listed next at e now whole =
           window at.span (le_of_eq now) (omega (arith, rw (e, now) at next.waiting.1))

@@ -1,6 +1,6 @@
 -- The case that breaks a claim exists just where the precise bound exceeds the claim, hence for verdict 3 and no other that is decided.
 use Prim.Native.Nat.{ℕ, suc, ◌-◌, ◌≤◌, ◌<◌}
-use Rattle.std.specs.Prelude.{◌≡◌, Bool, ◌≢◌, ◌↔◌, ltb, length}
+use Rattle.std.specs.Prelude.{◌≡◌, Bool, ◌≢◌, ◌↔◌, ltb, length, Option, Some, None}
 use Rattle.std.proofs.Math.Path.{refl, sym, ap, ◌∙◌}
 use mathlib.Core.List.Memᴰ
 use mathlib.Core.List.Memᴰ.{head as here}
@@ -12,6 +12,7 @@ use Rattle.std.proofs.Math.Nat.{le_trans}
 use Rattle.std.proofs.Math.Decide.{dec_le}
 use Rattle.std.proofs.Math.Dec.{ltb→lt}
 use Rattle.std.proofs.Common.{lt→ltb}
+use Rattle.std.proofs.lemmas.Option.{none-some, same_Some}
 use Rattle.arith.specs.Lists.{range}
 use Rattle.arith.specs.Least.{least}
 use Rattle.arith.specs.Releases.{releases_before}
@@ -22,12 +23,10 @@ use Rattle.bus_model.specs.Frame.{row}
 use Rattle.bus_model.specs.Valid.{Valid}
 use Rattle.bus_model.specs.Bounds.{scenarios, every_group, busy_window, own_distance, instance_response, response_time, scenario_response, bound_of, precise_bound}
 use Rattle.bus_model.specs.Judgement.{deepest_level, verdict, judge}
-use Rattle.bus_model.specs.Case.{no_case, or_else, shown, exceeding_instance, case_in, first_among, first_case, case_of}
+use Rattle.bus_model.specs.Case.{or_else, shown, exceeding_instance, case_in, first_among, first_case, case_of}
 use Rattle.bus_model.proofs.Theory.Response.{response-at, response-none}
 use Rattle.bus_model.proofs.Theory.Levels.{last_level, deepest-le, level-last, level-refine}
 use Rattle.bus_model.proofs.Theory.Judged.{by-outcome, precise-le-approximate}
-use Rattle.arith.specs.declared.Found.{Found}
-use Rattle.arith.specs.declared.Found.TheVariants.{At, Nothing}
 use Rattle.bus_model.specs.declared.Frame.{Frame}
 use Rattle.bus_model.specs.declared.Faults.{Faults}
 use Rattle.bus_model.specs.declared.Choice.{Choice}
@@ -36,29 +35,29 @@ use Rattle.bus_model.specs.declared.Outcome.TheVariants.{CertifiedApproximate, C
 use Rattle.bus_model.specs.declared.Case.{Case}
 
 -- there is a case
-abbrev pub Exists : Case → Type 0
-Exists c = (q : ℕ) × (c.instance ≡ At q)
-
-pub no-instance : no_case.instance ≡ Nothing
-unfolding no_case
-no-instance = refl
+abbrev pub Exists : Option Case → Type 0
+Exists o = (c : Case) × (o ≡ Some c)
 
 -- ---- the first of two
 
-pub else-first : (c d : Case) → Exists c → or_else c d ≡ c
+pub else-first : (o p : Option Case) → Exists o → or_else o p ≡ o
 unfolding or_else
-else-first c d (q, e) = ap (λ (r : Found). elim r as (λ _. Case) [ At q ↦ c | Nothing ↦ d ]) e
+else-first (Some c) p some = refl
+else-first None p (c, e) = absurd (none-some c e)
 
-pub else-second : (c d : Case) → c.instance ≡ Nothing → or_else c d ≡ d
+pub else-second : (o p : Option Case) → o ≡ None → or_else o p ≡ p
 unfolding or_else
-else-second c d e = ap (λ (r : Found). elim r as (λ _. Case) [ At q ↦ c | Nothing ↦ d ]) e
+else-second o p e = rw e
 
-else-assoc : (c d e : Case) → or_else c (or_else d e) ≡ or_else (or_else c d) e
-else-assoc c d e = go c.instance refl
-  where
-    go : (r : Found) → c.instance ≡ r → or_else c (or_else d e) ≡ or_else (or_else c d) e
-    go (At q) is = else-first c (or_else d e) (q, is) ∙ sym (else-first c e (q, is)) ∙ ap (λ (x : Case). or_else x e) (sym (else-first c d (q, is)))
-    go Nothing is = else-second c (or_else d e) is ∙ ap (λ (x : Case). or_else x e) (sym (else-second c d is))
+pub else-none : (o : Option Case) → or_else o None ≡ o
+unfolding or_else
+else-none (Some c) = refl
+else-none None = refl
+
+else-assoc : (o p q : Option Case) → or_else o (or_else p q) ≡ or_else (or_else o p) q
+unfolding or_else
+else-assoc (Some c) p q = refl
+else-assoc None p q = refl
 
 module _ (faults : Faults) (fs : List Frame) (k : Frame) (claim : ℕ) where
   -- ---- in one scenario
@@ -73,17 +72,17 @@ module _ (faults : Faults) (fs : List Frame) (k : Frame) (claim : ℕ) where
     count l = releases_before (own_distance k cs) k.period l
 
     -- It is found among the instances released in the window.
-    pub exceeding-at : (l : ℕ) → busy_window faults fs k cs ≡ At l → exceeding_instance faults fs k claim cs ≡ least (exceeds cs) (count l) 1
+    pub exceeding-at : (l : ℕ) → busy_window faults fs k cs ≡ Some l → exceeding_instance faults fs k claim cs ≡ least (exceeds cs) (count l) 1
     unfolding exceeding_instance
     exceeding-at l e = rw (e, exceeding_instance)
 
-    exceeding-no-window : busy_window faults fs k cs ≡ Nothing → exceeding_instance faults fs k claim cs ≡ Nothing
+    exceeding-no-window : busy_window faults fs k cs ≡ None → exceeding_instance faults fs k claim cs ≡ None
     unfolding exceeding_instance
     exceeding-no-window e = rw (e, exceeding_instance)
 
     -- An instance whose response exceeds the claim, while none before it does, is the one.
-    pub exceeding-is : (l : ℕ) → busy_window faults fs k cs ≡ At l → (q : ℕ) → q < releases_before (own_distance k cs) k.period l
-        → claim < instance_response faults fs k cs q → ((i : ℕ) → i < q → instance_response faults fs k cs i ≤ claim) → exceeding_instance faults fs k claim cs ≡ At (suc q)
+    pub exceeding-is : (l : ℕ) → busy_window faults fs k cs ≡ Some l → (q : ℕ) → q < releases_before (own_distance k cs) k.period l
+        → claim < instance_response faults fs k cs q → ((i : ℕ) → i < q → instance_response faults fs k cs i ≤ claim) → exceeding_instance faults fs k claim cs ≡ Some (suc q)
     exceeding-is l window q inside more before =
         let same : suc q - 1 ≡ q = omega arith in
         let (n, found, le) = least-finds (exceeds cs) (count l) 1 (suc q) (omega arith) (omega arith) (lt→ltb claim (instance_response faults fs k cs (suc q - 1)) (rw same more)) in
@@ -94,31 +93,31 @@ module _ (faults : Faults) (fs : List Frame) (k : Frame) (claim : ℕ) where
         exceeding-at l window ∙ (rw is at found)
 
     -- There is none where the scenario's response does not exceed the claim,
-    pub exceeding-none : scenario_response faults fs k cs ≤ claim → exceeding_instance faults fs k claim cs ≡ Nothing
+    pub exceeding-none : scenario_response faults fs k cs ≤ claim → exceeding_instance faults fs k claim cs ≡ None
     unfolding response_time
     exceeding-none within = go (busy_window faults fs k cs) refl
       where
-        go : (r : Found) → busy_window faults fs k cs ≡ r → exceeding_instance faults fs k claim cs ≡ Nothing
-        go (At l) e =
+        go : (r : Option ℕ) → busy_window faults fs k cs ≡ r → exceeding_instance faults fs k claim cs ≡ None
+        go (Some l) e =
             exceeding-at l e ∙ least-none (exceeds cs) (count l) 1 (λ q low high t.
             omega (arith, ltb→lt claim _ t, response-at faults fs k cs l e, le-greatest (instance_response faults fs k cs) (mem-range 0 (count l) (q - 1) (omega arith) (omega arith))))
-        go Nothing e = exceeding-no-window e
+        go None e = exceeding-no-window e
 
     -- and there is one where it does.
-    pub exceeding-some : claim < scenario_response faults fs k cs → (q : ℕ) × (exceeding_instance faults fs k claim cs ≡ At q)
+    pub exceeding-some : claim < scenario_response faults fs k cs → (q : ℕ) × (exceeding_instance faults fs k claim cs ≡ Some q)
     unfolding response_time
     exceeding-some over = go (busy_window faults fs k cs) refl
       where
-        go : (r : Found) → busy_window faults fs k cs ≡ r → (q : ℕ) × (exceeding_instance faults fs k claim cs ≡ At q)
-        go (At l) e =
+        go : (r : Option ℕ) → busy_window faults fs k cs ≡ r → (q : ℕ) × (exceeding_instance faults fs k claim cs ≡ Some q)
+        go (Some l) e =
             let (i, m, more) = greatest-exceeds (instance_response faults fs k cs) claim (range 0 (count l)) (rw (response-at faults fs k cs l e) at over) in
             let (low, high) = of_range 0 (count l) m in
             let same : suc i - 1 ≡ i = omega arith in
             let (q, found, le) = least-finds (exceeds cs) (count l) 1 (suc i) (omega arith) (omega arith) (lt→ltb claim (instance_response faults fs k cs (suc i - 1)) (rw same more)) in
-            (q, ◌∙◌ {c = At q} (exceeding-at l e) found)
-        go Nothing e = absurd (omega (arith, response-none faults fs k cs e))
+            (q, ◌∙◌ {c = Some q} (exceeding-at l e) found)
+        go None e = absurd (omega (arith, response-none faults fs k cs e))
 
-    not-exceeding : exceeding_instance faults fs k claim cs ≡ Nothing → scenario_response faults fs k cs ≤ claim
+    not-exceeding : exceeding_instance faults fs k claim cs ≡ None → scenario_response faults fs k cs ≤ claim
     not-exceeding none =
         elim (dec_le (scenario_response faults fs k cs) claim) [
           | yes within ↦ within
@@ -126,37 +125,28 @@ module _ (faults : Faults) (fs : List Frame) (k : Frame) (claim : ℕ) where
         ]
 
     -- So is the case.
-    pub in-at : (q : ℕ) → exceeding_instance faults fs k claim cs ≡ At q → case_in faults fs k claim cs ≡ record { instance = At q; alignments = map shown cs }
+    pub in-at : (q : ℕ) → exceeding_instance faults fs k claim cs ≡ Some q → case_in faults fs k claim cs ≡ Some (record { instance = q; alignments = map shown cs })
     unfolding case_in
-    in-at q e = rw (e, case_in)
+    in-at q e = rw e
 
-    pub in-none : exceeding_instance faults fs k claim cs ≡ Nothing → case_in faults fs k claim cs ≡ no_case
+    pub in-none : exceeding_instance faults fs k claim cs ≡ None → case_in faults fs k claim cs ≡ None
     unfolding case_in
-    in-none e = rw (e, case_in)
-
-    -- Without an instance it is none.
-    pub no-case-in : (case_in faults fs k claim cs).instance ≡ Nothing → case_in faults fs k claim cs ≡ no_case
-    no-case-in none = go (exceeding_instance faults fs k claim cs) refl
-      where
-        go : (r : Found) → exceeding_instance faults fs k claim cs ≡ r → case_in faults fs k claim cs ≡ no_case
-        go (At q) e = absurd (none-at (sym none ∙ ap (λ (c : Case). c.instance) (in-at q e)))
-        go Nothing e = in-none e
+    in-none e = rw e
 
   -- ---- among scenarios
 
   -- The first of two lists' is that of the one, or else of the other.
   pub among-append : (xs ys : List (List Choice)) → first_among faults fs k claim (xs ++ ys) ≡ or_else (first_among faults fs k claim xs) (first_among faults fs k claim ys)
   unfolding first_among
-  among-append [] ys = sym (else-second no_case (first_among faults fs k claim ys) no-instance)
+  among-append [] ys = sym (else-second None (first_among faults fs k claim ys) refl)
   among-append (cs ∷ xs) ys = ap (or_else (case_in faults fs k claim cs)) (among-append xs ys) ∙ else-assoc (case_in faults fs k claim cs) (first_among faults fs k claim xs) (first_among faults fs k claim ys)
 
   -- There is none where no response exceeds the claim,
-  pub among_none : (xs : List (List Choice)) → ((cs : List Choice) → Mem cs xs → scenario_response faults fs k cs ≤ claim) → first_among faults fs k claim xs ≡ no_case
+  pub among_none : (xs : List (List Choice)) → ((cs : List Choice) → Mem cs xs → scenario_response faults fs k cs ≤ claim) → first_among faults fs k claim xs ≡ None
   unfolding first_among
   among_none [] within = refl
   among_none (cs ∷ xs) within =
-      let none = in-none cs (exceeding-none cs (within cs (here refl))) in
-      else-second (case_in faults fs k claim cs) (first_among faults fs k claim xs) (ap (λ (c : Case). c.instance) none ∙ no-instance)
+      else-second (case_in faults fs k claim cs) (first_among faults fs k claim xs) (in-none cs (exceeding-none cs (within cs (here refl))))
       ∙ among_none xs (λ cs' m. within cs' (there m))
 
   -- and one where one does.
@@ -168,47 +158,43 @@ module _ (faults : Faults) (fs : List Frame) (k : Frame) (claim : ℕ) where
         | yes within ↦
             let none = in-none ds (exceeding-none ds within) in
             let rest : Exists (first_among faults fs k claim xs) = elim (Memᴰ.cases_cons m) [ inl e ↦ absurd (omega (arith, ap (scenario_response faults fs k) e)) | inr n ↦ among-some n over ] in
-            rw (else-second (case_in faults fs k claim ds) (first_among faults fs k claim xs) (ap (λ (c : Case). c.instance) none ∙ no-instance)) rest
+            rw (else-second (case_in faults fs k claim ds) (first_among faults fs k claim xs) none) rest
         | no more ↦
             let (q, e) = exceeding-some ds (omega arith) in
-            let some : Exists (case_in faults fs k claim ds) = (q, ap (λ (c : Case). c.instance) (in-at ds q e)) in
+            let some : Exists (case_in faults fs k claim ds) = (_, in-at ds q e) in
             rw (else-first (case_in faults fs k claim ds) (first_among faults fs k claim xs) some) some
       ]
 
   -- What is shown stands in a scenario, and none before it exceeds the claim.
-  pub record Shown (xs : List (List Choice)) (c : Case) (q : ℕ) : Type 0 where
+  pub record Shown (xs : List (List Choice)) (c : Case) : Type 0 where
     pub before : List (List Choice)
     pub scenario : List Choice
     pub after : List (List Choice)
     pub listed : xs ≡ before ++ scenario ∷ after
     pub within : (cs : List Choice) → Mem cs before → scenario_response faults fs k cs ≤ claim
-    pub least : exceeding_instance faults fs k claim scenario ≡ At q
+    pub least : exceeding_instance faults fs k claim scenario ≡ Some c.instance
     pub alignments : c.alignments ≡ map shown scenario
 
-  pub among-shown : (xs : List (List Choice)) (q : ℕ) → (first_among faults fs k claim xs).instance ≡ At q → Shown xs (first_among faults fs k claim xs) q
+  pub among-shown : (xs : List (List Choice)) (c : Case) → first_among faults fs k claim xs ≡ Some c → Shown xs c
   unfolding first_among
-  among-shown [] q e = absurd (none-at (sym no-instance ∙ e))
-  among-shown (cs ∷ xs) q e = go (exceeding_instance faults fs k claim cs) refl (among-shown xs q)
+  among-shown [] c e = absurd (none-some c e)
+  among-shown (cs ∷ xs) c e = go (exceeding_instance faults fs k claim cs) refl (among-shown xs c)
     where
-      go : (r : Found) → exceeding_instance faults fs k claim cs ≡ r → ((first_among faults fs k claim xs).instance ≡ At q → Shown xs (first_among faults fs k claim xs) q)
-          → Shown (cs ∷ xs) (or_else (case_in faults fs k claim cs) (first_among faults fs k claim xs)) q
-      go (At p) is later =
+      go : (r : Option ℕ) → exceeding_instance faults fs k claim cs ≡ r → (first_among faults fs k claim xs ≡ Some c → Shown xs c) → Shown (cs ∷ xs) c
+      go (Some p) is later =
           let now = in-at cs p is in
-          let first = else-first (case_in faults fs k claim cs) (first_among faults fs k claim xs) (p, ap (λ (c : Case). c.instance) now) ∙ now in
-          let same : At p ≡ At q = sym (ap (λ (c : Case). c.instance) first) ∙ e in
+          let same = same_Some _ _ (sym now ∙ sym (else-first (case_in faults fs k claim cs) (first_among faults fs k claim xs) (_, now)) ∙ e) in
           record {
             before = [];
             scenario = cs;
             after = xs;
             listed = refl;
             within = λ ds m. absurd (Memᴰ.not-nil m);
-            least = is ∙ same;
-            alignments = ap (λ (c : Case). c.alignments) first;
+            least = is ∙ ap (λ (x : Case). Some x.instance) same;
+            alignments = sym (ap (λ (x : Case). x.alignments) same);
           }
-      go Nothing is later =
-          let none = in-none cs is in
-          let second = else-second (case_in faults fs k claim cs) (first_among faults fs k claim xs) (ap (λ (c : Case). c.instance) none ∙ no-instance) in
-          let s = later (sym (ap (λ (c : Case). c.instance) second) ∙ e) in
+      go None is later =
+          let s = later (sym (else-second (case_in faults fs k claim cs) (first_among faults fs k claim xs) (in-none cs is)) ∙ e) in
           record {
             before = cs ∷ s.before;
             scenario = s.scenario;
@@ -216,7 +202,7 @@ module _ (faults : Faults) (fs : List Frame) (k : Frame) (claim : ℕ) where
             listed = ap (λ (ys : List (List Choice)). cs ∷ ys) s.listed;
             within = λ ds m. elim (Memᴰ.cases_cons m) [ inl same ↦ rw same (not-exceeding cs is) | inr n ↦ s.within ds n ];
             least = s.least;
-            alignments = ap (λ (c : Case). c.alignments) second ∙ s.alignments;
+            alignments = s.alignments;
           }
 
   -- ---- the first case
@@ -228,7 +214,7 @@ module _ (faults : Faults) (fs : List Frame) (k : Frame) (claim : ℕ) where
     λ some. elim (dec_le (precise_bound faults fs k) claim) [
       | yes within ↦
           let none = among_none (scenarios fs k every_group) (λ cs m. le_trans (le-greatest (scenario_response faults fs k) m) within) in
-          absurd (none-at (sym no-instance ∙ sym (ap (λ (c : Case). c.instance) none) ∙ some.1))
+          absurd (none-some _ (sym none ∙ some.1))
       | no over ↦ omega arith
     ],
     λ over. let (cs, m, more) = greatest-exceeds (scenario_response faults fs k) claim (scenarios fs k every_group) over in among-some m more,
@@ -265,7 +251,7 @@ case-of-small faults fs k claim (CertifiedLevel b) e = absurd (omega arith)
 case-of-small faults fs k claim (Undecided b) e = absurd (omega arith)
 case-of-small faults fs k claim NoWindow e = absurd (omega arith)
 
-pub case-of-other : (faults : Faults) (fs : List Frame) (k : Frame) (claim : ℕ) (o : Outcome) → verdict o ≢ 3 → case_of faults fs k claim o ≡ no_case
+pub case-of-other : (faults : Faults) (fs : List Frame) (k : Frame) (claim : ℕ) (o : Outcome) → verdict o ≢ 3 → case_of faults fs k claim o ≡ None
 unfolding case_of
 case-of-other faults fs k claim (CertifiedApproximate b) other = refl
 case-of-other faults fs k claim (CertifiedPrecise b) other = refl

@@ -1,7 +1,7 @@
 -- The bus rule can be followed: whatever the starts, the lengths, T and the ticks in which faults would begin, there is a schedule.
 -- So what is proved of all schedules speaks of some, among them those in which every transmission has its largest length.
 use Prim.Native.Nat.{ℕ, zero, suc, ◌+◌, ◌≤◌, ◌<◌, max}
-use Rattle.std.specs.Prelude.{◌≡◌, refl, ◌⊎◌, Bool, false, T, leb}
+use Rattle.std.specs.Prelude.{◌≡◌, refl, ◌⊎◌, Bool, false, T, leb, Option, Some, None}
 use mathlib.Core.List.Memᴰ
 use mathlib.Core.List.Memᴰ.{head as here}
 use mathlib.Core.List.Memᴰ.{tail as there}
@@ -15,8 +15,6 @@ use Rattle.std.proofs.Math.ListN.{length}
 use Rattle.arith.specs.Lists.{keep, range}
 use Rattle.arith.specs.Least.{least}
 use Rattle.arith.specs.Laws.Least.{least_at}
-use Rattle.arith.specs.declared.Found.{Found}
-use Rattle.arith.specs.declared.Found.TheVariants.{At, Nothing}
 use Rattle.arith.specs.Laws.Members.{Lowest, lowest, mem-keep, of-keep, mem-range, of_range}
 use Rattle.bus_model.specs.Frame.{row}
 use Rattle.bus_model.specs.Valid.{Valid}
@@ -58,22 +56,22 @@ spaced-keeps faults hits {xs} spaced has = go faults spaced
     go (Apart g) apart = λ e f first second. apart e f (hit e first) (hit f second)
 
 -- Without faults no transmission is cut.
-pub never-cut : {xs : List Transmission} → Keeps Never xs → (x : Transmission) → Mem x xs → x.fault ≡ Nothing
+pub never-cut : {xs : List Transmission} → Keeps Never xs → (x : Transmission) → Mem x xs → x.fault ≡ None
 unfolding Keeps
 never-cut keeps x m = go x.fault refl
   where
-    go : (r : Found) → x.fault ≡ r → r ≡ Nothing
-    go Nothing is = refl
-    go (At f) is = absurd (keeps f (x, m, is))
+    go : (r : Option ℕ) → x.fault ≡ r → r ≡ None
+    go None is = refl
+    go (Some f) is = absurd (keeps f (x, m, is))
 
 -- The bus becomes free after a transmission starts.
 free-later : {fs : List Frame} {starts sent : ℕ → ℕ} {free : ℕ} {x : Transmission} → Next fs starts sent free x → x.start < free_after x
 unfolding free_after
 free-later {x = x} next = go x.fault next.hit
   where
-    go : (r : Found) → ((f : ℕ) → r ≡ At f → (x.start ≤ f) × (f < x.start + x.length)) → x.start < elim r as (λ _. ℕ) [ Nothing ↦ x.start + x.length | At f ↦ suc f + signalling ]
-    go Nothing hit = omega (arith, next.positive)
-    go (At f) hit = omega (arith, (hit f refl).0)
+    go : (r : Option ℕ) → ((f : ℕ) → r ≡ Some f → (x.start ≤ f) × (f < x.start + x.length)) → x.start < elim r as (λ _. ℕ) [ None ↦ x.start + x.length | Some f ↦ suc f + signalling ]
+    go None hit = omega (arith, next.positive)
+    go (Some f) hit = omega (arith, (hit f refl).0)
 
 module _
     (fs : List Frame) (starts : ℕ → ℕ) (T : ℕ) (len : ℕ → ℕ → ℕ) (hits : ℕ → Bool)

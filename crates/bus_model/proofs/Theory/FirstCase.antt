@@ -1,7 +1,7 @@
 -- How code finds the first case that breaks a claim: group by group, rising, the first alignment with which some scenario exceeds the
 -- claim. That is told by the greatest response with these alignments, which a search of the open groups finds.
 use Prim.Native.Nat.{ℕ, suc, ◌+◌, ◌-◌, ◌%◌, ◌≤◌, ◌<◌}
-use Rattle.std.specs.Prelude.{◌≡◌, ◌⊎◌, set, take}
+use Rattle.std.specs.Prelude.{◌≡◌, ◌⊎◌, set, take, Option, Some, None}
 use Rattle.std.proofs.Math.Path.{refl, sym, ap}
 use Rattle.std.proofs.Common.{subst, ◌∙◌, arith, add-one, zero-add, length-set, take_all}
 use mathlib.Core.List.Memᴰ
@@ -12,10 +12,10 @@ use Rattle.std.proofs.Math.Logic.{inl, inr}
 use Rattle.std.proofs.Math.Nat.{le_trans}
 use Rattle.std.proofs.Math.Decide.{ℕ_discrete, dec_le}
 use Rattle.std.proofs.Math.ListN.{length}
+use Rattle.std.proofs.lemmas.Option.{none-some}
 use Rattle.arith.specs.Lists.{greatest, keep, range, combinations}
 use Rattle.arith.specs.Laws.Members.{mem-keep, of-take, keep_same, keep_append, keep-le, range-append, of_range, mem-range, map_same}
 use Rattle.arith.specs.Least.{least, or_zero}
-use Rattle.arith.specs.Laws.Least.{none-at}
 use Rattle.arith.specs.Laws.Walks.{Walk, walk_more, keep-end}
 use Rattle.arith.specs.Laws.Sums.{le-greatest, greatest-exceeds}
 use Rattle.arith.specs.Laws.Combinations.{flat_map-append, combinations-one, combinations-split}
@@ -24,11 +24,11 @@ use Rattle.bus_model.specs.Valid.{ValidFrame, Valid}
 use Rattle.bus_model.specs.Pattern.{of_group, hyperperiod}
 use Rattle.bus_model.specs.Bounds.{groups, alignments, or_empty, choice_of, choices, scenarios, every_group, scenario_response}
 use Rattle.bus_model.specs.Levels.{fixing_order}
-use Rattle.bus_model.specs.Case.{no_case, or_else, case_in, first_among, first_case}
+use Rattle.bus_model.specs.Case.{or_else, case_in, first_among, first_case}
 use Rattle.bus_model.specs.Theory.Scenarios.{scenarios_of}
 use Rattle.bus_model.proofs.Theory.Scenarios.{scenario-is}
 use Rattle.bus_model.proofs.Theory.Order.{order-group, order-all, order-length}
-use Rattle.bus_model.proofs.Theory.Cases.{Exists, no-instance, no-case-in, else-first, else-second, among-append, among_none, among-some}
+use Rattle.bus_model.proofs.Theory.Cases.{Exists, else-first, else-second, else-none, among-append, among_none, among-some}
 use Rattle.bus_model.specs.Theory.Refine.{refined, free}
 use Rattle.bus_model.proofs.Theory.Refine.{set_same, set_other, refined-choices}
 use Rattle.bus_model.specs.Theory.Visits.{is_alignment}
@@ -36,8 +36,6 @@ use Rattle.bus_model.specs.Theory.Turns.{turn}
 use Rattle.bus_model.proofs.Theory.Turns.{visit-first, found-listed, first-listed, first_turn, turn-le, first-alignment, turned-alignment, alike-turn, refined-alike}
 use Rattle.bus_model.specs.Theory.OpenGroups.{is_open, open_groups, fixing_more}
 use Rattle.bus_model.proofs.Theory.OpenGroups.{open-set, open-groups, free_open}
-use Rattle.arith.specs.declared.Found.{Found}
-use Rattle.arith.specs.declared.Found.TheVariants.{At, Nothing}
 use Rattle.bus_model.specs.declared.Frame.{Frame}
 use Rattle.bus_model.specs.declared.Faults.{Faults}
 use Rattle.bus_model.specs.declared.Choice.{Choice}
@@ -117,7 +115,7 @@ module _ (fs : List Frame) (k : Frame) (cs : List Choice) where
 -- ---- the first case with the alignments that are fixed
 
 -- among the scenarios with group j at one of these alignments
-unfoldable pub first_with : Faults → List Frame → Frame → ℕ → List Choice → ℕ → List ℕ → Case
+unfoldable pub first_with : Faults → List Frame → Frame → ℕ → List Choice → ℕ → List ℕ → Option Case
 first_with faults fs k claim cs j als = first_among faults fs k claim (flat_map (λ a. completions fs k (set cs (j - 1) (Fixed a))) als)
 
 module _ (faults : Faults) (fs : List Frame) (k : Frame) (claim : ℕ) where
@@ -130,11 +128,7 @@ module _ (faults : Faults) (fs : List Frame) (k : Frame) (claim : ℕ) where
     -- At the end it is the scenario's.
     pub case-last : Prefix 17 cs → first_among faults fs k claim (completions fs k cs) ≡ case_in faults fs k claim cs
     unfolding first_among
-    case-last p = rw (completions-last fs k cs p) (go (case_in faults fs k claim cs).instance refl)
-      where
-        go : (r : Found) → (case_in faults fs k claim cs).instance ≡ r → or_else (case_in faults fs k claim cs) no_case ≡ case_in faults fs k claim cs
-        go (At q) e = else-first (case_in faults fs k claim cs) no_case (q, e)
-        go Nothing e = else-second (case_in faults fs k claim cs) no_case e ∙ sym (no-case-in faults fs k claim cs e)
+    case-last p = rw (completions-last fs k cs p) (else-none (case_in faults fs k claim cs))
 
     module _ (valid : ValidFrame k) (long : length cs ≡ groups) (j : ℕ) where
       -- the scenario with the group at alignment a
@@ -145,7 +139,7 @@ module _ (faults : Faults) (fs : List Frame) (k : Frame) (claim : ℕ) where
       at_most a = completions-most fs k faults valid (put a) (length-set cs (j - 1) (Fixed a) ∙ long)
 
       -- No scenario with an alignment exceeds the claim: there is none with it.
-      none-with : (a : ℕ) → fixing_more faults fs k groups (put a) ≤ claim → first_among faults fs k claim (completions fs k (put a)) ≡ no_case
+      none-with : (a : ℕ) → fixing_more faults fs k groups (put a) ≤ claim → first_among faults fs k claim (completions fs k (put a)) ≡ None
       none-with a within = among_none faults fs k claim (completions fs k (put a)) (λ ds m. le_trans (le-greatest (scenario_response faults fs k) m) (rw (at_most a) at within))
 
       -- One does: there is one.
@@ -161,7 +155,7 @@ module _ (faults : Faults) (fs : List Frame) (k : Frame) (claim : ℕ) where
       -- An alignment with which none exceeds is passed over;
       pub with-skip : (a : ℕ) (als : List ℕ) → fixing_more faults fs k groups (put a) ≤ claim → first_with faults fs k claim cs j (a ∷ als) ≡ first_with faults fs k claim cs j als
       with-skip a als within =
-          with-cons a als ∙ else-second (first_among faults fs k claim (completions fs k (put a))) (first_with faults fs k claim cs j als) (ap (λ (c : Case). c.instance) (none-with a within) ∙ no-instance)
+          with-cons a als ∙ else-second (first_among faults fs k claim (completions fs k (put a))) (first_with faults fs k claim cs j als) (none-with a within)
 
       -- the first with which one does is taken.
       pub with-take : (a : ℕ) (als : List ℕ) → claim < fixing_more faults fs k groups (put a) → first_with faults fs k claim cs j (a ∷ als) ≡ first_among faults fs k claim (completions fs k (put a))
@@ -173,24 +167,24 @@ module _ (faults : Faults) (fs : List Frame) (k : Frame) (claim : ℕ) where
       with-last a = ap (first_among faults fs k claim) (append-nil (completions fs k (put a)))
 
       -- Where none exceeds with any of them, there is none,
-      with-within : (als : List ℕ) → ((a : ℕ) → Mem a als → fixing_more faults fs k groups (put a) ≤ claim) → first_with faults fs k claim cs j als ≡ no_case
+      with-within : (als : List ℕ) → ((a : ℕ) → Mem a als → fixing_more faults fs k groups (put a) ≤ claim) → first_with faults fs k claim cs j als ≡ None
       unfolding first_with flat_map first_among
       with-within [] within = refl
       with-within (a ∷ als) within = with-skip a als (within a (here refl)) ∙ with-within als (λ b m. within b (there m))
 
       -- and where there is none, none exceeds.
-      within_of : (als : List ℕ) → (first_with faults fs k claim cs j als).instance ≡ Nothing → (a : ℕ) → Mem a als → fixing_more faults fs k groups (put a) ≤ claim
+      within_of : (als : List ℕ) → first_with faults fs k claim cs j als ≡ None → (a : ℕ) → Mem a als → fixing_more faults fs k groups (put a) ≤ claim
       within_of [] none a m = absurd (Memᴰ.not-nil m)
       within_of (b ∷ als) none a m =
           elim (dec_le (fixing_more faults fs k groups (put b)) claim) [
             | yes within ↦ elim (Memᴰ.cases_cons m) [
               | inl e ↦ rw e within
-              | inr n ↦ within_of als (sym (ap (λ (c : Case). c.instance) (with-skip b als within)) ∙ none) a n
+              | inr n ↦ within_of als (sym (with-skip b als within) ∙ none) a n
             ]
             | no over ↦
                 let exceeds : claim < fixing_more faults fs k groups (put b) = omega arith in
-                let (q, e) = some_with b exceeds in
-                absurd (none-at (sym none ∙ ap (λ (c : Case). c.instance) (with-take b als exceeds) ∙ e))
+                let (c, e) = some_with b exceeds in
+                absurd (none-some c (sym none ∙ with-take b als exceeds ∙ e))
           ]
 
       with_append : (als bls : List ℕ) → first_with faults fs k claim cs j (als ++ bls) ≡ or_else (first_with faults fs k claim cs j als) (first_with faults fs k claim cs j bls)
@@ -202,11 +196,11 @@ module _ (faults : Faults) (fs : List Frame) (k : Frame) (claim : ℕ) where
       -- More alignments add nothing, if none of them exceeds unless one before does.
       with-more : (als bls : List ℕ) → (((a : ℕ) → Mem a als → fixing_more faults fs k groups (put a) ≤ claim) → (a : ℕ) → Mem a bls → fixing_more faults fs k groups (put a) ≤ claim)
           → first_with faults fs k claim cs j als ≡ first_with faults fs k claim cs j (als ++ bls)
-      with-more als bls follows = go (first_with faults fs k claim cs j als).instance refl
+      with-more als bls follows = go (first_with faults fs k claim cs j als) refl
         where
-          go : (r : Found) → (first_with faults fs k claim cs j als).instance ≡ r → first_with faults fs k claim cs j als ≡ first_with faults fs k claim cs j (als ++ bls)
-          go (At q) e = sym (with_append als bls ∙ else-first (first_with faults fs k claim cs j als) (first_with faults fs k claim cs j bls) (q, e))
-          go Nothing e =
+          go : (o : Option Case) → first_with faults fs k claim cs j als ≡ o → first_with faults fs k claim cs j als ≡ first_with faults fs k claim cs j (als ++ bls)
+          go (Some c) e = sym (with_append als bls ∙ else-first (first_with faults fs k claim cs j als) (first_with faults fs k claim cs j bls) (c, e))
+          go None e =
               let within = within_of als e in
               with-within als within ∙ sym (with_append als bls ∙ else-second (first_with faults fs k claim cs j als) (first_with faults fs k claim cs j bls) e ∙ with-within bls (follows within))
 
@@ -280,7 +274,7 @@ module _ (faults : Faults) {fs : List Frame} (valid : Valid fs) {k : ℕ} (insid
     pub listed : Mem a (or_empty (alignments fs h j))
 
   -- It starts at the first.
-  pub try-first : {j : ℕ} → Prefix j cs → Mem j (range 1 groups) → (first : Found) → first ≡ least (is_alignment fs h j) (turn fs h j - 0) 0 → Trying j (or_zero first)
+  pub try-first : {j : ℕ} → Prefix j cs → Mem j (range 1 groups) → (first : Option ℕ) → first ≡ least (is_alignment fs h j) (turn fs h j - 0) 0 → Trying j (or_zero first)
   try-first {j} p listed first is =
       record {
         walk = visit-first (first_with faults fs h claim cs j) (λ n c. c) (first_among faults fs h claim (completions fs h cs)) valid h j {done = 0} first is
@@ -294,15 +288,15 @@ module _ (faults : Faults) {fs : List Frame} (valid : Valid fs) {k : ℕ} (insid
     try-take over = sym try.walk.is ∙ with-take faults fs h claim cs (valid.frame k inside) long j a _ over
 
     -- or at the last;
-    pub try-last : least (is_alignment fs h j) (turn fs h j - (a + 1)) (a + 1) ≡ Nothing
+    pub try-last : least (is_alignment fs h j) (turn fs h j - (a + 1)) (a + 1) ≡ None
         → first_among faults fs h claim (completions fs h cs) ≡ first_among faults fs h claim (completions fs h (set cs (j - 1) (Fixed a)))
     try-last none =
-        let over : least (is_alignment fs h j) (turn fs h j - suc a) (suc a) ≡ Nothing = rw add-one at none in
+        let over : least (is_alignment fs h j) (turn fs h j - suc a) (suc a) ≡ None = rw add-one at none in
         sym try.walk.is ∙ ap (λ (als : List ℕ). first_with faults fs h claim cs j (a ∷ als)) (keep-end (is_alignment fs h j) (turn fs h j) (suc a) over)
         ∙ with-last faults fs h claim cs (valid.frame k inside) long j a
 
     -- otherwise it goes on to the next.
-    pub try-next : fixing_more faults fs h groups (set cs (j - 1) (Fixed a)) ≤ claim → {b : ℕ} → least (is_alignment fs h j) (turn fs h j - (a + 1)) (a + 1) ≡ At b → Trying j b
+    pub try-next : fixing_more faults fs h groups (set cs (j - 1) (Fixed a)) ≤ claim → {b : ℕ} → least (is_alignment fs h j) (turn fs h j - (a + 1)) (a + 1) ≡ Some b → Trying j b
     try-next within found =
         record {
           walk = walk_more (first_with faults fs h claim cs j) (λ n c. c) (is_alignment fs h j) (turn fs h j) (first_among faults fs h claim (completions fs h cs)) {next = 0} try.walk

@@ -1,11 +1,11 @@
 -- The tests with which code finds the frame that ranks last, and whether the table's offsets are below their periods.
-use Rattle.std.specs.Prelude.{ℕ, ◌-◌, ◌≤◌, ◌<◌, ◌≡◌, true, false, List, length}
+use Rattle.std.specs.Prelude.{ℕ, ◌-◌, ◌≤◌, ◌<◌, ◌≡◌, true, false, List, length, is_none}
 use Rattle.std.proofs.Common.{sym, ap, ◌∙◌, le_antisymm, le→leb}
 use native.Mathlib.Omega.{arith}
 use Rattle.std.proofs.Math.Decide.{dec_lt}
 use Rattle.std.proofs.Math.Dec.{leb, leb→le}
 use Rattle.arith.specs.Lists.{greatest}
-use Rattle.arith.specs.Least.{least, or_zero, is_none}
+use Rattle.arith.specs.Least.{least, or_zero}
 use Rattle.arith.specs.Laws.Members.{mem-get_d, place_of}
 use Rattle.arith.specs.Laws.Sums.{le-greatest, greatest-exceeds}
 use Rattle.arith.specs.Laws.Least.{least_at, least-finds, least-none, none-at, is-none}
@@ -33,7 +33,7 @@ module _ (fs : List Frame) where
 
   -- and the first that has it ranks last.
   pub last-row : 0 < length fs → (last_row fs < length fs) × RanksLast fs (last_row fs)
-  unfolding last_row or_zero
+  unfolding last_row
   last-row some =
       let (i, inside, reaches) = has-most some in
       let (l, e, le) = least-finds (λ j. leb most (row fs j).priority) (length fs) 0 i (omega arith) (omega arith) (le→leb most _ reaches) in
@@ -57,11 +57,11 @@ module _ (fs : List Frame) where
       omega arith
 
   pub all-early : Early fs → all_early fs ≡ true
-  unfolding all_early is_none
+  unfolding all_early
   all-early early =
       rw (least-none (λ j. leb (row fs j).period (row fs j).offset) (length fs) 0 (λ i low inside t. omega (arith, early i (omega arith), leb→le (row fs i).period (row fs i).offset t)))
 
   pub one-late : (i : ℕ) → i < length fs → (row fs i).period ≤ (row fs i).offset → all_early fs ≡ false
-  unfolding all_early is_none
+  unfolding all_early
   one-late i inside late =
       rw (least-finds (λ j. leb (row fs j).period (row fs j).offset) (length fs) 0 i (omega arith) (omega arith) (le→leb _ _ late)).1

@@ -2,7 +2,7 @@
 -- Two readings that agree on the frames of a table give the same. So where no frame begins late, the answers are those of document 01,
 -- whose bounds read the offset itself.
 use Prim.Native.Nat.{ℕ, suc, ◌+◌, ◌-◌, ◌*◌, ◌%◌, ◌<◌}
-use Rattle.std.specs.Prelude.{◌≡◌, Bool, cond, ◌&&◌, ◌||◌, ◌↔◌, ltb, eqb}
+use Rattle.std.specs.Prelude.{◌≡◌, Bool, cond, ◌&&◌, ◌||◌, ◌↔◌, ltb, eqb, Option, Some, None, is_none}
 use Rattle.std.proofs.Math.Path.{refl, ap, fun_ext}
 use Rattle.std.proofs.Common.{sym, ap₂, ◌∙◌}
 use mathlib.Core.List.Memᴰ.{head as here}
@@ -13,7 +13,7 @@ use Rattle.std.proofs.Math.Dec.{leb}
 use Rattle.std.proofs.Math.ListN.{length}
 use Rattle.std.proofs.lemmas.List.{length-map}
 use Rattle.arith.specs.Lists.{sum, product, greatest, keep, exists, range, combinations}
-use Rattle.arith.specs.Least.{least, or_zero, is_none}
+use Rattle.arith.specs.Least.{least, or_zero}
 use Rattle.arith.specs.Releases.{releases_before}
 use Rattle.arith.specs.Laws.Members.{mem-get_d, place_of, map_same}
 use Rattle.arith.specs.Laws.Sums.{sum_same}
@@ -26,8 +26,6 @@ use Rattle.bus_model.specs.Levels.{fixed_at, fixes, level_bound, level_count}
 use Rattle.bus_model.specs.Judgement.{scenario_limit, lacks_window, too_many_scenarios, deepest_level, precise_outcome, crowded_outcome, refined_outcome, windowed_outcome, outcome_of, bound_used, margin_of, judge}
 use Rattle.bus_model.proofs.Theory.Frames.{phase-fits, phase-offset, better-ahead, of-ahead, of-group}
 use Rattle.bus_model.proofs.Theory.Alike.{early, row-early, judge-early}
-use Rattle.arith.specs.declared.Found.{Found}
-use Rattle.arith.specs.declared.Found.TheVariants.{At, Nothing}
 use Rattle.bus_model.specs.declared.Frame.{Frame}
 use Rattle.bus_model.specs.declared.Faults.{Faults}
 use Rattle.bus_model.specs.declared.Choice.{Choice}
@@ -88,13 +86,13 @@ module _ (o : Frame → ℕ) where
     unfoldable pub window_load_with : List Frame → Frame → List Choice → ℕ → ℕ
     window_load_with fs k cs l = blocking fs k + work_with fs k (ahead fs k) cs l + fault_load faults fs k l
 
-    unfoldable pub busy_window_with : List Frame → Frame → List Choice → Found
+    unfoldable pub busy_window_with : List Frame → Frame → List Choice → Option ℕ
     busy_window_with fs k cs = least (λ l. leb (window_load_with fs k cs l) l) window_limit 1
 
     unfoldable pub delay_load_with : List Frame → Frame → List Choice → ℕ → ℕ → ℕ
     delay_load_with fs k cs q w = blocking fs k + q * k.length + work_with fs k (better fs k) cs (suc w) + fault_load faults fs k (w + k.length)
 
-    unfoldable pub queueing_delay_with : List Frame → Frame → List Choice → ℕ → Found
+    unfoldable pub queueing_delay_with : List Frame → Frame → List Choice → ℕ → Option ℕ
     queueing_delay_with fs k cs q = least (λ w. leb (delay_load_with fs k cs q w) w) window_limit 0
 
     unfoldable pub instance_response_with : List Frame → Frame → List Choice → ℕ → ℕ
@@ -104,7 +102,7 @@ module _ (o : Frame → ℕ) where
     response_time_with fs k cs l = greatest (instance_response_with fs k cs) (range 0 (releases_before (own_distance_with k cs) k.period l))
 
     unfoldable pub scenario_response_with : List Frame → Frame → List Choice → ℕ
-    scenario_response_with fs k cs = elim (busy_window_with fs k cs) [ At l ↦ response_time_with fs k cs l | Nothing ↦ 0 ]
+    scenario_response_with fs k cs = elim (busy_window_with fs k cs) [ Some l ↦ response_time_with fs k cs l | None ↦ 0 ]
 
     unfoldable pub bound_with : List Frame → Frame → (ℕ → Bool) → ℕ
     bound_with fs k fixes = greatest (scenario_response_with fs k) (scenarios_with fs k fixes)
@@ -225,8 +223,8 @@ module _ (o u : Frame → ℕ) {fs : List Frame} (agree : (g : Frame) → Mem g 
     unfolding scenario_response_with response_time_with instance_response_with
     response-agree = λ i cs.
         elim (window-agree i cs) as (λ _. ℕ) [
-          | At l ↦ greatest (λ q. or_zero (delay-agree i cs q) + k.length - (own-agree i cs + q * k.period)) (range 0 (releases_before (own-agree i cs) k.period l))
-          | Nothing ↦ 0
+          | Some l ↦ greatest (λ q. or_zero (delay-agree i cs q) + k.length - (own-agree i cs + q * k.period)) (range 0 (releases_before (own-agree i cs) k.period l))
+          | None ↦ 0
         ]
 
     bound-agree : bound_with o faults fs k ≡ bound_with u faults fs k

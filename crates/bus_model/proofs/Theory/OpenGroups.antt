@@ -6,7 +6,7 @@ use Rattle.std.proofs.Common.{◌∙◌, arith}
 use mathlib.Core.List.Memᴰ.{head as here}
 use mathlib.Core.List.Memᴰ.{tail as there}
 use mathlib.Core.List.{List, [], ◌∷◌, Memᴰ as Mem}
-use Rattle.std.specs.Prelude.{Bool, ◌&&◌, eqb, length, set, take}
+use Rattle.std.specs.Prelude.{Bool, ◌&&◌, eqb, length, set, take, Some, None}
 use Rattle.std.proofs.Math.Bool.{true, false, not, cond}
 use Rattle.std.proofs.Math.Decide.{ℕ_discrete}
 use Rattle.std.proofs.Math.Dec.{T, eqb_refl}
@@ -29,8 +29,6 @@ use Rattle.bus_model.proofs.Theory.Order.{order-group, order-all, order-apart, o
 use Rattle.bus_model.specs.Theory.Refine.{refined, free}
 use Rattle.bus_model.proofs.Theory.Refine.{approximate-refined, set_same, set_other, StillOpen, refines-more, refined-bound, own-scenarios, refines-taken, open-pruned}
 use Rattle.bus_model.proofs.Theory.Turns.{first_turn, refined-turn}
-use Rattle.arith.specs.declared.Found.{Found}
-use Rattle.arith.specs.declared.Found.TheVariants.{At, Nothing}
 use Rattle.bus_model.specs.declared.Frame.{Frame}
 use Rattle.bus_model.specs.declared.Faults.{Faults}
 use Rattle.bus_model.specs.declared.Choice.{Choice}
@@ -104,24 +102,24 @@ module _ {k : Frame} (valid : ValidFrame k) (cs : List Choice) (long : length cs
       both false c t u = t
 
   -- The next is the first of them;
-  pub open_next : {j : ℕ} → next_open k cs ≡ At j → (js : List ℕ) × (open_groups k cs ≡ j ∷ js)
+  pub open_next : {j : ℕ} → next_open k cs ≡ Some j → (js : List ℕ) × (open_groups k cs ≡ j ∷ js)
   unfolding next_open open_groups fixing_order keep
   open_next {j} e = go (is_open cs k.group) refl e
     where
-      go : (b : Bool) → is_open cs k.group ≡ b → cond b (At k.group) (least (is_open cs) groups 1) ≡ At j → (js : List ℕ) × (open_groups k cs ≡ j ∷ js)
+      go : (b : Bool) → is_open cs k.group ≡ b → cond b (Some k.group) (least (is_open cs) groups 1) ≡ Some j → (js : List ℕ) × (open_groups k cs ≡ j ∷ js)
       go true t is = let same : k.group ≡ j = cc in let rest = keep (is_open cs) (keep (λ (i : ℕ). not (eqb i k.group)) (range 1 groups)) in (rest, rw t (ap (λ (g : ℕ). g ∷ rest) same))
       go false t is = (keep (is_open cs) (range (suc j) (17 - suc j)), open-rising t ∙ keep-next (is_open cs) 17 1 j is)
 
   -- it is a group, and open;
-  pub next-open : {j : ℕ} → next_open k cs ≡ At j → Mem j (range 1 groups) × (choice_of cs j ≡ Any)
+  pub next-open : {j : ℕ} → next_open k cs ≡ Some j → Mem j (range 1 groups) × (choice_of cs j ≡ Any)
   next-open {j} e = let (js, is) = open_next e in let m : Mem j (open_groups k cs) = rw is (here refl) in (open-groups.group j m, open-groups.left j m)
 
   -- where there is none, there are none.
-  pub open_none : next_open k cs ≡ Nothing → open_groups k cs ≡ []
+  pub open_none : next_open k cs ≡ None → open_groups k cs ≡ []
   unfolding next_open
   open_none e = go (is_open cs k.group) refl e
     where
-      go : (b : Bool) → is_open cs k.group ≡ b → cond b (At k.group) (least (is_open cs) groups 1) ≡ Nothing → open_groups k cs ≡ []
+      go : (b : Bool) → is_open cs k.group ≡ b → cond b (Some k.group) (least (is_open cs) groups 1) ≡ None → open_groups k cs ≡ []
       go true t is = let z : ◌≡◌ {A = ℕ} 0 1 = cc in absurd (omega arith)
       go false t is = open-rising t ∙ keep-end (is_open cs) 17 1 is
 
@@ -133,7 +131,7 @@ module _ {k : Frame} (valid : ValidFrame k) (cs : List Choice) (long : length cs
   more-end faults fs = refl
 
   -- or where none is left.
-  pub more-none : (faults : Faults) (fs : List Frame) (m : ℕ) → next_open k cs ≡ Nothing → fixing_more faults fs k m cs ≡ scenario_response faults fs k cs
+  pub more-none : (faults : Faults) (fs : List Frame) (m : ℕ) → next_open k cs ≡ None → fixing_more faults fs k m cs ≡ scenario_response faults fs k cs
   unfolding fixing_more refined
   more-none faults fs m none = rw (open_none none) (go m)
     where
@@ -148,7 +146,7 @@ module _ {k : Frame} (valid : ValidFrame k) (cs : List Choice) (long : length cs
   then-others faults fs m {j} {js} e = fun_ext (λ a. ap (λ (is : List ℕ). refined faults fs k (take m is) (set cs (j - 1) (Fixed a))) (sym (open-rest e a)))
 
   -- The next group takes each of its alignments.
-  pub more-step : (faults : Faults) (fs : List Frame) (m : ℕ) {j : ℕ} → next_open k cs ≡ At j
+  pub more-step : (faults : Faults) (fs : List Frame) (m : ℕ) {j : ℕ} → next_open k cs ≡ Some j
       → fixing_more faults fs k (suc m) cs ≡ greatest (λ a. fixing_more faults fs k m (set cs (j - 1) (Fixed a))) (or_empty (alignments fs k j))
   unfolding fixing_more refined
   more-step faults fs m {j} next =
@@ -206,7 +204,7 @@ module _ {fs : List Frame} (valid : Valid fs) {k : ℕ} (inside : k < length fs)
         }
 
     -- The next group need only take the alignments of its first turn.
-    pub more_turn : (faults : Faults) (m : ℕ) {j : ℕ} → next_open f cs ≡ At j
+    pub more_turn : (faults : Faults) (m : ℕ) {j : ℕ} → next_open f cs ≡ Some j
         → fixing_more faults fs f (suc m) cs ≡ greatest (λ a. fixing_more faults fs f m (set cs (j - 1) (Fixed a))) (or_empty (first_turn fs f j))
     more_turn faults m {j} next =
         let (js, e) = open_next self cs long next in
@@ -219,7 +217,7 @@ module _ {fs : List Frame} (valid : Valid fs) {k : ℕ} (inside : k < length fs)
 
     -- ---- which branches may be left out, where the frame's own group is fixed and the scenario has a window
 
-    module _ (own : (a : ℕ) × (choice_of cs f.group ≡ Fixed a)) (faults : Faults) (l : ℕ) (window : busy_window faults fs f cs ≡ At l) where
+    module _ (own : (a : ℕ) × (choice_of cs f.group ≡ Fixed a)) (faults : Faults) (l : ℕ) (window : busy_window faults fs f cs ≡ Some l) where
       -- where the scenario has no greater response than what is found
       pub more-pruned : (m : ℕ) → fixing_more faults fs f m cs ≤ scenario_response faults fs f cs
       unfolding fixing_more
@@ -227,7 +225,7 @@ module _ {fs : List Frame} (valid : Valid fs) {k : ℕ} (inside : k < length fs)
 
     -- It has one, where the approximate bound's scenarios have, and its alignments are such.
     pub more-window : (faults : Faults) → Windowed faults fs f (own_group f) → RefinedBy fs f free cs → {a : ℕ} → choice_of cs f.group ≡ Fixed a
-        → (l : ℕ) × (busy_window faults fs f cs ≡ At l)
+        → (l : ℕ) × (busy_window faults fs f cs ≡ Some l)
     unfolding Allows
     more-window faults windows refines {a} own =
         let listed = group-listed self in

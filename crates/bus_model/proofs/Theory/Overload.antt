@@ -1,12 +1,11 @@
 -- A frame that is longer than its period has no busy window, and is judged so; nor has one under faults that cost no less than their gap.
 -- The scenario that shows it has the frame released where the window opens.
-use Rattle.std.specs.Prelude.{ℕ, zero, suc, ◌*◌, ◌≤◌, ◌<◌, ◌≡◌, T, pos, length}
+use Rattle.std.specs.Prelude.{ℕ, zero, suc, ◌*◌, ◌≤◌, ◌<◌, ◌≡◌, T, pos, length, is_none}
 use Rattle.std.proofs.Math.Path.{ap}
 use mathlib.Core.List.{List, Memᴰ as Mem}
 use Rattle.std.proofs.Common.{arith, mul-suc, mul_comm, eqb→eq}
 use Rattle.std.proofs.Math.Nat.{zero-mul, mul-le-mul_left}
 use Rattle.std.proofs.Math.Dec.{eqb_refl}
-use Rattle.arith.specs.Least.{is_none}
 use Rattle.arith.specs.Releases.{releases_before}
 use Rattle.arith.specs.Laws.Members.{exists-mem}
 use Rattle.arith.specs.Laws.Tests.{cond_yes}
@@ -51,7 +50,7 @@ module _ {fs : List Frame} (valid : Valid fs) {k : ℕ} (inside : k < length fs)
 
   -- A frame that is longer than its period has no window.
   pub overloaded : (faults : Faults) → f.period < f.length → T (lacks_window faults fs f)
-  unfolding lacks_window is_none window_load demand
+  unfolding lacks_window window_load demand
   overloaded faults long =
       let lacks = window-none faults fs f at_once (λ l low.
       let share = work-own valid inside (phase f) l at_once at-once-own in
@@ -62,7 +61,7 @@ module _ {fs : List Frame} (valid : Valid fs) {k : ℕ} (inside : k < length fs)
 
   -- So has one under faults that cost no less than their gap.
   pub faults-overload : (g : ℕ) → 1 ≤ g → g ≤ fault_time fs f → T (lacks_window (Apart g) fs f)
-  unfolding lacks_window is_none window_load fault_load demand
+  unfolding lacks_window window_load fault_load demand
   faults-overload g some dear =
       let lacks = window-none (Apart g) fs f at_once (λ l low.
       let share = work-own valid inside (phase f) l at_once at-once-own in

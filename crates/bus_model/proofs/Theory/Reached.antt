@@ -1,7 +1,7 @@
 -- The last frame's precise bound is reached: some schedule without a tick to spare has it as a response time.
 -- So no smaller claim is met in all schedules.
 use Prim.Native.Nat.{ℕ, suc, ◌+◌, ◌-◌, ◌*◌, ◌≤◌, ◌<◌}
-use Rattle.std.specs.Prelude.{◌≡◌, true, ◌≢◌, ◌↔◌, length, get_or}
+use Rattle.std.specs.Prelude.{◌≡◌, true, ◌≢◌, ◌↔◌, length, get_or, Option, Some}
 use Rattle.std.proofs.Math.Path.{refl, ap, ap₂}
 use Rattle.std.proofs.Common.{sym, subst, ◌∙◌, le_refl}
 use mathlib.Core.List.Memᴰ
@@ -25,7 +25,7 @@ use Rattle.bus_model.specs.Release.{release}
 use Rattle.bus_model.specs.Bus.{Transmission, Schedule, MeetsClaim}
 use Rattle.bus_model.specs.Bounds.{groups, window_limit, below, better, blocking, fault_load, is_below, alignments, distance, or_empty, choice_of, scenarios, every_group, busy_window, delay_load, instance_response, precise_bound}
 use Rattle.bus_model.specs.Judgement.{lacks_window, verdict, judge}
-use Rattle.bus_model.specs.Case.{shown, first_case}
+use Rattle.bus_model.specs.Case.{alignments_of, instance_of, shown, first_case}
 use Rattle.bus_model.specs.Worst.{RanksLast, worst_case, for_group, meeting_tick, starts_of, worst_starts, instance_from, worst_instance, Longest, Responds}
 use Rattle.bus_model.proofs.Theory.Arrivals.{released_by}
 use Rattle.bus_model.proofs.Theory.Frames.{group-listed, valid-frame, of-ahead, better-ahead}
@@ -37,9 +37,8 @@ use Rattle.bus_model.proofs.Theory.Cases.{Exists, exceeds, count, exceeding-at, 
 use Rattle.bus_model.proofs.Theory.Existence.{longest-schedule}
 use Rattle.bus_model.proofs.Theory.Elapsed.{start-after, elapsed, sent-fitting}
 use Rattle.bus_model.proofs.Theory.Meeting.{next_le, work-arrives}
-use Rattle.arith.specs.declared.Found.{Found}
-use Rattle.arith.specs.declared.Found.TheVariants.{At}
 use Rattle.bus_model.specs.declared.Frame.{Frame}
+use Rattle.bus_model.specs.declared.Case.{Case}
 use Rattle.bus_model.specs.declared.Faults.TheVariants.{Never}
 use Rattle.bus_model.specs.declared.Choice.{Choice}
 use Rattle.bus_model.specs.declared.Choice.TheVariants.{Fixed, Any}
@@ -144,7 +143,7 @@ module _ {fs : List Frame} (valid : Valid fs) {k : ℕ} (inside : k < length fs)
       -- ---- instance q of its window, in a schedule whose transmissions have their largest lengths
 
       module _
-          (l : ℕ) (window : busy_window Never fs f cs ≡ At l) (q : ℕ) (released : d + q * f.period < l)
+          (l : ℕ) (window : busy_window Never fs f cs ≡ Some l) (q : ℕ) (released : d + q * f.period < l)
           (T : ℕ) {xs : List Transmission} (schedule : Schedule Never fs starts T xs) (longest : Longest fs xs)
         where
           -- It responds no earlier than the scenario has it.
@@ -193,17 +192,24 @@ module _ {fs : List Frame} (valid : Valid fs) {k : ℕ} (inside : k < length fs)
         omega (arith, found.next.positive, done.ended, rw (done.frame, done.instance) at (start-after found))
 
     -- The worst case exists, and stands in a scenario.
-    worst-exists : Exists (worst_case fs f)
+    pub worst-exists : Exists (worst_case fs f)
     unfolding worst_case
     worst-exists = (case-exists Never fs f (bound - 1)).1 (omega (arith, bound_some))
 
-    -- the number of its instance
-    abbrev q : ℕ
-    q = worst-exists.0
+    -- that case, and the number of its instance
+    abbrev c : Case
+    c = worst-exists.0
 
-    worst-shown : Shown Never fs f (bound - 1) (scenarios fs f every_group) (worst_case fs f) q
+    abbrev q : ℕ
+    q = c.instance
+
+    worst-shown : Shown Never fs f (bound - 1) (scenarios fs f every_group) c
     unfolding worst_case first_case
-    worst-shown = among-shown Never fs f (bound - 1) (scenarios fs f every_group) q worst-exists.1
+    worst-shown = among-shown Never fs f (bound - 1) (scenarios fs f every_group) c worst-exists.1
+
+    shown-alignments : alignments_of (worst_case fs f) ≡ map shown worst-shown.scenario
+    unfolding alignments_of
+    shown-alignments = rw worst-exists.1 worst-shown.alignments
 
     -- that scenario, and its window
     abbrev worst : List Choice
@@ -212,38 +218,38 @@ module _ {fs : List Frame} (valid : Valid fs) {k : ℕ} (inside : k < length fs)
     worst-listed : Mem worst (scenarios fs f every_group)
     worst-listed = rw worst-shown.listed (Memᴰ.append_right worst-shown.before (here refl))
 
-    worst-window : (l : ℕ) × (busy_window Never fs f worst ≡ At l)
+    worst-window : (l : ℕ) × (busy_window Never fs f worst ≡ Some l)
     worst-window = windows worst worst-listed
 
     -- The instance is released in it, and has the bound as its response.
-    worst-q : (l : ℕ) → busy_window Never fs f worst ≡ At l → (1 ≤ q) × (distance f (for_group (map shown worst) f.group) + (q - 1) * f.period < l) × (bound ≤ instance_response Never fs f worst (q - 1))
+    worst-q : (l : ℕ) → busy_window Never fs f worst ≡ Some l → (1 ≤ q) × (distance f (for_group (map shown worst) f.group) + (q - 1) * f.period < l) × (bound ≤ instance_response Never fs f worst (q - 1))
     worst-q l window =
         let (low, high, t) = least_at (exceeds Never fs f (bound - 1) worst) (count Never fs f (bound - 1) worst l) 1 q (sym (exceeding-at Never fs f (bound - 1) worst l window) ∙ worst-shown.least) in
         let released = listed-released valid inside Never worst (for_group (map shown worst) f.group) (fixed worst worst-listed f.group (group-listed self)) l window (mem-range 0 (count Never fs f (bound - 1) worst l) (q - 1) (omega arith) (omega arith)) in
         (low, released, omega (arith, ltb→lt (bound - 1) _ t, bound_some))
 
     -- Its numbers are small: the instance is one of a window, and an alignment one of its group's.
-    pub worst-number : (1 ≤ or_zero (worst_case fs f).instance) × (or_zero (worst_case fs f).instance ≤ window_limit)
-    unfolding or_zero
+    pub worst-number : (1 ≤ instance_of (worst_case fs f)) × (instance_of (worst_case fs f) ≤ window_limit)
+    unfolding instance_of
     worst-number =
         let (l, window) = worst-window in
         let (low, released, reaches) = worst-q l window in
         let (some, high, fits) = window-at Never fs f worst l window in
         rw worst-exists.1 (low, omega (arith, le-mul_of_pos_right (q - 1) self.period))
 
-    pub worst-alignment : (j : ℕ) → Mem j (range 1 groups) → Mem (for_group (worst_case fs f).alignments j) (or_empty (alignments fs f j))
-    worst-alignment j l = rw worst-shown.alignments (shown-listed worst worst-listed j l)
+    pub worst-alignment : (j : ℕ) → Mem j (range 1 groups) → Mem (for_group (alignments_of (worst_case fs f)) j) (or_empty (alignments fs f j))
+    worst-alignment j l = rw shown-alignments (shown-listed worst worst-listed j l)
 
     -- ---- the bound is reached
 
     -- The starts and the instance are those of the scenario.
     starts-are : worst_starts fs f ≡ starts_of (map shown worst)
     unfolding worst_starts
-    starts-are = ap starts_of worst-shown.alignments
+    starts-are = ap starts_of shown-alignments
 
     number_is : worst_instance fs f ≡ instance_from f (for_group (map shown worst) f.group) q
-    unfolding worst_instance or_zero
-    number_is = ap₂ (λ (als : List ℕ) (r : Found). instance_from f (for_group als f.group) (or_zero r)) worst-shown.alignments worst-exists.1
+    unfolding worst_instance instance_of
+    number_is = ap₂ (λ (als : List ℕ) (o : Option Case). instance_from f (for_group als f.group) (instance_of o)) shown-alignments worst-exists.1
 
     module _ (early : Early fs) (last : RanksLast fs k) where
       -- In every schedule with these starts and the largest lengths, instance n responds no earlier than the bound.

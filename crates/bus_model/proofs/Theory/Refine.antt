@@ -1,7 +1,7 @@
 -- The bounds found group by group: one group after the other takes each of its alignments, and the greatest response counts.
 -- A branch may be left out where its scenario with the open groups at `Any` has no greater response than one already found.
 use Prim.Native.Nat.{ℕ, suc, ◌-◌, ◌≤◌, ◌<◌}
-use Rattle.std.specs.Prelude.{◌≡◌, Bool, ◌≢◌, ◌↔◌, ◌⊎◌, eqb, length, set, replicate}
+use Rattle.std.specs.Prelude.{◌≡◌, Bool, ◌≢◌, ◌↔◌, ◌⊎◌, eqb, length, set, replicate, Some}
 use Rattle.std.proofs.Math.Path.{refl, sym}
 use Rattle.std.proofs.Common.{ap, ◌∙◌, eqb→eq, length-set, get_or-set_same, get_or-set_other}
 use mathlib.Core.List.Memᴰ
@@ -27,7 +27,6 @@ use Rattle.bus_model.specs.Theory.Work.{Allows, RefinedBy}
 use Rattle.bus_model.proofs.Theory.Response.{response-refine}
 use Rattle.bus_model.specs.Theory.Scenarios.{scenarios_of}
 use Rattle.bus_model.proofs.Theory.Scenarios.{scenario-is, mem-choices, of-choices, choices-length, allows-self}
-use Rattle.arith.specs.declared.Found.TheVariants.{At}
 use Rattle.bus_model.specs.declared.Frame.{Frame}
 use Rattle.bus_model.specs.declared.Faults.{Faults}
 use Rattle.bus_model.specs.declared.Choice.{Choice}
@@ -274,7 +273,7 @@ module _ {fs : List Frame} (valid : Valid fs) {k : ℕ} (inside : k < length fs)
   f = row fs k
 
   -- No scenario that refines one with a window has a greater response, where the frame's own group is fixed.
-  response-below : (faults : Faults) (cs cs' : List Choice) → RefinedBy fs f cs cs' → {a : ℕ} → choice_of cs f.group ≡ Fixed a → {l : ℕ} → busy_window faults fs f cs ≡ At l
+  response-below : (faults : Faults) (cs cs' : List Choice) → RefinedBy fs f cs cs' → {a : ℕ} → choice_of cs f.group ≡ Fixed a → {l : ℕ} → busy_window faults fs f cs ≡ Some l
       → scenario_response faults fs f cs' ≤ scenario_response faults fs f cs
   response-below faults cs cs' refines {a} own {l} window = response-refine valid inside faults cs cs' refines l window a own (own-kept fs f cs cs' refines (valid.frame k inside) own)
 
@@ -296,7 +295,7 @@ module _ {fs : List Frame} (valid : Valid fs) {k : ℕ} (inside : k < length fs)
       }
 
   -- A scenario fixes the frame's own group and has a window; the groups js are still open.
-  module _ {js : List ℕ} {cs : List Choice} (still : StillOpen js cs) (own : (a : ℕ) × (choice_of cs f.group ≡ Fixed a)) (faults : Faults) (l : ℕ) (window : busy_window faults fs f cs ≡ At l) where
+  module _ {js : List ℕ} {cs : List Choice} (still : StillOpen js cs) (own : (a : ℕ) × (choice_of cs f.group ≡ Fixed a)) (faults : Faults) (l : ℕ) (window : busy_window faults fs f cs ≡ Some l) where
     -- nothing is refined yet
     unrefined : Finer cs js cs
     unrefined = record { long = still.long; group = still.group; left = still.left; refines = refines-self fs f cs }

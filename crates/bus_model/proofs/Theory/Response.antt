@@ -1,7 +1,7 @@
 -- The busy window, the queueing delays and the response times of one scenario.
 -- Where the frame's own alignment is fixed, each instance released in the window has a delay, and ends within the window.
 use Prim.Native.Nat.{ℕ, suc, ◌+◌, ◌-◌, ◌*◌, ◌≤◌, ◌<◌}
-use Rattle.std.specs.Prelude.{◌≡◌, length}
+use Rattle.std.specs.Prelude.{◌≡◌, length, Some, None}
 use Rattle.std.proofs.Math.Path.{ap}
 use mathlib.Core.List.{List, Memᴰ as Mem}
 use native.Mathlib.Omega.{arith}
@@ -21,7 +21,6 @@ use Rattle.bus_model.specs.Bounds.{window_limit, distance, demand, choice_of, wi
 use Rattle.bus_model.proofs.Theory.Frames.{better-ahead}
 use Rattle.bus_model.specs.Theory.Work.{RefinedBy}
 use Rattle.bus_model.proofs.Theory.Work.{work-mono, fault-mono, work-refine, work-own}
-use Rattle.arith.specs.declared.Found.TheVariants.{At, Nothing}
 use Rattle.bus_model.specs.declared.Frame.{Frame}
 use Rattle.bus_model.specs.declared.Faults.{Faults}
 use Rattle.bus_model.specs.declared.Choice.{Choice}
@@ -31,47 +30,47 @@ use Rattle.bus_model.specs.declared.Choice.TheVariants.{Fixed}
 
 module _ (faults : Faults) (fs : List Frame) (k : Frame) (cs : List Choice) where
   -- A window holds its load.
-  pub window-at : (l : ℕ) → busy_window faults fs k cs ≡ At l → (1 ≤ l) × (l ≤ window_limit) × (window_load faults fs k cs l ≤ l)
+  pub window-at : (l : ℕ) → busy_window faults fs k cs ≡ Some l → (1 ≤ l) × (l ≤ window_limit) × (window_load faults fs k cs l ≤ l)
   unfolding busy_window
   window-at l e = let (low, high, t) = least_at _ window_limit 1 l e in (low, omega arith, leb→le _ l t)
 
   -- Where a length holds its load, there is a window, which is not longer.
-  pub window-found : (l : ℕ) → 1 ≤ l → l ≤ window_limit → window_load faults fs k cs l ≤ l → (m : ℕ) × (busy_window faults fs k cs ≡ At m) × (m ≤ l)
+  pub window-found : (l : ℕ) → 1 ≤ l → l ≤ window_limit → window_load faults fs k cs l ≤ l → (m : ℕ) × (busy_window faults fs k cs ≡ Some m) × (m ≤ l)
   unfolding busy_window
   window-found l low high fits = least-finds _ window_limit 1 l low (omega arith) (le→leb _ l fits)
 
   -- No shorter length holds its load.
-  pub window-least : (l m : ℕ) → busy_window faults fs k cs ≡ At l → 1 ≤ m → window_load faults fs k cs m ≤ m → l ≤ m
+  pub window-least : (l m : ℕ) → busy_window faults fs k cs ≡ Some l → 1 ≤ m → window_load faults fs k cs m ≤ m → l ≤ m
   unfolding busy_window
   window-least l m e low fits = least-le _ window_limit 1 l m e low (le→leb _ m fits)
 
   -- Where no length holds its load, there is none.
-  pub window-none : ((l : ℕ) → 1 ≤ l → l < window_load faults fs k cs l) → busy_window faults fs k cs ≡ Nothing
+  pub window-none : ((l : ℕ) → 1 ≤ l → l < window_load faults fs k cs l) → busy_window faults fs k cs ≡ None
   unfolding busy_window
   window-none more = least-none _ window_limit 1 (λ l low high t. omega (arith, more l low, leb→le _ l t))
 
   -- A delay allows for its load.
-  pub delay-at : (q w : ℕ) → queueing_delay faults fs k cs q ≡ At w → delay_load faults fs k cs q w ≤ w
+  pub delay-at : (q w : ℕ) → queueing_delay faults fs k cs q ≡ Some w → delay_load faults fs k cs q w ≤ w
   unfolding queueing_delay
   delay-at q w e = leb→le _ w (least_at _ window_limit 0 w e).2
 
   -- Where a tick allows for its load, there is a delay, which is not longer.
-  pub delay-found : (q w : ℕ) → w < window_limit → delay_load faults fs k cs q w ≤ w → (v : ℕ) × (queueing_delay faults fs k cs q ≡ At v) × (v ≤ w)
+  pub delay-found : (q w : ℕ) → w < window_limit → delay_load faults fs k cs q w ≤ w → (v : ℕ) × (queueing_delay faults fs k cs q ≡ Some v) × (v ≤ w)
   unfolding queueing_delay
   delay-found q w high fits = least-finds _ window_limit 0 w (omega arith) (omega arith) (le→leb _ w fits)
 
   -- No shorter one allows for its load.
-  pub delay-least : (q w v : ℕ) → queueing_delay faults fs k cs q ≡ At w → delay_load faults fs k cs q v ≤ v → w ≤ v
+  pub delay-least : (q w v : ℕ) → queueing_delay faults fs k cs q ≡ Some w → delay_load faults fs k cs q v ≤ v → w ≤ v
   unfolding queueing_delay
   delay-least q w v e fits = least-le _ window_limit 0 w v e (omega arith) (le→leb _ v fits)
 
   -- A scenario with a window counts with its response time.
-  pub response-at : (l : ℕ) → busy_window faults fs k cs ≡ At l → scenario_response faults fs k cs ≡ response_time faults fs k cs l
+  pub response-at : (l : ℕ) → busy_window faults fs k cs ≡ Some l → scenario_response faults fs k cs ≡ response_time faults fs k cs l
   unfolding scenario_response
   response-at l e = rw (e, scenario_response)
 
   -- A scenario without one counts 0.
-  pub response-none : busy_window faults fs k cs ≡ Nothing → scenario_response faults fs k cs ≡ 0
+  pub response-none : busy_window faults fs k cs ≡ None → scenario_response faults fs k cs ≡ 0
   unfolding scenario_response
   response-none e = rw (e, scenario_response)
 
@@ -91,9 +90,9 @@ module _ {fs : List Frame} (valid : Valid fs) {k : ℕ} (inside : k < length fs)
 
   -- ---- a scenario that fixes the frame's own group, and its window
 
-  module _ (faults : Faults) (cs : List Choice) (a : ℕ) (own : choice_of cs f.group ≡ Fixed a) (l : ℕ) (window : busy_window faults fs f cs ≡ At l) where
+  module _ (faults : Faults) (cs : List Choice) (a : ℕ) (own : choice_of cs f.group ≡ Fixed a) (l : ℕ) (window : busy_window faults fs f cs ≡ Some l) where
     -- An instance released in the window has a delay, and ends within the window.
-    pub delay-within : (q : ℕ) → distance f a + q * f.period < l → (w : ℕ) × (queueing_delay faults fs f cs q ≡ At w) × (w + f.length ≤ l)
+    pub delay-within : (q : ℕ) → distance f a + q * f.period < l → (w : ℕ) × (queueing_delay faults fs f cs q ≡ Some w) × (w + f.length ≤ l)
     unfolding window_load delay_load demand
     delay-within q released =
         let (low, high, fits) = window-at faults fs f cs l window in
@@ -106,7 +105,7 @@ module _ {fs : List Frame} (valid : Valid fs) {k : ℕ} (inside : k < length fs)
         (w, e, omega arith)
 
     -- Its delay does not end before its release, or a shorter window would do.
-    released-in-time : (q : ℕ) → distance f a + q * f.period < l → (w : ℕ) → queueing_delay faults fs f cs q ≡ At w → distance f a + q * f.period ≤ w
+    released-in-time : (q : ℕ) → distance f a + q * f.period < l → (w : ℕ) → queueing_delay faults fs f cs q ≡ Some w → distance f a + q * f.period ≤ w
     unfolding window_load delay_load demand
     released-in-time q released w e = let early : ¬ (w < distance f a + q * f.period) = too-soon in omega arith
       where
@@ -119,14 +118,14 @@ module _ {fs : List Frame} (valid : Valid fs) {k : ℕ} (inside : k < length fs)
             omega (arith, delay-at faults fs f cs q w e, window-least faults fs f cs l (suc w) window (omega arith) (omega (arith, delay-at faults fs f cs q w e)))
 
     -- So its response is not cut at 0.
-    pub response-whole : (q : ℕ) → distance f a + q * f.period < l → (w : ℕ) → queueing_delay faults fs f cs q ≡ At w
+    pub response-whole : (q : ℕ) → distance f a + q * f.period < l → (w : ℕ) → queueing_delay faults fs f cs q ≡ Some w
         → instance_response faults fs f cs q + (distance f a + q * f.period) ≡ w + f.length
-    unfolding instance_response or_zero
+    unfolding instance_response
     response-whole q released w e = omega (arith, released-in-time q released w e, ap or_zero e, own-distance fs f cs a own)
 
     -- Its response is at most the window.
     pub instance-le : (q : ℕ) → distance f a + q * f.period < l → instance_response faults fs f cs q ≤ l
-    unfolding instance_response or_zero
+    unfolding instance_response
     instance-le q released = let (w, e, le) = delay-within q released in omega (arith, ap or_zero e)
 
     -- The instances that the response time goes through are those released in the window.
@@ -154,9 +153,9 @@ module _ {fs : List Frame} (valid : Valid fs) {k : ℕ} (inside : k < length fs)
 
   -- ---- a scenario and one that refines it
 
-  module _ (faults : Faults) (cs cs' : List Choice) (refines : RefinedBy fs f cs cs') (l : ℕ) (window : busy_window faults fs f cs ≡ At l) where
+  module _ (faults : Faults) (cs cs' : List Choice) (refines : RefinedBy fs f cs cs') (l : ℕ) (window : busy_window faults fs f cs ≡ Some l) where
     -- The other has a window too, which is not longer.
-    pub window-refine : (l' : ℕ) × (busy_window faults fs f cs' ≡ At l') × (l' ≤ l)
+    pub window-refine : (l' : ℕ) × (busy_window faults fs f cs' ≡ Some l') × (l' ≤ l)
     unfolding window_load
     window-refine =
         let (low, high, fits) = window-at faults fs f cs l window in
@@ -165,7 +164,7 @@ module _ {fs : List Frame} (valid : Valid fs) {k : ℕ} (inside : k < length fs)
     -- An instance's response is not greater than the first one's response time, if both fix the frame's own alignment.
     instance-refine : (a : ℕ) → choice_of cs f.group ≡ Fixed a → choice_of cs' f.group ≡ Fixed a
         → (q : ℕ) → distance f a + q * f.period < l → instance_response faults fs f cs' q ≤ scenario_response faults fs f cs
-    unfolding instance_response or_zero delay_load
+    unfolding instance_response delay_load
     instance-refine a own own' q released =
         let (w, e, le) = delay-within faults cs a own l window q released in
         let (low, high, fits) = window-at faults fs f cs l window in

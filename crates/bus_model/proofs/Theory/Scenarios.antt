@@ -1,6 +1,6 @@
 -- The scenarios of a bound: what their choices are, and how the bounds compare.
 -- To fix the alignments of more groups only lowers windows and bounds; the approximate bound and the precise one are the two ends.
-use Rattle.std.specs.Prelude.{ℕ, ◌+◌, ◌-◌, ◌≤◌, ◌<◌, ◌≡◌, refl, Bool, T, length, get_or}
+use Rattle.std.specs.Prelude.{ℕ, ◌+◌, ◌-◌, ◌≤◌, ◌<◌, ◌≡◌, refl, Bool, T, length, get_or, Option, Some, None}
 use Rattle.std.proofs.Math.Path.{sym}
 use Rattle.std.proofs.Common.{ap, ◌∙◌, arith, ext_get_or}
 use mathlib.Core.List.Memᴰ
@@ -19,8 +19,6 @@ use Rattle.bus_model.specs.Bounds.{groups, window_limit, alignments, or_empty, c
 use Rattle.bus_model.proofs.Theory.Frames.{group-listed}
 use Rattle.bus_model.specs.Theory.Work.{Allows, RefinedBy}
 use Rattle.bus_model.proofs.Theory.Response.{window-at, window-refine, response-le, response-none, response-refine}
-use Rattle.arith.specs.declared.Found.{Found}
-use Rattle.arith.specs.declared.Found.TheVariants.{At, Nothing}
 use Rattle.bus_model.specs.declared.Frame.{Frame}
 use Rattle.bus_model.specs.declared.Faults.{Faults}
 use Rattle.bus_model.specs.declared.Choice.{Choice}
@@ -109,7 +107,7 @@ bound-same faults fs k fixes fixes' same =
 
 -- every one of the scenarios has a window
 abbrev pub Windowed : Faults → List Frame → Frame → (ℕ → Bool) → Type 0
-Windowed faults fs k fixes = (cs : List Choice) → Mem cs (scenarios fs k fixes) → (l : ℕ) × (busy_window faults fs k cs ≡ At l)
+Windowed faults fs k fixes = (cs : List Choice) → Mem cs (scenarios fs k fixes) → (l : ℕ) × (busy_window faults fs k cs ≡ Some l)
 
 -- a choice where the group is fixed, and `any` where it is not
 unfoldable pub where_fixed : Bool → Choice → Choice
@@ -197,9 +195,9 @@ module _ {fs : List Frame} (valid : Valid fs) {k : ℕ} (inside : k < length fs)
   unfolding bound_of
   bound-le-limit faults fixes own = greatest-le (scenarios fs f fixes) (λ cs m. go cs (own_fixed fixes own m) (busy_window faults fs f cs) refl)
     where
-      go : (cs : List Choice) → (a : ℕ) × (choice_of cs f.group ≡ Fixed a) → (r : Found) → busy_window faults fs f cs ≡ r → scenario_response faults fs f cs ≤ window_limit
-      go cs (a, fixes-own) (At l) e = let (low, high, fits) = window-at faults fs f cs l e in le_trans (response-le valid inside faults cs a fixes-own l e) high
-      go cs own Nothing e = rw (response-none faults fs f cs e) (omega arith)
+      go : (cs : List Choice) → (a : ℕ) × (choice_of cs f.group ≡ Fixed a) → (r : Option ℕ) → busy_window faults fs f cs ≡ r → scenario_response faults fs f cs ≤ window_limit
+      go cs (a, fixes-own) (Some l) e = let (low, high, fits) = window-at faults fs f cs l e in le_trans (response-le valid inside faults cs a fixes-own l e) high
+      go cs own None e = rw (response-none faults fs f cs e) (omega arith)
 
   module _ (faults : Faults) (fixes fixes' : ℕ → Bool) (more : fixes ⊆ fixes') (windows : Windowed faults fs f fixes) where
     -- Where fewer groups are fixed and windows exist, they exist where more are.

@@ -1,7 +1,7 @@
 -- The bounds are sound: in every schedule of a valid table, a frame whose bound is within its claim meets the claim.
 -- One theorem for any set of fixed groups, and its two ends, the approximate and the precise bound.
 use Prim.Native.Nat.{ℕ, suc, ◌+◌, ◌-◌, ◌*◌, ◌≤◌, ◌<◌}
-use Rattle.std.specs.Prelude.{◌≡◌, List, Bool, length}
+use Rattle.std.specs.Prelude.{◌≡◌, List, Bool, length, Some}
 use Rattle.std.proofs.Math.Path.{refl, ap}
 use Rattle.std.proofs.Math.Bool.{true, false}
 use native.Mathlib.Omega.{arith}
@@ -27,7 +27,6 @@ use Rattle.bus_model.proofs.Theory.Work.{fault-mono}
 use Rattle.bus_model.proofs.Theory.Response.{window-at, delay-at, own-distance, delay-within, instance-response}
 use Rattle.bus_model.proofs.Theory.Scenarios.{scenario, scenario-choice, where_fixed, chosen, chosen-listed, chosen-fixed, ◌⊆◌, Windowed, windows-refine}
 use Rattle.bus_model.proofs.Theory.Cover.{Agrees, covers}
-use Rattle.arith.specs.declared.Found.TheVariants.{At}
 use Rattle.bus_model.specs.declared.Frame.{Frame}
 use Rattle.bus_model.specs.declared.Faults.{Faults}
 use Rattle.bus_model.specs.declared.Choice.{Choice}
@@ -48,7 +47,7 @@ module _ {fs : List Frame} (valid : Valid fs) {k : ℕ} (inside : k < length fs)
   module _
       (faults : Faults) (starts : ℕ → ℕ) (T : ℕ) (xs : List Transmission) (n : ℕ) (win : Window faults fs starts T xs k n)
       (α : ℕ → ℕ) (stands : Stands fs f starts win.t1 α)
-      (cs : List Choice) (agrees : Agrees fs f α cs) (own : choice_of cs f.group ≡ Fixed (α f.group)) (l : ℕ) (window : busy_window faults fs f cs ≡ At l)
+      (cs : List Choice) (agrees : Agrees fs f α cs) (own : choice_of cs f.group ≡ Fixed (α f.group)) (l : ℕ) (window : busy_window faults fs f cs ≡ Some l)
     where
       -- the frame's own distance
       abbrev d : ℕ
@@ -93,7 +92,7 @@ module _ {fs : List Frame} (valid : Valid fs) {k : ℕ} (inside : k < length fs)
       fewer w after = let few = count-le (starts f.group + f.offset) self.period (win.t1 + suc w) n (omega arith) in omega arith
 
       -- It is released when its delay ends: otherwise the bus would be busy beyond that.
-      in-time : (w : ℕ) → queueing_delay faults fs f cs q ≡ At w → release starts f n ≤ win.t1 + w
+      in-time : (w : ℕ) → queueing_delay faults fs f cs q ≡ Some w → release starts f n ≤ win.t1 + w
       unfolding delay_load
       in-time w e = let early : ¬ (win.t1 + w < release starts f n) = too-late in omega arith
         where
@@ -107,7 +106,7 @@ module _ {fs : List Frame} (valid : Valid fs) {k : ℕ} (inside : k < length fs)
 
       -- It is finished when the claim runs out.
       finished : (claim : ℕ) → scenario_response faults fs f cs ≤ claim → release starts f n + claim ≤ T → Finished xs k n (release starts f n + claim)
-      unfolding instance_response or_zero delay_load
+      unfolding instance_response delay_load
       finished claim bound before =
           let (w, e, le) = delay-within valid inside faults cs (α f.group) own l window q within in
           let response = instance-response valid inside faults cs (α f.group) own l window q within in

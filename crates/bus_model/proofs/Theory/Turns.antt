@@ -10,7 +10,7 @@ use mathlib.Core.List.Memᴰ.{tail as there}
 use mathlib.Core.List.{List, [], ◌∷◌, Memᴰ as Mem}
 use Rattle.std.proofs.Math.Nat.{le_of_dvd, mod-lt, mod-mod_of_dvd, add-mul-mod_self_right, zero-mod}
 use Rattle.std.proofs.Math.Decide.{ℕ_discrete}
-use Rattle.std.specs.Prelude.{T, length, set}
+use Rattle.std.specs.Prelude.{T, length, set, Option, Some, None}
 use Rattle.std.proofs.Math.Dec.{leb}
 use Rattle.arith.specs.Lists.{greatest, keep, range}
 use Rattle.arith.specs.Least.{least, or_zero}
@@ -31,8 +31,6 @@ use Rattle.bus_model.specs.Theory.Visits.{is_alignment}
 use Rattle.bus_model.proofs.Theory.Visits.{first-visited}
 use Rattle.bus_model.specs.Theory.Refine.{refined}
 use Rattle.bus_model.proofs.Theory.Refine.{set_same, set_other}
-use Rattle.arith.specs.declared.Found.{Found}
-use Rattle.arith.specs.declared.Found.TheVariants.{At, Nothing}
 use Rattle.bus_model.specs.declared.Frame.{Frame}
 use Rattle.bus_model.specs.declared.Faults.{Faults}
 use Rattle.bus_model.specs.declared.Choice.{Choice}
@@ -244,7 +242,7 @@ module _ {fs : List Frame} (valid : Valid fs) {k : ℕ} (inside : k < length fs)
     pub response-alike : (faults : Faults) → scenario_response faults fs f cs ≡ scenario_response faults fs f cs'
     unfolding scenario_response
     response-alike faults =
-        ap₂ (λ (r : Found) (h : ℕ → ℕ). elim r as (λ _. ℕ) [ At l ↦ h l | Nothing ↦ 0 ]) (window-alike fs f cs cs' alike faults) (fun_ext (time-alike faults))
+        ap₂ (λ (r : Option ℕ) (h : ℕ → ℕ). elim r as (λ _. ℕ) [ Some l ↦ h l | None ↦ 0 ]) (window-alike fs f cs cs' alike faults) (fun_ext (time-alike faults))
 
   -- Group by group the same is found from both.
   pub refined-alike : (faults : Faults) (js : List ℕ) → ((j : ℕ) → Mem j js → Mem j (range 1 groups)) → (cs cs' : List Choice) → Alike fs f cs cs' → length cs ≡ groups → length cs' ≡ groups
@@ -280,7 +278,7 @@ module _ {fs : List Frame} (valid : Valid fs) {k : ℕ} (inside : k < length fs)
 
 module _ {A B : Type 0} (F : List ℕ → B) (join : A → B → B) (goal : B) where
   -- It starts at what a search finds first; a group without alignments is visited once, at 0.
-  pub visit-first : {fs : List Frame} → Valid fs → (k : Frame) (j : ℕ) {done : A} (found : Found) → found ≡ least (is_alignment fs k j) (turn fs k j - 0) 0
+  pub visit-first : {fs : List Frame} → Valid fs → (k : Frame) (j : ℕ) {done : A} (found : Option ℕ) → found ≡ least (is_alignment fs k j) (turn fs k j - 0) 0
       → join done (F (or_empty (first_turn fs k j))) ≡ goal → Walk F join (is_alignment fs k j) (turn fs k j) goal done (or_zero found)
   unfolding first_turn
   visit-first {fs} valid k j found is start =
@@ -289,12 +287,12 @@ module _ {A B : Type 0} (F : List ℕ → B) (join : A → B → B) (goal : B) w
 
 module _ {fs : List Frame} (valid : Valid fs) (k : Frame) (j : ℕ) where
   -- What a search in it finds is an alignment.
-  pub found-listed : (n : ℕ) {b : ℕ} → least (is_alignment fs k j) (turn fs k j - n) n ≡ At b → Mem b (or_empty (alignments fs k j))
+  pub found-listed : (n : ℕ) {b : ℕ} → least (is_alignment fs k j) (turn fs k j - n) n ≡ Some b → Mem b (or_empty (alignments fs k j))
   unfolding first_turn
   found-listed n is = or-empty (first-alignment valid k j (keep-found (is_alignment fs k j) (turn fs k j) n refl is))
 
   -- So is the first, or the empty one.
-  pub first-listed : (first : Found) → first ≡ least (is_alignment fs k j) (turn fs k j - 0) 0 → Mem (or_zero first) (or_empty (alignments fs k j))
+  pub first-listed : (first : Option ℕ) → first ≡ least (is_alignment fs k j) (turn fs k j - 0) 0 → Mem (or_zero first) (or_empty (alignments fs k j))
   first-listed first is =
       let w = visit-first {A = ℕ} (λ xs. xs) (λ done xs. xs) (or_empty (first_turn fs k j)) valid k j {done = 0} first is refl in
       first-aligned valid k j (subst (Mem (or_zero first)) w.is (here refl))

@@ -2,15 +2,13 @@
 -- From no group fixed it finds the bounds, and from some alignments the greatest response with these.
 use Prim.Native.Nat.{ℕ}
 use mathlib.Core.List.{List}
-use Rattle.std.specs.Prelude.{Bool, take}
+use Rattle.std.specs.Prelude.{Bool, take, Option, Some}
 use Rattle.std.proofs.Math.Bool.{true, false, cond}
 use Rattle.arith.specs.Lists.{greatest, keep}
 use Rattle.arith.specs.Least.{least}
 use Rattle.bus_model.specs.Bounds.{groups, alignments, choice_of}
 use Rattle.bus_model.specs.Levels.{fixing_order}
 use Rattle.bus_model.specs.Theory.Refine.{refined}
-use Rattle.arith.specs.declared.Found.{Found}
-use Rattle.arith.specs.declared.Found.TheVariants.{At}
 use Rattle.bus_model.specs.declared.Frame.{Frame}
 use Rattle.bus_model.specs.declared.Faults.{Faults}
 use Rattle.bus_model.specs.declared.Choice.{Choice}
@@ -30,8 +28,8 @@ unfoldable pub open_groups : Frame → List Choice → List ℕ
 open_groups k cs = keep (is_open cs) (fixing_order k)
 
 -- the first of them: k's own where it is open, and otherwise the least
-unfoldable pub next_open : Frame → List Choice → Found
-next_open k cs = cond (is_open cs k.group) (At k.group) (least (is_open cs) groups 1)
+unfoldable pub next_open : Frame → List Choice → Option ℕ
+next_open k cs = cond (is_open cs k.group) (Some k.group) (least (is_open cs) groups 1)
 
 -- the greatest response where m open groups more take each of their alignments
 unfoldable pub fixing_more : Faults → List Frame → Frame → ℕ → List Choice → ℕ

@@ -2,10 +2,10 @@
 use Rattle.busiest_command.specs.Laws.Text.{text-refused, text-done}
 use Rattle.busiest_command.proofs.write_text.Goals as goal
 
-pub returns-in-Refused : goal.returns-in-Refused
-returns-in-Refused c =
-    let refused = c.in-Refused.is in
-    let a = c.busiest_input-answer.ensures in
+pub returns-in-Err : goal.returns-in-Err
+returns-in-Err c =
+    let refused = c.in-Err.is in
+    let a = c.busiest_input.ensures in
     let line = text-refused _ _ _ _ _ _ a.value a.in_numbers _ refused in
     let left = rw refused at a.out_after in
     record {
@@ -13,5 +13,5 @@ returns-in-Refused c =
       out_after = rw (← line, ← left, ← c.number.ensures) c.write_refusal_line.ensures.out_after;
     }
 
-pub returns-in-Done : goal.returns-in-Done
-returns-in-Done c = let a = c.busiest_input-answer.ensures in let answer = text-done _ _ _ _ _ _ a.value a.in_numbers _ _ c.in-Done.is a.out_after in record { value = answer.0; out_after = answer.1 }
+pub returns-in-Ok : goal.returns-in-Ok
+returns-in-Ok c = let a = c.busiest_input.ensures in let answer = text-done _ _ _ _ _ _ a.value a.in_numbers _ _ c.in-Ok.is a.out_after in record { value = answer.0; out_after = answer.1 }

@@ -1,7 +1,6 @@
 -- `case_reader::unpack` meets its contract: each turn writes the number that comes next.
 use Rattle.std.proofs.Common.{ℕ, ◌/◌, ◌<◌, ◌≡◌, ◌∙◌, sym, ap, zero-add, List, length, get_or, arith}
 use Rattle.std.proofs.lemmas.List.{length-map}
-use Rattle.std.proofs.Math.ListN.{length-set}
 use Rattle.arith.specs.Lists.{range}
 use Rattle.arith.specs.Laws.Members.{length-range, get_d-table}
 use Rattle.arith.specs.Laws.Overwriting.{over-element}
@@ -19,9 +18,6 @@ word-at payload i l = get_d-table (word_at payload) 0 (length payload / 4) i 0 l
 pub loop-i-preserved : goal.loop-i-preserved
 loop-i-preserved c =
     let l = c.loop-i in
-    let payload : List ℕ = c.args.payload.now in record {
-      in_rows = simp length-set (omega arith);
-      in_payload = omega arith;
-      written = over-element (words_of payload) _ l.rows _ (length-words payload) l.i _ l.invariant.written c.if-payload-i.false
-          (omega arith) (c.word.ensures ∙ sym (word-at payload l.i c.if-payload-i.false));
-    }
+    let payload : List ℕ = c.args.payload.now in
+    let below : l.i < length payload / 4 = omega arith in
+    over-element (words_of payload) _ l.rows _ (length-words payload) l.i _ l.invariant below (omega arith) (c.word.ensures ∙ sym (word-at payload l.i below))

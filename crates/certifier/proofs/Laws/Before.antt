@@ -1,13 +1,14 @@
 -- With document 01's lengths loaded every answer is as before: the definitions as they stood without loaded lengths, and the laws that they are
 -- the same.
-use Rattle.std.specs.Prelude.{ℕ, zero, suc, ◌+◌, ◌/◌, ◌≡◌, cond, List, [], ◌++◌, length, get_or}
+use Rattle.std.specs.Prelude.{ℕ, zero, suc, ◌+◌, ◌/◌, ◌≡◌, cond, List, [], ◌++◌, length, get_or, Result, Ok, Err}
 use Rattle.std.proofs.Math.Path.{refl}
 use Rattle.std.proofs.Common.{sym, ap, ap₂}
+use Rattle.bus_model.specs.declared.Judgement.{Judgement}
+use Rattle.row_judgement.specs.declared.Refusal.{Refusal}
+use Rattle.table_checks.specs.declared.Refusal.{Refusal as TableRefusal}
 use Rattle.bus_model.specs.Frame.{row}
 use Rattle.bus_model.specs.Judgement.{judge}
 use Rattle.bus_model.specs.declared.Faults.TheVariants.{Never}
-use Rattle.table_checks.specs.declared.Checked.{Checked}
-use Rattle.table_checks.specs.declared.Checked.TheVariants.{Passed, Failed}
 use Rattle.table_checks.specs.Columns.{field, columns, identifier_column}
 use Rattle.table_checks.specs.Frames.{standard_lengths, frames_of, unmeasured}
 use Rattle.table_checks.specs.Checks.{first, first_of, file_size_check, rows_size_check, lines_check, group_check, groups_check, table_check, rows_check, loaded_check}
@@ -20,10 +21,6 @@ use Rattle.lengths_file.specs.Lengths.{lengths_of, lengths_file_check, text_of}
 use Rattle.lengths_file.specs.Input.{input_check}
 use Rattle.lengths_file.proofs.Laws.RoundTrip.{read-text}
 use Rattle.row_judgement.specs.declared.Cause.TheVariants.{NoSuchRow}
-use Rattle.row_judgement.specs.declared.Judged.{Judged}
-use Rattle.row_judgement.specs.declared.Judged.TheVariants.{Verdict, NotJudged}
-use Rattle.row_judgement.specs.declared.Bounded.{Bounded}
-use Rattle.row_judgement.specs.declared.Bounded.TheVariants.{NotBounded}
 use Rattle.row_judgement.specs.Refusal.{of_table}
 use Rattle.row_judgement.specs.Judge.{claim_of, no_row, judge_checked, judge_row, bound_frame, bound_checked, bound_row}
 use Rattle.certifier.specs.Listing.{listing_line, line_of, lines_from, listing_of}
@@ -31,26 +28,26 @@ use Rattle.certifier.specs.Encode.{judge_read, judge_file, bound_read, bound_fil
 
 -- ---- before
 
-unfoldable pub table_check_before : List ℕ → Checked
+unfoldable pub table_check_before : List ℕ → Result (Unit {0}) TableRefusal
 table_check_before t = first (lines_check t) (groups_check (frames_before t))
 
-unfoldable pub rows_check_before : List ℕ → Checked
+unfoldable pub rows_check_before : List ℕ → Result (Unit {0}) TableRefusal
 rows_check_before rows = first (rows_size_check (length rows)) (table_check_before rows)
 
-unfoldable pub judge_checked_before : Checked → List ℕ → ℕ → Judged
-judge_checked_before (Failed f) rows r = NotJudged (of_table f)
-judge_checked_before Passed rows r =
-    cond (no_row rows r) (NotJudged (record { cause = NoSuchRow; place = 0 }))
-    (Verdict (judge Never (frames_before rows) (row (frames_before rows) r) (claim_of rows r)))
+unfoldable pub judge_checked_before : Result (Unit {0}) TableRefusal → List ℕ → ℕ → Result Judgement Refusal
+judge_checked_before (Err f) rows r = Err (of_table f)
+judge_checked_before (Ok _) rows r =
+    cond (no_row rows r) (Err (record { cause = NoSuchRow; place = 0 }))
+    (Ok (judge Never (frames_before rows) (row (frames_before rows) r) (claim_of rows r)))
 
-unfoldable pub judge_row_before : List ℕ → ℕ → Judged
+unfoldable pub judge_row_before : List ℕ → ℕ → Result Judgement Refusal
 judge_row_before rows r = judge_checked_before (rows_check_before rows) rows r
 
-unfoldable pub bound_checked_before : Checked → List ℕ → ℕ → Bounded
-bound_checked_before (Failed f) rows r = NotBounded (of_table f)
-bound_checked_before Passed rows r = cond (no_row rows r) (NotBounded (record { cause = NoSuchRow; place = 0 })) (bound_frame (frames_before rows) r)
+unfoldable pub bound_checked_before : Result (Unit {0}) TableRefusal → List ℕ → ℕ → Result ℕ Refusal
+bound_checked_before (Err f) rows r = Err (of_table f)
+bound_checked_before (Ok _) rows r = cond (no_row rows r) (Err (record { cause = NoSuchRow; place = 0 })) (bound_frame (frames_before rows) r)
 
-unfoldable pub bound_row_before : List ℕ → ℕ → Bounded
+unfoldable pub bound_row_before : List ℕ → ℕ → Result ℕ Refusal
 bound_row_before rows r = bound_checked_before (rows_check_before rows) rows r
 
 unfoldable pub line_before : List ℕ → ℕ → List ℕ
@@ -64,20 +61,20 @@ unfoldable pub listing_before : List ℕ → List ℕ
 listing_before rows = lines_before rows (length rows / columns) 0
 
 -- of files, where no lengths were passed
-unfoldable pub read_check_before : List ℕ → Checked
+unfoldable pub read_check_before : List ℕ → Result (Unit {0}) TableRefusal
 read_check_before file = first (file_size_check (length file)) (table_check_before (fields_of file))
 
-unfoldable pub judge_read_before : Checked → List ℕ → ℕ → Judged
-judge_read_before (Failed f) file r = NotJudged (of_table f)
-judge_read_before Passed file r = judge_row_before (fields_of file) r
+unfoldable pub judge_read_before : Result (Unit {0}) TableRefusal → List ℕ → ℕ → Result Judgement Refusal
+judge_read_before (Err f) file r = Err (of_table f)
+judge_read_before (Ok _) file r = judge_row_before (fields_of file) r
 
-unfoldable pub bound_read_before : Checked → List ℕ → ℕ → Bounded
-bound_read_before (Failed f) file r = NotBounded (of_table f)
-bound_read_before Passed file r = bound_row_before (fields_of file) r
+unfoldable pub bound_read_before : Result (Unit {0}) TableRefusal → List ℕ → ℕ → Result ℕ Refusal
+bound_read_before (Err f) file r = Err (of_table f)
+bound_read_before (Ok _) file r = bound_row_before (fields_of file) r
 
 -- ---- the checks are the same: they ask for no length
 
-first_of-same : (c d : ℕ → Checked) → ((n : ℕ) → c n ≡ d n) → (m n : ℕ) → first_of c m n ≡ first_of d m n
+first_of-same : (c d : ℕ → Result (Unit {0}) TableRefusal) → ((n : ℕ) → c n ≡ d n) → (m n : ℕ) → first_of c m n ≡ first_of d m n
 unfolding first_of
 first_of-same c d same zero n = refl
 first_of-same c d same (suc m) n = ap₂ first (same n) (first_of-same c d same m (n + 1))
@@ -107,18 +104,18 @@ pub judge-before : (rows : List ℕ) (r : ℕ) → judge_row standard_lengths ro
 unfolding judge_row judge_row_before judge_checked judge_checked_before
 judge-before rows r = rw (loaded-before rows) (go (rows_check_before rows))
   where
-    go : (c : Checked) → judge_checked c standard_lengths rows r ≡ judge_checked_before c rows r
-    go (Failed f) = refl
-    go Passed = rw (frames-before rows)
+    go : (c : Result (Unit {0}) TableRefusal) → judge_checked c standard_lengths rows r ≡ judge_checked_before c rows r
+    go (Err f) = refl
+    go (Ok tt) = rw (frames-before rows)
 
 -- every bound,
 pub bound-before : (rows : List ℕ) (r : ℕ) → bound_row standard_lengths rows r ≡ bound_row_before rows r
 unfolding bound_row bound_row_before bound_checked bound_checked_before
 bound-before rows r = rw (loaded-before rows) (go (rows_check_before rows))
   where
-    go : (c : Checked) → bound_checked c standard_lengths rows r ≡ bound_checked_before c rows r
-    go (Failed f) = refl
-    go Passed = rw (frames-before rows)
+    go : (c : Result (Unit {0}) TableRefusal) → bound_checked c standard_lengths rows r ≡ bound_checked_before c rows r
+    go (Err f) = refl
+    go (Ok tt) = rw (frames-before rows)
 
 -- and every line.
 line-before : (rows : List ℕ) (i : ℕ) → line_of Never standard_lengths rows i ≡ line_before rows i
@@ -137,7 +134,7 @@ listing-before rows = lines-before rows (length rows / columns) 0
 -- ---- the calls: what they answer of document 01's lengths in a file is what they answered of the table alone
 
 -- That file passes, and holds these lengths.
-standard-file : (lengths_file_check (text_of standard_lengths) ≡ Passed) × (lengths_of (text_of standard_lengths) ≡ standard_lengths)
+standard-file : (lengths_file_check (text_of standard_lengths) ≡ Ok tt) × (lengths_of (text_of standard_lengths) ≡ standard_lengths)
 standard-file = read-text (get_or standard_lengths 0 []) (get_or standard_lengths 1 []) refl refl standard-loadable
 
 input-before : (file : List ℕ) → input_check (text_of standard_lengths) file ≡ read_check_before file
@@ -149,17 +146,17 @@ module _ (file : List ℕ) where
   unfolding judge_file judge_read judge_read_before
   judge-file-before r = rw (input-before file, standard-file.1) (go (read_check_before file))
     where
-      go : (c : Checked) → judge_read c standard_lengths file r ≡ judge_read_before c file r
-      go (Failed f) = refl
-      go Passed = judge-before (fields_of file) r
+      go : (c : Result (Unit {0}) TableRefusal) → judge_read c standard_lengths file r ≡ judge_read_before c file r
+      go (Err f) = refl
+      go (Ok tt) = judge-before (fields_of file) r
 
   pub bound-file-before : (r : ℕ) → bound_file (text_of standard_lengths) file r ≡ bound_read_before (read_check_before file) file r
   unfolding bound_file bound_read bound_read_before
   bound-file-before r = rw (input-before file, standard-file.1) (go (read_check_before file))
     where
-      go : (c : Checked) → bound_read c standard_lengths file r ≡ bound_read_before c file r
-      go (Failed f) = refl
-      go Passed = bound-before (fields_of file) r
+      go : (c : Result (Unit {0}) TableRefusal) → bound_read c standard_lengths file r ≡ bound_read_before c file r
+      go (Err f) = refl
+      go (Ok tt) = bound-before (fields_of file) r
 
   pub list-before : (out : List ℕ) → list_answer (text_of standard_lengths) file out ≡ answer_for (read_check_before file) (listing_before (fields_of file)) out
   list-before out = rw (input-before file, standard-file.1, listing-before (fields_of file))

@@ -1,8 +1,9 @@
 -- The number of an answer can be taken apart again: verdict, bound and margin of a judgement, number and place of a refusal.
-use Rattle.std.specs.Prelude.{ℕ, zero, suc, ◌+◌, ◌-◌, ◌*◌, ◌/◌, ◌%◌, ◌^◌, ◌≤◌, ◌<◌, ◌≡◌, ◌≢◌, not, ◌||◌, List, ltb, eqb, length, ℤ, ◌+ℤ◌, neg_ℤ}
+use Rattle.std.specs.Prelude.{ℕ, zero, suc, ◌+◌, ◌-◌, ◌*◌, ◌/◌, ◌%◌, ◌^◌, ◌≤◌, ◌<◌, ◌≡◌, ◌≢◌, not, ◌||◌, List, ltb, eqb, length, ℤ, ◌+ℤ◌, neg_ℤ, Result, Ok, Err}
 use Rattle.std.proofs.Math.Path.{refl, ap}
 use Rattle.std.proofs.Common.{sym, subst, ◌∙◌, arith, le→leb}
 use Rattle.std.proofs.Math.IntN.{pos, +ℤ_assoc, pos-ne-negsuc}
+use Rattle.table_checks.specs.declared.Refusal.{Refusal as TableRefusal}
 use Rattle.arith.specs.Laws.Tests.{cond_cases}
 use Rattle.bus_model.specs.declared.Frame.{Frame}
 use Rattle.bus_model.specs.declared.Faults.TheVariants.{Never}
@@ -12,8 +13,6 @@ use Rattle.bus_model.specs.declared.Judgement.{Judgement}
 use Rattle.bus_model.specs.Frame.{row}
 use Rattle.bus_model.specs.Pattern.{of_group, hyperperiod, pattern_releases}
 use Rattle.bus_model.specs.Judgement.{verdict, lacks_window, too_many_scenarios}
-use Rattle.table_checks.specs.declared.Checked.{Checked}
-use Rattle.table_checks.specs.declared.Checked.TheVariants.{Passed, Failed}
 use Rattle.table_checks.specs.Columns.{field, within, columns, most_lines, most_numbers, line_length}
 use Rattle.table_checks.specs.Frames.{frames_of, unmeasured}
 use Rattle.table_checks.specs.Checks.{first, first_of, breaks_limits, lengths_check, file_size_check, rows_size_check, malformed, unterminated, column_check, columns_check, stands_earlier, has_second_group, line_check, lines_check, group_check, groups_check, table_check, rows_check, loaded_check}
@@ -25,16 +24,12 @@ use Rattle.frame_table.specs.Laws.Layout.{length_fields}
 use Rattle.lengths_file.specs.Lengths.{lengths_of, is_text, text_check, lengths_file_check}
 use Rattle.lengths_file.specs.Input.{input_check}
 use Rattle.row_judgement.specs.declared.Refusal.{Refusal}
-use Rattle.row_judgement.specs.declared.Judged.{Judged}
-use Rattle.row_judgement.specs.declared.Judged.TheVariants.{Verdict, NotJudged}
-use Rattle.row_judgement.specs.declared.Bounded.{Bounded}
-use Rattle.row_judgement.specs.declared.Bounded.TheVariants.{Bound, NotBounded}
 use Rattle.row_judgement.specs.Refusal.{number_of}
 use Rattle.row_judgement.specs.Judge.{no_row, judge_checked, judge_row, bound_frame, bound_checked, bound_row}
 use Rattle.row_judgement.specs.Laws.Returns.{number-range}
 use Rattle.certifier.specs.Encode.{judge_read, judge_file, bound_read, bound_file, encode_refusal, encode_judged, encode_bounded}
 use Rattle.certifier.specs.Steps.{Encodable}
-use Rattle.certifier.proofs.Laws.Small.{judged-encodable}
+use Rattle.certifier.proofs.Laws.Small.{judged-encodable, file-encodable}
 
 -- ---- the parts
 
@@ -58,14 +53,14 @@ pub record JudgementParts (j : Judgement) (z : ℤ) : Type 0 where
 
 module _ (j : Judgement) (n : ℕ) (shifted : pos 1000000 +ℤ j.margin ≡ pos n) where
   -- Where the margin and a million are a natural number, so is the whole.
-  pub judgement-number : encode_judged (Verdict j) ≡ pos (verdict j.outcome * 10 ^ 14 + j.bound * 10 ^ 7 + n)
+  pub judgement-number : encode_judged (Ok j) ≡ pos (verdict j.outcome * 10 ^ 14 + j.bound * 10 ^ 7 + n)
   unfolding encode_judged
   judgement-number =
       +ℤ_assoc (pos (verdict j.outcome * 10 ^ 14 + j.bound * 10 ^ 7)) (pos 1000000) j.margin
       ∙ ap (λ (z : ℤ). pos (verdict j.outcome * 10 ^ 14 + j.bound * 10 ^ 7) +ℤ z) shifted
 
   -- Where bound and shifted margin have seven digits, the parts stand apart.
-  pub judgement-parts : j.bound < 10 ^ 7 → n < 10 ^ 7 → JudgementParts j (encode_judged (Verdict j))
+  pub judgement-parts : j.bound < 10 ^ 7 → n < 10 ^ 7 → JudgementParts j (encode_judged (Ok j))
   judgement-parts b l =
       let m : ℕ = verdict j.outcome * 10 ^ 14 + j.bound * 10 ^ 7 + n in
       record {
@@ -114,15 +109,15 @@ refusal-differs f p e = refusal-below f p.size (e ∙ p.is)
 -- ---- the places of refusals: a line, a group or a row, at most 64
 
 -- where the check fails, its place is small
-abbrev CheckPlaced : Checked → Type 0
-CheckPlaced Passed = Unit {0}
-CheckPlaced (Failed f) = f.place ≤ 64
+abbrev CheckPlaced : Result (Unit {0}) TableRefusal → Type 0
+CheckPlaced (Ok _) = Unit {0}
+CheckPlaced (Err f) = f.place ≤ 64
 
-first-placed : (a b : Checked) → CheckPlaced a → (a ≡ Passed → CheckPlaced b) → CheckPlaced (first a b)
-first-placed Passed b p q = q refl
-first-placed (Failed f) b p q = p
+first-placed : (a b : Result (Unit {0}) TableRefusal) → CheckPlaced a → (a ≡ Ok tt → CheckPlaced b) → CheckPlaced (first a b)
+first-placed (Ok _) b p q = q refl
+first-placed (Err f) b p q = p
 
-first_of-placed : (check : ℕ → Checked) (m n : ℕ) → ((i : ℕ) → n ≤ i → i < n + m → CheckPlaced (check i)) → CheckPlaced (first_of check m n)
+first_of-placed : (check : ℕ → Result (Unit {0}) TableRefusal) (m n : ℕ) → ((i : ℕ) → n ≤ i → i < n + m → CheckPlaced (check i)) → CheckPlaced (first_of check m n)
 unfolding first_of
 first_of-placed check zero n each = tt
 first_of-placed check (suc m) n each =
@@ -192,35 +187,35 @@ unfolding input_check
 input-placed lengths file = first-placed (lengths_file_check lengths) (read_check file) (lengths-file-placed lengths) (λ e. file-placed file)
 
 -- where there is no judgement, and where there is no bound, the place is small
-abbrev JudgedPlaced : Judged → Type 0
-JudgedPlaced (Verdict j) = Unit {0}
-JudgedPlaced (NotJudged f) = f.place ≤ 64
+abbrev JudgedPlaced : Result Judgement Refusal → Type 0
+JudgedPlaced (Ok j) = Unit {0}
+JudgedPlaced (Err f) = f.place ≤ 64
 
-abbrev BoundedPlaced : Bounded → Type 0
-BoundedPlaced (Bound b) = Unit {0}
-BoundedPlaced (NotBounded f) = f.place ≤ 64
+abbrev BoundedPlaced : Result ℕ Refusal → Type 0
+BoundedPlaced (Ok b) = Unit {0}
+BoundedPlaced (Err f) = f.place ≤ 64
 
 -- ---- the parts of an answer's number
 
 -- the number z holds the judgement's parts or the refusal's
-abbrev pub JudgedParts : Judged → ℤ → Type 0
-JudgedParts (Verdict j) z = JudgementParts j z
-JudgedParts (NotJudged f) z = RefusalParts f z
+abbrev pub JudgedParts : Result Judgement Refusal → ℤ → Type 0
+JudgedParts (Ok j) z = JudgementParts j z
+JudgedParts (Err f) z = RefusalParts f z
 
 -- the number z is the bound, or holds the refusal's parts
-abbrev pub BoundedParts : Bounded → ℤ → Type 0
-BoundedParts (Bound b) z = z ≡ pos b
-BoundedParts (NotBounded f) z = RefusalParts f z
+abbrev pub BoundedParts : Result ℕ Refusal → ℤ → Type 0
+BoundedParts (Ok b) z = z ≡ pos b
+BoundedParts (Err f) z = RefusalParts f z
 
-judged-parts : (a : Judged) → Encodable a → JudgedPlaced a → JudgedParts a (encode_judged a)
+judged-parts : (a : Result Judgement Refusal) → Encodable a → JudgedPlaced a → JudgedParts a (encode_judged a)
 unfolding encode_judged
-judged-parts (Verdict j) (b, (n, shifted, l)) p = judgement-parts j n shifted (omega arith) (omega arith)
-judged-parts (NotJudged f) e p = refusal-parts f (omega arith)
+judged-parts (Ok j) (b, (n, shifted, l)) p = judgement-parts j n shifted (omega arith) (omega arith)
+judged-parts (Err f) e p = refusal-parts f (omega arith)
 
-bounded-parts : (a : Bounded) → BoundedPlaced a → BoundedParts a (encode_bounded a)
+bounded-parts : (a : Result ℕ Refusal) → BoundedPlaced a → BoundedParts a (encode_bounded a)
 unfolding encode_bounded
-bounded-parts (Bound b) p = refl
-bounded-parts (NotBounded f) p = refusal-parts f (omega arith)
+bounded-parts (Ok b) p = refl
+bounded-parts (Err f) p = refusal-parts f (omega arith)
 
 -- ---- the answers for rows in memory
 
@@ -229,17 +224,17 @@ module _ (ls : List (List ℕ)) (rows : List ℕ) (r : ℕ) where
   unfolding judge_row judge_checked
   row-judged = go (loaded_check ls rows) (loaded-placed ls rows)
     where
-      go : (c : Checked) → CheckPlaced c → JudgedPlaced (judge_checked c ls rows r)
-      go (Failed f) p = p
-      go Passed p = cond_cases JudgedPlaced (no_row rows r) (λ t. omega arith) (λ t. tt)
+      go : (c : Result (Unit {0}) TableRefusal) → CheckPlaced c → JudgedPlaced (judge_checked c ls rows r)
+      go (Err f) p = p
+      go (Ok tt) p = cond_cases JudgedPlaced (no_row rows r) (λ t. omega arith) (λ t. tt)
 
   row-bounded : BoundedPlaced (bound_row ls rows r)
   unfolding bound_row bound_checked bound_frame
   row-bounded = go (loaded_check ls rows) refl (loaded-placed ls rows)
     where
-      go : (c : Checked) → loaded_check ls rows ≡ c → CheckPlaced c → BoundedPlaced (bound_checked c ls rows r)
-      go (Failed f) e p = p
-      go Passed e p =
+      go : (c : Result (Unit {0}) TableRefusal) → loaded_check ls rows ≡ c → CheckPlaced c → BoundedPlaced (bound_checked c ls rows r)
+      go (Err f) e p = p
+      go (Ok tt) e p =
           cond_cases BoundedPlaced (no_row rows r) (λ t. omega arith)
           (λ has.
           let few = (accepted-size rows (loaded-both ls rows e).1).most in
@@ -248,10 +243,10 @@ module _ (ls : List (List ℕ)) (rows : List ℕ) (r : ℕ) where
           (λ w. cond_cases BoundedPlaced (too_many_scenarios (frames_of ls rows) (row (frames_of ls rows) r)) (λ m. omega arith) (λ m. tt)))
 
   -- The place of a refusal is small.
-  pub row-place-small : (f : Refusal) → judge_row ls rows r ≡ NotJudged f → f.place ≤ 64
+  pub row-place-small : (f : Refusal) → judge_row ls rows r ≡ Err f → f.place ≤ 64
   row-place-small f e = subst JudgedPlaced e row-judged
 
-  pub row-bound-place-small : (f : Refusal) → bound_row ls rows r ≡ NotBounded f → f.place ≤ 64
+  pub row-bound-place-small : (f : Refusal) → bound_row ls rows r ≡ Err f → f.place ≤ 64
   row-bound-place-small f e = subst BoundedPlaced e row-bounded
 
   -- Whatever the rows and the row, the number tells the answer's parts.
@@ -264,32 +259,32 @@ module _ (ls : List (List ℕ)) (rows : List ℕ) (r : ℕ) where
 -- ---- the answers for files
 
 module _ (lengths file : List ℕ) (r : ℕ) where
-  file-judged : Encodable (judge_file lengths file r) × JudgedPlaced (judge_file lengths file r)
+  file-judged : JudgedPlaced (judge_file lengths file r)
   unfolding judge_file judge_read
   file-judged = go (input_check lengths file) (input-placed lengths file)
     where
-      go : (c : Checked) → CheckPlaced c → Encodable (judge_read c (lengths_of lengths) file r) × JudgedPlaced (judge_read c (lengths_of lengths) file r)
-      go (Failed f) p = (tt, p)
-      go Passed p = (judged-encodable (lengths_of lengths) (fields_of file) r, row-judged (lengths_of lengths) (fields_of file) r)
+      go : (c : Result (Unit {0}) TableRefusal) → CheckPlaced c → JudgedPlaced (judge_read c (lengths_of lengths) file r)
+      go (Err f) p = p
+      go (Ok tt) p = row-judged (lengths_of lengths) (fields_of file) r
 
   file-bounded : BoundedPlaced (bound_file lengths file r)
   unfolding bound_file bound_read
   file-bounded = go (input_check lengths file) (input-placed lengths file)
     where
-      go : (c : Checked) → CheckPlaced c → BoundedPlaced (bound_read c (lengths_of lengths) file r)
-      go (Failed f) p = p
-      go Passed p = row-bounded (lengths_of lengths) (fields_of file) r
+      go : (c : Result (Unit {0}) TableRefusal) → CheckPlaced c → BoundedPlaced (bound_read c (lengths_of lengths) file r)
+      go (Err f) p = p
+      go (Ok tt) p = row-bounded (lengths_of lengths) (fields_of file) r
 
   -- The place of a refusal is small.
-  pub place-small : (f : Refusal) → judge_file lengths file r ≡ NotJudged f → f.place ≤ 64
-  place-small f e = subst JudgedPlaced e file-judged.1
+  pub place-small : (f : Refusal) → judge_file lengths file r ≡ Err f → f.place ≤ 64
+  place-small f e = subst JudgedPlaced e file-judged
 
-  pub bound-place-small : (f : Refusal) → bound_file lengths file r ≡ NotBounded f → f.place ≤ 64
+  pub bound-place-small : (f : Refusal) → bound_file lengths file r ≡ Err f → f.place ≤ 64
   bound-place-small f e = subst BoundedPlaced e file-bounded
 
   -- Whatever the files and the row, the number tells the answer's parts.
   pub judge-parts : JudgedParts (judge_file lengths file r) (encode_judged (judge_file lengths file r))
-  judge-parts = judged-parts (judge_file lengths file r) file-judged.0 file-judged.1
+  judge-parts = judged-parts (judge_file lengths file r) (file-encodable lengths file r) file-judged
 
   pub bound-parts : BoundedParts (bound_file lengths file r) (encode_bounded (bound_file lengths file r))
   bound-parts = bounded-parts (bound_file lengths file r) file-bounded

@@ -1,12 +1,10 @@
 -- What the entry that checks a log answers, case by case.
-use Rattle.std.specs.Prelude.{ℕ, ◌+◌, ◌*◌, ◌≤◌, ◌<◌, ◌≡◌, false, List, ◌++◌, eqb, ℤ, pos, neg_ℤ, length, drop}
+use Rattle.std.specs.Prelude.{ℕ, ◌+◌, ◌*◌, ◌≤◌, ◌<◌, ◌≡◌, false, List, ◌++◌, eqb, ℤ, pos, neg_ℤ, length, drop, Ok, Err}
 use borrow.Author.Tests.{ne_eqb, lt-ltb, le-ltb}
 use Rattle.frame_table.specs.Table.{returns_for}
 use Rattle.log_check.specs.declared.Refusal.{Refusal}
-use Rattle.log_check.specs.declared.Outcome.TheVariants.{Accepted, Refused}
-use Rattle.log_check.specs.declared.LogChecked.{LogChecked}
 use Rattle.log_check.specs.Refusal.{number_of}
-use Rattle.log_check.specs.Returns.{LogReturned, as_shown, outcome_returns, log_returns}
+use Rattle.log_check.specs.Returns.{LogReturned, as_shown, log_returns}
 use Rattle.log_check.specs.Laws.Returns.{number-some}
 use Rattle.certifier.specs.LogEntry.{starts_answered, encode_answered, starts_area}
 
@@ -26,13 +24,11 @@ module _ (starts old : List ℕ) (size : length starts ≡ 16) where
   stored-all h = let t = le-ltb (length old) 16 h in (rw (size, t), rw (size, t))
 
 -- A refusal leaves the area.
-pub stored-not : (a : LogChecked) (f : Refusal) (old : List ℕ) → a.outcome ≡ Refused f
-    → Stored (log_returns a) old (neg_ℤ (pos (number_of f.cause * 10000 + f.place))) old
-unfolding log_returns outcome_returns starts_answered encode_answered starts_area returns_for
-stored-not a f old e = let n : eqb (number_of f.cause) 0 ≡ false = ne_eqb _ 0 (number-some f.cause) in (rw (e, n, n), rw (e, n, n))
+pub stored-not : (f : Refusal) (old : List ℕ) → Stored (log_returns (Err f)) old (neg_ℤ (pos (number_of f.cause * 10000 + f.place))) old
+unfolding log_returns starts_answered encode_answered starts_area returns_for
+stored-not f old = let n : eqb (number_of f.cause) 0 ≡ false = ne_eqb _ 0 (number-some f.cause) in (rw (n, n), rw (n, n))
 
 -- Starts that are shown are stored as such.
-pub stored-shown : (a : LogChecked) (old : List ℕ) {answer : ℤ} {new : List ℕ} → a.outcome ≡ Accepted
-    → Stored (as_shown a.starts) old answer new → Stored (log_returns a) old answer new
-unfolding log_returns outcome_returns
-stored-shown a old e both = rw e both
+pub stored-shown : (starts old : List ℕ) {answer : ℤ} {new : List ℕ} → Stored (as_shown starts) old answer new → Stored (log_returns (Ok starts)) old answer new
+unfolding log_returns
+stored-shown starts old both = both

@@ -1,5 +1,5 @@
 -- Bound and margin of a judgement are small.
-use Rattle.std.specs.Prelude.{ℕ, ◌+◌, ◌-◌, ◌≤◌, ◌≡◌, refl, List, ℤ, pos, ◌+ℤ◌, ◌-ℤ◌}
+use Rattle.std.specs.Prelude.{ℕ, ◌+◌, ◌-◌, ◌≤◌, ◌≡◌, refl, List, ℤ, pos, ◌+ℤ◌, ◌-ℤ◌, Result, Ok, Err}
 use Rattle.std.proofs.Common.{arith}
 use Rattle.arith.specs.Laws.Signed.{add-sub}
 use Rattle.bus_model.specs.declared.Outcome.{Outcome}
@@ -11,6 +11,12 @@ use Rattle.bus_model.specs.declared.Faults.TheVariants.{Never, Apart}
 use Rattle.table_checks.proofs.Laws.Accepted.{accepted-limits, accepted-valid}
 use Rattle.row_judgement.specs.Judge.{claim_of, judge_row, judge_faults}
 use Rattle.row_judgement.specs.Laws.Judged.{row_inside, by-judged, by-faults}
+use Rattle.table_checks.specs.declared.Refusal.{Refusal as TableRefusal}
+use Rattle.frame_table.specs.Text.{fields_of}
+use Rattle.lengths_file.specs.Lengths.{lengths_of}
+use Rattle.lengths_file.specs.Input.{input_check}
+use Rattle.certifier.specs.Encode.{judge_read, judge_file}
+use Rattle.certifier.specs.FaultsEntry.{judge_faults_read, judge_faults_file}
 use Rattle.certifier.specs.Steps.{Encodable}
 
 -- a signed number and a million are a number up to two million
@@ -45,3 +51,20 @@ faults-encodable ls rows r g =
     (λ loadable accepted l gap.
     let b = judged-le-limit (accepted-valid rows accepted ls loadable) (row_inside ls rows l) (Apart g) (claim_of rows r) in
     (b, margin-small (claim_of rows r) _ (accepted-limits rows accepted r l).claim-max b))
+
+-- The same of files.
+pub file-encodable : (lengths file : List ℕ) (r : ℕ) → Encodable (judge_file lengths file r)
+unfolding judge_file judge_read
+file-encodable lengths file r = go (input_check lengths file)
+  where
+    go : (c : Result (Unit {0}) TableRefusal) → Encodable (judge_read c (lengths_of lengths) file r)
+    go (Err f) = tt
+    go (Ok tt) = judged-encodable (lengths_of lengths) (fields_of file) r
+
+pub file-faults-encodable : (lengths file : List ℕ) (r g : ℕ) → Encodable (judge_faults_file lengths file r g)
+unfolding judge_faults_file judge_faults_read
+file-faults-encodable lengths file r g = go (input_check lengths file)
+  where
+    go : (c : Result (Unit {0}) TableRefusal) → Encodable (judge_faults_read c (lengths_of lengths) file r g)
+    go (Err f) = tt
+    go (Ok tt) = faults-encodable (lengths_of lengths) (fields_of file) r g

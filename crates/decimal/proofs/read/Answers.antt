@@ -2,7 +2,6 @@ use Prim.Native.Nat.{ℕ, ◌+◌, ◌≤◌, ◌<◌}
 use mathlib.Core.Path.{◌≡◌, refl, ap, sym, ◌∙◌}
 use mathlib.Core.List.{List}
 use native.Mathlib.Numerals.{add-one}
-use borrow.Author.Rules.{rules}
 use lib.ListN.{length, get_or, drop, drop_of_length-le}
 use lib.Seq.{drop-cons}
 use Rattle.decimal.specs.declared.Prefix.{Prefix}
@@ -16,14 +15,14 @@ turn s i p q h e = rw (e, add-one, drop-cons s i 0 h)
 done : (s : List ℕ) (i : ℕ) (p : Prefix) → length s ≤ i → extended_by p (drop i s) ≡ p
 done s i p h = rw (drop_of_length-le s h)
 
-pub loop-i-init : goal.loop-i-init
-loop-i-init c = (refl, search rules)
+pub loop-byte-init : goal.loop-byte-init
+loop-byte-init c = refl
 
-pub loop-i-preserved : goal.loop-i-preserved
-loop-i-preserved c =
-    (turn _ _ _ _ c.loop-i-test.true c.extend-p.ensures ∙ c.loop-i.invariant.0, search rules)
+pub loop-byte-preserved : goal.loop-byte-preserved
+loop-byte-preserved c =
+    turn _ _ _ _ c.loop-byte-test.true c.extend-p.ensures ∙ c.loop-byte.invariant
 
 pub returns : goal.returns
 unfolding read_column
 returns c =
-    c.value.ensures ∙ ap value_of (sym (done _ _ _ c.loop-i-test.false) ∙ c.loop-i.invariant.0)
+    c.value.ensures ∙ ap value_of (sym (done _ _ _ c.loop-byte-test.false) ∙ c.loop-byte.invariant)

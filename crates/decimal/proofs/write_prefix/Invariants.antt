@@ -10,6 +10,3 @@ use Rattle.decimal.proofs.write_prefix.Given as goal
 abbrev pub invariant-loop-i : goal.invariant-loop-i
 invariant-loop-i l =
     (written l.i l.p (drop l.i l.out) ≡ written (length l.initial.out) l.initial.p []) × (l.i ≤ length l.out) × (length l.out ≡ length l.initial.out)
-
-abbrev pub decreases-loop-i : goal.decreases-loop-i
-decreases-loop-i l = l.i

@@ -26,10 +26,10 @@ pub returns-then-value-lt0 : goal.returns-then-value-lt0
 returns-then-value-lt0 c =
     let f = c.ranges.value in
     c.write_prefix.ensures
-    ∙ negative _ c.args.value _ (rw (to_z-of_z f) at c.if-value-lt0.true) (rw (to_z-of_z f) at c.magnitude-n.ensures)
+    ∙ negative _ c.args.value _ (rw (to_z-of_z f) at c.if-value-lt0.true) (rw (to_z-of_z f) at c.unsigned_abs-n.ensures.value)
 
 pub returns-else-value-lt0 : goal.returns-else-value-lt0
 returns-else-value-lt0 c =
     let f = c.ranges.value in
     c.write_prefix-else-value-lt0.ensures
-    ∙ positive _ c.args.value _ (rw (to_z-of_z f) at c.if-value-lt0.false) (rw (to_z-of_z f) at c.magnitude-n.ensures)
+    ∙ positive _ c.args.value _ (rw (to_z-of_z f) at c.if-value-lt0.false) (rw (to_z-of_z f) at c.unsigned_abs-n.ensures.value)

@@ -1,17 +1,14 @@
 -- The text goes by the answer and the case.
-use Rattle.std.specs.Prelude.{ℕ, ◌+◌, ◌-◌, ◌/◌, ◌<◌, ◌≡◌, refl, List, ◌++◌, length, drop}
+use Rattle.std.specs.Prelude.{ℕ, ◌+◌, ◌-◌, ◌/◌, ◌<◌, ◌≡◌, refl, List, ◌++◌, length, drop, Option, Some, None, Ok, Err}
 use Rattle.std.proofs.Common.{sym, ◌∙◌, append_assoc, append-nil, arith, length-append}
 use borrow.Rule.Slice.PartMut.{put_mid}
-use Rattle.arith.specs.declared.Found.TheVariants.{At, Nothing}
 use Rattle.arith.specs.Laws.Overwriting.{begun-none, begun-part}
-use Rattle.bus_model.specs.Case.{no_case}
 use Rattle.bus_model.specs.declared.Case.{Case}
 use Rattle.bus_model.specs.declared.Judgement.{Judgement}
 use Rattle.decimal.specs.Numbered.{numbered_lines}
 use Rattle.decimal.specs.Laws.{length-numbered}
 use Rattle.table_checks.specs.Columns.{columns}
 use Rattle.row_judgement.specs.declared.Refusal.{Refusal}
-use Rattle.row_judgement.specs.declared.Judged.TheVariants.{Verdict, NotJudged}
 use Rattle.row_judgement.specs.declared.Explained.{Explained}
 use Rattle.row_judgement.specs.Refusal.{number_of}
 use Rattle.row_judgement.specs.Judge.{judge_row}
@@ -23,33 +20,33 @@ use Rattle.explain_command.specs.Laws.Lines.{length-instance}
 
 -- ---- an answer's text
 
-pub text-refused : (identifier : ℕ) (e : Explained) (f : Refusal) → e.judged ≡ NotJudged f → text_of identifier e ≡ refusal_line (number_of f.cause) f.place
+pub text-refused : (identifier : ℕ) (e : Explained) (f : Refusal) → e.judged ≡ Err f → text_of identifier e ≡ refusal_line (number_of f.cause) f.place
 unfolding text_of
 text-refused identifier e f is = rw is
 
-pub text-turned : (identifier : ℕ) (f : Refusal) → text_of identifier (record { judged = NotJudged f; breaking = no_case }) ≡ refusal_line (number_of f.cause) f.place
+pub text-turned : (identifier : ℕ) (f : Refusal) → text_of identifier (record { judged = Err f; breaking = None }) ≡ refusal_line (number_of f.cause) f.place
 unfolding text_of
 text-turned identifier f = refl
 
-pub text-judged : (identifier : ℕ) (e : Explained) (j : Judgement) → e.judged ≡ Verdict j → text_of identifier e ≡ listing_line identifier j ++ case_text e.breaking
+pub text-judged : (identifier : ℕ) (e : Explained) (j : Judgement) → e.judged ≡ Ok j → text_of identifier e ≡ listing_line identifier j ++ case_text e.breaking
 unfolding text_of
 text-judged identifier e j is = rw is
 
 -- A row that is judged stands in the table.
-pub judged-inside : (ls : List (List ℕ)) (rows : List ℕ) (r : ℕ) (j : Judgement) → judge_row ls rows r ≡ Verdict j → r < length rows / columns
+pub judged-inside : (ls : List (List ℕ)) (rows : List ℕ) (r : ℕ) (j : Judgement) → judge_row ls rows r ≡ Ok j → r < length rows / columns
 judged-inside ls rows r =
-    by-judged (λ answer. (j : Judgement) → answer ≡ Verdict j → r < length rows / columns) ls rows r
+    by-judged (λ answer. (j : Judgement) → answer ≡ Ok j → r < length rows / columns) ls rows r
     (λ f j e. absurd (let z : ◌≡◌ {A = ℕ} 0 1 = cc in omega arith)) (λ loadable accepted l j e. l)
 
 -- ---- a case's text
 
-pub text-none : (c : Case) (line : List ℕ) → c.instance ≡ Nothing → line ++ case_text c ≡ line
+pub text-none : (o : Option Case) (line : List ℕ) → o ≡ None → line ++ case_text o ≡ line
 unfolding case_text
-text-none c line is = rw is (append-nil line)
+text-none o line is = rw is (append-nil line)
 
-pub text-case : (c : Case) (q : ℕ) → c.instance ≡ At q → case_text c ≡ numbered_lines 8 c.alignments 16 0 ++ instance_line q
+pub text-case : (o : Option Case) (c : Case) → o ≡ Some c → case_text o ≡ numbered_lines 8 c.alignments 16 0 ++ instance_line c.instance
 unfolding case_text
-text-case c q is = rw is
+text-case o c is = rw is
 
 module _ (identifier : ℕ) (j : Judgement) (alignments : List ℕ) (q : ℕ) where
   pub length-case : length (listing_line identifier j ++ (numbered_lines 8 alignments 16 0 ++ instance_line q)) ≡ 31 + 192 + instance_width q + 1

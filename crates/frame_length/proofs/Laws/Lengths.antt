@@ -3,7 +3,7 @@
 --     frame-most        for both kinds of frames
 --     returned-most     for what is returned, refusals too
 --     returns-settle    no two answers return the same
-use Rattle.std.specs.Prelude.{ℕ, zero, suc, ◌+◌, ◌*◌, ◌≤◌, ◌<◌, ◌≡◌, refl, Bool, true, false, cond, ◌&&◌, leb, eqb, length, get_or}
+use Rattle.std.specs.Prelude.{ℕ, zero, suc, ◌+◌, ◌*◌, ◌≤◌, ◌<◌, ◌≡◌, refl, Bool, true, false, cond, ◌&&◌, leb, eqb, length, get_or, Option, Some, None}
 use Rattle.std.proofs.Common.{ap, arith, leb-true, length-append}
 use mathlib.Core.List.{List, [], ◌∷◌, flat_map}
 use Rattle.std.proofs.lemmas.Bool.{lt-leb}
@@ -11,8 +11,6 @@ use Rattle.arith.specs.Laws.Tests.{by-test, and_both}
 use Rattle.table_checks.specs.Columns.{is_identifier}
 use Rattle.table_checks.specs.Frames.{kind_place, stuffable, length_rule, standard_lengths, largest_length}
 use Rattle.table_checks.proofs.Laws.Lengths.{standard-follow, length-is}
-use Rattle.frame_length.specs.declared.Measured.{Measured}
-use Rattle.frame_length.specs.declared.Measured.TheVariants.{Length, Refused}
 use Rattle.frame_length.specs.DataFrame.{bits, base_arbitration, extended_arbitration, arbitration, control, data_field, before_crc}
 use Rattle.frame_length.specs.Stuffing.{stuff}
 use Rattle.frame_length.specs.FrameLength.{with_crc, stuffed_part, frame_length, is_data_frame, FrameReturned, frame_returns, measured_returns}
@@ -70,14 +68,14 @@ returned-most kind identifier payload =
     (λ e. rw e (omega arith))
 
 -- A payload of more than 8 bytes is refused.
-pub refused-long : (kind identifier : ℕ) (payload : List ℕ) → 8 < length payload → frame_returns kind identifier payload ≡ measured_returns Refused
+pub refused-long : (kind identifier : ℕ) (payload : List ℕ) → 8 < length payload → frame_returns kind identifier payload ≡ measured_returns None
 unfolding frame_returns is_data_frame measured_returns
 refused-long kind identifier payload long = by-test (is_identifier kind identifier) (λ e. rw (e, lt-leb _ _ long)) (λ e. rw e)
 
 -- What is returned settles the answer.
-pub returns-settle : (a b : Measured) → measured_returns a ≡ measured_returns b → a ≡ b
+pub returns-settle : (a b : Option ℕ) → measured_returns a ≡ measured_returns b → a ≡ b
 unfolding measured_returns
-returns-settle (Length m) (Length n) e = ap Length (ap (λ (r : FrameReturned). r.ticks) e)
-returns-settle (Length m) Refused e = let z : ◌≡◌ {A = ℕ} 0 16 = ap (λ (r : FrameReturned). r.number) e in absurd (omega arith)
-returns-settle Refused (Length n) e = let z : ◌≡◌ {A = ℕ} 16 0 = ap (λ (r : FrameReturned). r.number) e in absurd (omega arith)
-returns-settle Refused Refused e = refl
+returns-settle (Some m) (Some n) e = ap Some (ap (λ (r : FrameReturned). r.ticks) e)
+returns-settle (Some m) None e = let z : ◌≡◌ {A = ℕ} 0 16 = ap (λ (r : FrameReturned). r.number) e in absurd (omega arith)
+returns-settle None (Some n) e = let z : ◌≡◌ {A = ℕ} 16 0 = ap (λ (r : FrameReturned). r.number) e in absurd (omega arith)
+returns-settle None None e = refl

@@ -9,6 +9,3 @@ use Rattle.frame_length.proofs.send_bits.Given as goal
 abbrev pub invariant-loop-j : goal.invariant-loop-j
 invariant-loop-j l =
     (send_all l.s (bits l.j l.n) ≡ send_all l.initial.s (bits l.w l.n)) × (l.j ≤ l.w) × (l.s.run ≤ 4) × (l.s.length + 2 * l.j ≤ l.initial.s.length + 2 * l.w)
-
-abbrev pub decreases-loop-j : goal.decreases-loop-j
-decreases-loop-j l = l.j

@@ -17,20 +17,19 @@ done : (xs : List ℕ) (i : ℕ) (s : Sent) → length xs ≤ i → send_all s (
 unfolding send_all data_field flat_map
 done xs i s h = rw (drop_of_length-le xs h)
 
-pub loop-i-init : goal.loop-i-init
-loop-i-init c = (refl, omega arith, omega arith, omega arith)
+pub loop-byte-init : goal.loop-byte-init
+loop-byte-init c = (refl, omega arith, omega arith)
 
-pub loop-i-preserved : goal.loop-i-preserved
-loop-i-preserved c =
-    let l = c.loop-i in
+pub loop-byte-preserved : goal.loop-byte-preserved
+loop-byte-preserved c =
+    let l = c.loop-byte in
     let sent = c.send_bits-s.ensures in (
-      turn _ l.i l.s _ c.loop-i-test.true (rw c.wide.ensures at sent.value) ∙ l.invariant.0,
-      omega arith,
+      turn _ l.byte-index l.s _ c.loop-byte-test.true (rw c.from.ensures at sent.value) ∙ l.invariant.0,
       sent.within.0,
       omega (arith, sent.within),
     )
 
 pub returns : goal.returns
 returns c =
-    let l = c.loop-i in
-    record { value = sym (done _ l.i l.s c.loop-i-test.false) ∙ l.invariant.0; within = (l.invariant.2, omega arith) }
+    let l = c.loop-byte in
+    record { value = sym (done _ l.byte-index l.s c.loop-byte-test.false) ∙ l.invariant.0; within = (l.invariant.1, omega arith) }

@@ -9,7 +9,7 @@ use Rattle.frame_length_command.specs.Laws.Digits.{length-payload, payload-at}
 use Rattle.frame_length_command.proofs.decode.Goals as goal
 
 pub loop-i-init : goal.loop-i-init
-loop-i-init c = (refl, omega arith, refl)
+loop-i-init c = (refl, refl)
 
 pub overflow_mul-bytes : goal.overflow_mul-bytes
 unfolding Digits
@@ -31,10 +31,9 @@ loop-i-preserved c =
     let byte : 16 * c.hex_value.result + c.hex_value-in-loop-i.result ≡ byte_at hex l.i = ap₂ (λ (h k : ℕ). 16 * h + k) c.hex_value.ensures c.hex_value-in-loop-i.ensures in (
       over-element _ _ _ _ (length-payload hex) _ _ l.invariant.0 c.loop-i-test.true (search rules) (byte ∙ sym (payload-at hex l.i c.loop-i-test.true)),
       search rules,
-      search rules,
     )
 
 pub returns : goal.returns
 returns c =
     let l = c.loop-i in
-    over-all _ _ _ _ (length-payload _) _ l.invariant.0 l.invariant.1 c.loop-i-test.false
+    over-all _ _ _ _ (length-payload _) _ l.invariant.0 (search rules) c.loop-i-test.false

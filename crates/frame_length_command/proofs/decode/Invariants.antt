@@ -7,7 +7,4 @@ use Rattle.frame_length_command.specs.Command.{payload_of}
 use Rattle.frame_length_command.proofs.decode.Given as goal
 
 abbrev pub invariant-loop-i : goal.invariant-loop-i
-invariant-loop-i l = (l.bytes ≡ over (payload_of l.hex) l.i l.initial.bytes) × (l.i ≤ length l.hex / 2) × (length l.bytes ≡ length l.initial.bytes)
-
-abbrev pub decreases-loop-i : goal.decreases-loop-i
-decreases-loop-i l = length l.hex / 2 - l.i
+invariant-loop-i l = (l.bytes ≡ over (payload_of l.hex) l.i l.initial.bytes) × (length l.bytes ≡ length l.initial.bytes)

@@ -4,14 +4,14 @@ use Rattle.frame_length_command.specs.Command.{is_asked, line_for, reply_for}
 use Rattle.frame_length_command.specs.Laws.Digits.{payload-digits}
 use Rattle.frame_length_command.proofs.write_line.Goals as goal
 
-pub returns-in_default : goal.returns-in_default
+pub returns-in_err-k : goal.returns-in_err-k
 unfolding reply_for is_asked
-returns-in_default c = record { value = rw (← c.read-first.ensures, c.in_default.is); out_after = refl }
+returns-in_err-k c = rw c.from_residual.ensures (record { value = rw (← c.in_err-k.ensures); out_after = refl })
 
-pub returns-in_default-second : goal.returns-in_default-second
+pub returns-in_err-i : goal.returns-in_err-i
 unfolding reply_for is_asked
-returns-in_default-second c =
-    record { value = rw (← c.read-first.ensures, c.in-Value.is, ← c.read-second.ensures, c.in_default-second.is); out_after = refl }
+returns-in_err-i c =
+    rw c.from_residual-in_err-i.ensures (record { value = rw (← c.in_ok-k.ensures, ← c.in_err-i.ensures); out_after = refl })
 
 pub measure_hex-requires : goal.measure_hex-requires
 measure_hex-requires c = payload-digits _ (sym c.is_payload.ensures ∙ c.if-is_payload.true)
@@ -23,14 +23,12 @@ returns-then-is_payload c =
     let after = rw c.measure_hex.ensures at c.write_measured.ensures.out_after in
     record {
       value = rw (
-        ← c.read-first.ensures,
-        c.in-Value.is,
-        ← c.read-second.ensures,
-        c.in-Value-second.is,
+        ← c.in_ok-k.ensures,
+        ← c.in_ok-i.ensures,
         ← c.is_payload.ensures,
         c.if-is_payload.true,
       ) (rw value);
-      out_after = rw (← c.read-first.ensures, c.in-Value.is, ← c.read-second.ensures, c.in-Value-second.is) after;
+      out_after = rw (← c.in_ok-k.ensures, ← c.in_ok-i.ensures) after;
     }
 
 pub returns-else-is_payload : goal.returns-else-is_payload
@@ -38,10 +36,8 @@ unfolding reply_for is_asked
 returns-else-is_payload c =
     record {
       value = rw (
-        ← c.read-first.ensures,
-        c.in-Value.is,
-        ← c.read-second.ensures,
-        c.in-Value-second.is,
+        ← c.in_ok-k.ensures,
+        ← c.in_ok-i.ensures,
         ← c.is_payload.ensures,
         c.if-is_payload.false,
       );

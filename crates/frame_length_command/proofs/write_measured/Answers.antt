@@ -3,16 +3,16 @@ use Rattle.frame_length.specs.FrameLength.{measured_returns}
 use Rattle.frame_length_command.specs.Command.{line_of}
 use Rattle.frame_length_command.proofs.write_measured.Goals as goal
 
-pub returns-in-Length : goal.returns-in-Length
+pub returns-in-Some : goal.returns-in-Some
 unfolding line_of measured_returns
-returns-in-Length c = record {
-  value = rw c.in-Length.is c.write_length.ensures.value;
-  out_after = rw c.in-Length.is c.write_length.ensures.out_after;
+returns-in-Some c = record {
+  value = rw c.in-Some.is c.write_length.ensures.value;
+  out_after = rw c.in-Some.is c.write_length.ensures.out_after;
 }
 
-pub returns-in-Refused : goal.returns-in-Refused
+pub returns-in-None : goal.returns-in-None
 unfolding line_of measured_returns
-returns-in-Refused c = record {
-  value = rw c.in-Refused.is c.write_refusal_line.ensures.value;
-  out_after = rw c.in-Refused.is c.write_refusal_line.ensures.out_after;
+returns-in-None c = record {
+  value = rw c.in-None.is c.write_refusal_line.ensures.value;
+  out_after = rw c.in-None.is c.write_refusal_line.ensures.out_after;
 }

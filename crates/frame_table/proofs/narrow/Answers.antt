@@ -4,14 +4,14 @@ use Rattle.arith.specs.Laws.Overwriting.{over-element, over-all}
 use Rattle.frame_table.proofs.narrow.Goals as goal
 
 pub loop-k-init : goal.loop-k-init
-loop-k-init c = (refl, search rules, refl)
+loop-k-init c = (refl, refl)
 
 pub overflow_cast-rows : goal.overflow_cast-rows
 overflow_cast-rows c = record { fits = c.requires.by_index _ c.loop-k-test.true }
 
 pub loop-k-preserved : goal.loop-k-preserved
 loop-k-preserved c =
-    (over-element _ _ _ _ refl _ _ c.loop-k.invariant.0 c.loop-k-test.true (search rules) refl, search rules, search rules)
+    (over-element _ _ _ _ refl _ _ c.loop-k.invariant.0 c.loop-k-test.true (search rules) refl, search rules)
 
 pub returns : goal.returns
-returns c = over-all _ _ _ _ refl _ c.loop-k.invariant.0 c.loop-k.invariant.1 c.loop-k-test.false
+returns c = over-all _ _ _ _ refl _ c.loop-k.invariant.0 (search rules) c.loop-k-test.false

@@ -1,6 +1,6 @@
 -- The places of columns, lines and fields, and how long each is.
 use Prim.Native.Nat.{ℕ, zero, suc, ◌+◌, ◌-◌, ◌*◌, ◌/◌, ◌%◌, ◌≤◌, ◌<◌}
-use Rattle.std.specs.Prelude.{◌≡◌, refl, length, take, drop, leb, eqb}
+use Rattle.std.specs.Prelude.{◌≡◌, refl, length, take, drop, leb, eqb, Ok}
 use Rattle.std.proofs.Math.Path.{sym, ap}
 use Rattle.std.proofs.Common.{◌∙◌, length-append, leb→le, eqb→eq, drop-drop, take_at, get_or-drop}
 use mathlib.Core.List.{List, ◌++◌, append_assoc}
@@ -14,7 +14,6 @@ use Rattle.arith.specs.Laws.Lines.{Lines, length-lines}
 use Rattle.decimal.specs.Decimal.{write_column}
 use Rattle.decimal.specs.Laws.{length-write}
 use Rattle.table_checks.specs.Columns.{field, width_of, start_of, feed_at, line_length, columns}
-use Rattle.table_checks.specs.declared.Checked.TheVariants.{Passed}
 use Rattle.table_checks.specs.Checks.{file_size_check}
 use Rattle.table_checks.proofs.Laws.Sizes.{RowsSize, file-size}
 use Rattle.frame_table.specs.Text.{field_at, fields_from, fields_of, columns_from, line_of, lines_from, text_of}
@@ -92,7 +91,7 @@ length_fields file zero k = refl
 length_fields file (suc n) k = ap suc (length_fields file n (k + 1))
 
 -- There are as many in a file whose size is right as a table can have.
-pub fields-size : (file : List ℕ) → file_size_check (length file) ≡ Passed → RowsSize (length (fields_of file))
+pub fields-size : (file : List ℕ) → file_size_check (length file) ≡ Ok tt → RowsSize (length (fields_of file))
 unfolding fields_of
 fields-size file e =
     let s = file-size (length file) e in

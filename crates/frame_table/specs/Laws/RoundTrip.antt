@@ -1,6 +1,6 @@
 -- Reading and writing a table undo each other.
 use Prim.Native.Nat.{ℕ, zero, suc, ◌+◌, ◌-◌, ◌*◌, ◌/◌, ◌%◌, ◌^◌, ◌≤◌, ◌<◌}
-use Rattle.std.specs.Prelude.{◌≡◌, Bool, true, false, not, ◌&&◌, List, ◌++◌, length, get_or, take, drop, eqb}
+use Rattle.std.specs.Prelude.{◌≡◌, Bool, true, false, not, ◌&&◌, List, ◌++◌, length, get_or, take, drop, eqb, Option, Some, None, Ok}
 use Rattle.std.proofs.Math.Path.{refl, ap}
 use Rattle.std.proofs.Common.{sym, ap₂, ◌∙◌, add-one, eq-eqb, eqb-true, length-take, length-drop, drop-drop, get_or-drop, take_all, take-add, ext_get_or}
 use Rattle.std.proofs.Math.Bool.{and-false}
@@ -11,11 +11,8 @@ use Rattle.std.proofs.Math.Dec.{ltb, ltb→lt}
 use Rattle.arith.specs.Laws.Tests.{by-test}
 use Rattle.arith.specs.Laws.Below.{below}
 use Rattle.arith.specs.Laws.Lines.{length-lines, lines_at}
-use Rattle.decimal.specs.declared.Column.{Column}
-use Rattle.decimal.specs.declared.Column.TheVariants.{Value, Broken}
 use Rattle.decimal.specs.Decimal.{read_column, write_column}
 use Rattle.decimal.specs.Laws.{read-write, write_read}
-use Rattle.table_checks.specs.declared.Checked.TheVariants.{Passed}
 use Rattle.table_checks.specs.Columns.{field, width_of, start_of, columns, feed_at, line_length}
 use Rattle.table_checks.specs.Checks.{unterminated, table_check, rows_check}
 use Rattle.table_checks.proofs.Laws.First.{first-passed}
@@ -95,16 +92,16 @@ module _ (a b : List ℕ) where
 
 -- Such a field is the number of its column, and the first one of a line says that the line ends in a line feed.
 field-number : (file : List ℕ) (i j : ℕ) → field_at file i j < 2 ^ 32
-    → (read_column (column_at file i j) ≡ Value (field_at file i j)) × (j ≡ 0 → terminated file i ≡ true)
+    → (read_column (column_at file i j) ≡ Some (field_at file i j)) × (j ≡ 0 → terminated file i ≡ true)
 unfolding field_at field_of
 field-number file i j h =
     by-test (eqb j 0 && not (terminated file i))
     (λ e. let z : unterminated < 2 ^ 32 = simp e at h in absurd (omega arith))
     (λ e. (simp e (value _ (simp e at h)), λ z. holds (terminated file i) (rw z at e)))
   where
-    value : (c : Column) → field_of c < 2 ^ 32 → c ≡ Value (field_of c)
-    value (Value n) h = refl
-    value Broken h = absurd (omega arith)
+    value : (c : Option ℕ) → field_of c < 2 ^ 32 → c ≡ Some (field_of c)
+    value (Some n) h = refl
+    value None h = absurd (omega arith)
 
     holds : (t : Bool) → not t ≡ false → t ≡ true
     holds true e = refl
@@ -124,7 +121,7 @@ fields-text file n size small =
 -- ---- tables that passed
 
 -- The file of a table reads back as the table.
-pub read-text : (rows : List ℕ) → rows_check rows ≡ Passed → (read_check (text_of rows) ≡ Passed) × (fields_of (text_of rows) ≡ rows)
+pub read-text : (rows : List ℕ) → rows_check rows ≡ Ok tt → (read_check (text_of rows) ≡ Ok tt) × (fields_of (text_of rows) ≡ rows)
 unfolding rows_check table_check read_check text_of fields_of
 read-text rows e =
     let both = first-passed _ _ e in
@@ -138,7 +135,7 @@ read-text rows e =
     (rw (back, file-sized _ fits) both.1, back)
 
 -- The table of a file is written back as the file.
-pub text-read : (file : List ℕ) → read_check file ≡ Passed → (rows_check (fields_of file) ≡ Passed) × (text_of (fields_of file) ≡ file)
+pub text-read : (file : List ℕ) → read_check file ≡ Ok tt → (rows_check (fields_of file) ≡ Ok tt) × (text_of (fields_of file) ≡ file)
 unfolding read_check text_of fields_of
 text-read file e =
     let both = first-passed _ _ e in
@@ -148,5 +145,5 @@ text-read file e =
     let size : length t ≡ columns * n = length_fields file (columns * n) 0 in
     let lines : length t / columns ≡ n = omega arith in
     let small : (i j : ℕ) → i < n → j < columns → field_at file i j < 2 ^ 32
-    = λ i j h l. rw (field_in file n i j h l) at (storable t (omega arith) Passed (sym both.1) (columns * i + j) (omega arith)) in
+    = λ i j h l. rw (field_in file n i j h l) at (storable t (omega arith) both.1 (columns * i + j) (omega arith)) in
     (sized-check t (fields-size file both.0) ∙ both.1, rw lines (fields-text file n (omega (arith, s.whole)) small))

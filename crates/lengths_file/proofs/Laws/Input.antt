@@ -1,48 +1,54 @@
--- The files of a call: lengths that were read; an input in two parts, at 92 bytes, or at its end where it is shorter; an input whose table is
+-- The files of a call: lengths and a table that were read; an input in two parts, at 92 bytes, or at its end where it is shorter; an input whose table is
 -- too long.
-use Rattle.std.specs.Prelude.{ℕ, min, ◌+◌, ◌-◌, ◌<◌, ◌≡◌, refl, List, [], ◌∷◌, length, take, drop}
+use Rattle.std.specs.Prelude.{ℕ, min, ◌+◌, ◌-◌, ◌<◌, ◌≡◌, refl, List, length, take, drop, Result, Ok, Err}
 use Rattle.std.proofs.Math.Path.{sym, ap}
 use Rattle.std.proofs.Common.{ap₂, ◌∙◌, arith, length-drop, drop_of_length-le, take_all}
 use Rattle.std.proofs.Math.Decide.{dec_lt}
 use Rattle.table_checks.specs.declared.Refusal.{Refusal}
-use Rattle.table_checks.specs.declared.Checked.{Checked}
-use Rattle.table_checks.specs.declared.Checked.TheVariants.{Passed, Failed}
-use Rattle.table_checks.specs.Columns.{most_bytes}
+use Rattle.table_checks.specs.Columns.{most_numbers, most_bytes}
 use Rattle.table_checks.specs.Refusal.{check_returns}
 use Rattle.table_checks.specs.Checks.{Loadable, first, file_size_check}
 use Rattle.table_checks.specs.Returns.{first_returned}
 use Rattle.table_checks.proofs.Laws.Returns.{first-returned, file-size-returned}
 use Rattle.table_checks.proofs.Laws.Sizes.{file-size}
-use Rattle.frame_table.specs.declared.Answer.{Answer}
+use Rattle.frame_table.specs.Text.{fields_of}
 use Rattle.frame_table.specs.Table.{read_check, answer_for, area_after, answer_returns, returns_for}
+use Rattle.frame_table.specs.Laws.Reading.{ReadRows, read-refused, read-rows}
 use Rattle.frame_table.specs.Laws.Returns.{answer-told}
-use Rattle.lengths_file.specs.declared.Loaded.{Loaded}
-use Rattle.lengths_file.specs.Lengths.{lengths_of, lengths_file_check, loaded}
+use Rattle.lengths_file.specs.Lengths.{lengths_of, lengths_file_check}
 use Rattle.lengths_file.specs.Input.{input_check, input_returns, lengths_part, table_part, size_check, size_returns}
-use Rattle.lengths_file.proofs.Laws.Reading.{loaded-checked, loaded-lengths, file-returned}
+use Rattle.lengths_file.proofs.Laws.Reading.{file-returned}
 
--- ---- lengths that were read
+-- ---- both files read
 
--- they are those of the file, and the table's check decides
-pub record ReadLengths (lengths file : List ℕ) (ls : List (List ℕ)) : Type 0 where
-  pub passed : input_check lengths file ≡ read_check file
+-- the lengths and the first n numbers of the area are those of files that passed
+pub record ReadInput (lengths file : List ℕ) (ls : List (List ℕ)) (area : List ℕ) (n : ℕ) : Type 0 where
+  pub passed : input_check lengths file ≡ Ok tt
   pub is : ls ≡ lengths_of lengths
   pub loadable : Loadable ls
+  pub table : ReadRows file area n
 
-module _ (lengths file : List ℕ) {l : Loaded} (is : l ≡ loaded lengths) where
-  -- Lengths that are turned back are answered with their refusal,
-  pub lengths-refused : {f : Refusal} → l.checked ≡ Failed f → input_check lengths file ≡ Failed f
+module _ (lengths file : List ℕ) where
+  -- Lengths that are turned back decide,
+  pub lengths-refused : {r : Refusal} → lengths_file_check lengths ≡ Err r → input_check lengths file ≡ Err r
   unfolding input_check
-  lengths-refused e = rw (sym (loaded-checked lengths) ∙ sym (ap (λ x. x.checked) is) ∙ e)
+  lengths-refused e = rw e
 
-  -- and otherwise loaded.
-  pub lengths_read : {ls : List (List ℕ)} → l.checked ≡ Passed → ls ≡ l.short ∷ l.long ∷ [] → ReadLengths lengths file ls
+  -- and otherwise the table does.
+  pub lengths-passed : lengths_file_check lengths ≡ Ok tt → input_check lengths file ≡ read_check file
   unfolding input_check
-  lengths_read e from =
-      let fine = sym (loaded-checked lengths) ∙ sym (ap (λ x. x.checked) is) ∙ e in
-      let all = loaded-lengths lengths fine in
-      let same = from ∙ ap (λ x. x.short ∷ x.long ∷ []) is ∙ all.0 in
-      record { passed = rw fine; is = same; loadable = rw same all.1 }
+  lengths-passed e = rw e
+
+  pub table-refused : lengths_file_check lengths ≡ Ok tt → (old : List ℕ) (answer : Result ℕ Refusal) → length old ≡ most_numbers
+      → answer ≡ answer_for (read_check file) (fields_of file) old → {r : Refusal} → answer ≡ Err r → input_check lengths file ≡ Err r
+  table-refused fine old answer size is {r} e = lengths-passed fine ∙ read-refused file old answer size is r e
+
+  pub input_read : {ls : List (List ℕ)} → (lengths_file_check lengths ≡ Ok tt) × (ls ≡ lengths_of lengths) × Loadable ls
+      → (old : List ℕ) (answer : Result ℕ Refusal) → length old ≡ most_numbers → answer ≡ answer_for (read_check file) (fields_of file) old
+      → (area : List ℕ) (n : ℕ) → area ≡ area_after answer (fields_of file) old → answer ≡ Ok n → ReadInput lengths file ls area n
+  input_read load old answer size is area n left e =
+      let table = read-rows file old answer size is area n left e in
+      record { passed = lengths-passed load.0 ∙ table.passed; is = load.1; loadable = load.2; table = table }
 
 -- ---- in numbers
 
@@ -52,7 +58,7 @@ input-returned lengths file =
     first-returned (lengths_file_check lengths) (read_check file) ∙ ap (λ r. first_returned r (check_returns (read_check file))) (file-returned lengths)
 
 -- What an operation on both files answers, and leaves in its area, is told in numbers too.
-pub input-told : (lengths file new old : List ℕ) {a : Answer} {l : List ℕ} → (a ≡ answer_for (input_check lengths file) new old) × (l ≡ area_after a new old)
+pub input-told : (lengths file new old : List ℕ) {a : Result ℕ Refusal} {l : List ℕ} → (a ≡ answer_for (input_check lengths file) new old) × (l ≡ area_after a new old)
     → (a ≡ answer_for (input_check lengths file) new old) × ((l ≡ area_after a new old) × (answer_returns a ≡ returns_for (input_returns lengths file) new old))
 input-told lengths file new old both = rw (← input-returned lengths file) (answer-told (input_check lengths file) new old both)
 
@@ -62,7 +68,7 @@ size-returned start size =
     first-returned (lengths_file_check (lengths_part start)) (file_size_check (size - 92))
     ∙ ap₂ first_returned (file-returned (lengths_part start)) (file-size-returned (size - 92))
 
-pub size-told : (start : List ℕ) (size : ℕ) {c : Checked} → c ≡ size_check start size → (c ≡ size_check start size) × (check_returns c ≡ size_returns start size)
+pub size-told : (start : List ℕ) (size : ℕ) {c : Result (Unit {0}) Refusal} → c ≡ size_check start size → (c ≡ size_check start size) × (check_returns c ≡ size_returns start size)
 size-told start size e = (e, ap check_returns e ∙ size-returned start size)
 
 -- ---- an input in two parts
@@ -86,12 +92,12 @@ module _ (xs : List ℕ) (e : ℕ) (end : e ≡ min (length xs) 92) where
 -- ---- an input whose table is too long
 
 -- A table's size alone turns it back.
-too_long : (n : ℕ) (rest : Checked) → most_bytes < n → first (file_size_check n) rest ≡ file_size_check n
+too_long : (n : ℕ) (rest : Result (Unit {0}) Refusal) → most_bytes < n → first (file_size_check n) rest ≡ file_size_check n
 too_long n rest more = go (file_size_check n) refl
   where
-    go : (c : Checked) → file_size_check n ≡ c → first c rest ≡ c
-    go Passed e = let s = file-size n e in absurd (omega (arith, s.whole, s.most))
-    go (Failed r) e = refl
+    go : (c : Result (Unit {0}) Refusal) → file_size_check n ≡ c → first c rest ≡ c
+    go (Ok tt) e = let s = file-size n e in absurd (omega (arith, s.whole, s.most))
+    go (Err r) e = refl
 
 -- So the check needs no more of the input than its lengths and its size.
 pub long-input : (input start : List ℕ) → lengths_part start ≡ lengths_part input → 92 + most_bytes < length input

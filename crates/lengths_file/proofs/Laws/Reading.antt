@@ -1,14 +1,12 @@
 -- What reading the lengths' file tells: its check, and its numbers.
-use Rattle.std.specs.Prelude.{ℕ, ◌+◌, ◌*◌, ◌≤◌, ◌<◌, ◌≡◌, true, cond, List, [], ◌∷◌, length, get_or}
+use Rattle.std.specs.Prelude.{ℕ, ◌+◌, ◌*◌, ◌≤◌, ◌<◌, ◌≡◌, true, cond, List, [], ◌∷◌, length, get_or, Some, Ok}
 use Rattle.std.proofs.Common.{ap, ap₂, ◌∙◌, zero-add, arith, eqb-true, length-take, length-drop}
 use Rattle.std.proofs.lemmas.List.{length-map}
 use Rattle.arith.specs.Lists.{range}
 use Rattle.arith.specs.Laws.Members.{length-range, get_d-table}
 use Rattle.arith.specs.Laws.Tests.{by-test, and_both, cond_map}
-use Rattle.decimal.specs.declared.Column.TheVariants.{Value}
 use Rattle.decimal.specs.Decimal.{read_column}
 use Rattle.decimal.specs.Laws.{read_below}
-use Rattle.table_checks.specs.declared.Checked.TheVariants.{Passed}
 use Rattle.table_checks.specs.declared.Cause.TheVariants.{LengthsFile}
 use Rattle.table_checks.specs.Refusal.{number_of, returned, check_returns}
 use Rattle.table_checks.specs.Checks.{Loadable, lengths_check}
@@ -28,14 +26,14 @@ unfolding line_of
 number_at file k s l = get_d-table (λ i. number_in (read_column (column_at file k i))) 0 9 s 0 l ∙ rw (zero-add s)
 
 -- A column of the file has five digits at the most.
-pub column-below : (file : List ℕ) (k s : ℕ) → 46 * k + 46 ≤ length file → s < 9 → {n : ℕ} → read_column (column_at file k s) ≡ Value n → n < 100000
+pub column-below : (file : List ℕ) (k s : ℕ) → 46 * k + 46 ≤ length file → s < 9 → {n : ℕ} → read_column (column_at file k s) ≡ Some n → n < 100000
 unfolding column_at
 column-below file k s room l {n} e =
     let w : length (column_at file k s) ≡ 5 = simp (length-take, length-drop) (omega arith) in
     rw w at (read_below (column_at file k s) n e)
 
 -- A file that passed has the notation, and 92 bytes.
-pub text-is : (file : List ℕ) → text_check file ≡ Passed → is_text file ≡ true
+pub text-is : (file : List ℕ) → text_check file ≡ Ok tt → is_text file ≡ true
 unfolding text_check
 text-is file e = by-test (is_text file) (λ t. t) (λ f. not-passed {cause = LengthsFile} {place = 0} (simp f at e))
 
@@ -49,7 +47,7 @@ unfolding loaded lengths_file_check text_check
 loaded-checked file = by-test (is_text file) (λ t. rw t) (λ f. rw f)
 
 -- and where that is nothing, its lengths stand beside it, and may be loaded.
-pub loaded-lengths : (file : List ℕ) → lengths_file_check file ≡ Passed
+pub loaded-lengths : (file : List ℕ) → lengths_file_check file ≡ Ok tt
     → ((loaded file).short ∷ (loaded file).long ∷ [] ≡ lengths_of file) × Loadable (lengths_of file)
 unfolding loaded lengths_file_check
 loaded-lengths file e =

@@ -1,6 +1,6 @@
 -- Reading and writing lengths undo each other.
 use Prim.Native.Nat.{ℕ, zero, suc, ◌+◌, ◌*◌, ◌≤◌, ◌<◌}
-use Rattle.std.specs.Prelude.{◌≡◌, Bool, ◌&&◌, eqb}
+use Rattle.std.specs.Prelude.{◌≡◌, Bool, ◌&&◌, eqb, Option, Some, None, Ok}
 use Rattle.std.proofs.Math.Path.{refl, sym, ap, ap₂, subst}
 use Rattle.std.proofs.Common.{◌∙◌, arith, eq-eqb, eqb-true, length-take, drop-drop, take_all, take-add, take-suc}
 use Rattle.std.proofs.Math.Bool.{true, false, not}
@@ -11,11 +11,8 @@ use Rattle.std.proofs.Math.Seq.{get_or-drop, ext_get_or}
 use Rattle.arith.specs.Lists.{exists, range}
 use Rattle.arith.specs.Laws.Members.{exists-mem, of-exists, mem-range, of_range}
 use Rattle.arith.specs.Laws.Tests.{by-test, and_both}
-use Rattle.decimal.specs.declared.Column.{Column}
-use Rattle.decimal.specs.declared.Column.TheVariants.{Value, Broken}
 use Rattle.decimal.specs.Decimal.{read_column}
 use Rattle.decimal.specs.Laws.{read-write, write_read}
-use Rattle.table_checks.specs.declared.Checked.TheVariants.{Passed}
 use Rattle.table_checks.specs.Frames.{length_at}
 use Rattle.table_checks.specs.Checks.{Loadable, lengths_check}
 use Rattle.table_checks.proofs.Laws.First.{first-passed}
@@ -28,7 +25,7 @@ use Rattle.lengths_file.proofs.Laws.Reading.{length-numbers, number_at, text-is,
 
 module _ (ls : List (List ℕ)) (loadable : Loadable ls) where
   -- A column is read back.
-  column-back : (k s : ℕ) → k < 2 → s < 9 → read_column (column_at (text_of ls) k s) ≡ Value (length_at ls k s)
+  column-back : (k s : ℕ) → k < 2 → s < 9 → read_column (column_at (text_of ls) k s) ≡ Some (length_at ls k s)
   unfolding column_text
   column-back k s h l =
       let most = (loaded-limits ls loadable k s h l).1 in
@@ -107,16 +104,16 @@ module _ (file : List ℕ) (text : is_text file ≡ true) where
       not-true false e = refl
 
   -- A column is a number of the file's lengths.
-  column-holds : (k s : ℕ) → k < 2 → s < 9 → read_column (column_at file k s) ≡ Value (length_at (lengths_of file) k s)
+  column-holds : (k s : ℕ) → k < 2 → s < 9 → read_column (column_at file k s) ≡ Some (length_at (lengths_of file) k s)
   unfolding is_broken is_unreadable number_in
   column-holds k s h l =
       rw (length-at file k s h l)
       (value (read_column (column_at file k s))
       (λ t. subst T (line-holds k h).1 (exists-mem (is_broken file k) (mem-range 0 9 s (omega arith) (omega arith)) t)))
     where
-      value : (c : Column) → ¬ T (is_unreadable c) → c ≡ Value (number_in c)
-      value (Value n) whole = refl
-      value Broken whole = absurd (whole tt)
+      value : (c : Option ℕ) → ¬ T (is_unreadable c) → c ≡ Some (number_in c)
+      value (Some n) whole = refl
+      value None whole = absurd (whole tt)
 
   column-text : (k s : ℕ) → k < 2 → s < 9 → column_text (lengths_of file) k s ≡ take 5 (drop (5 * s) (drop (46 * k) file))
   unfolding column_text column_at
@@ -138,7 +135,7 @@ module _ (file : List ℕ) (text : is_text file ≡ true) where
 
 -- The file of lengths reads back as them.
 pub read-text : (short long : List ℕ) → length short ≡ 9 → length long ≡ 9 → Loadable (short ∷ long ∷ [])
-    → (lengths_file_check (text_of (short ∷ long ∷ [])) ≡ Passed) × (lengths_of (text_of (short ∷ long ∷ [])) ≡ short ∷ long ∷ [])
+    → (lengths_file_check (text_of (short ∷ long ∷ [])) ≡ Ok tt) × (lengths_of (text_of (short ∷ long ∷ [])) ≡ short ∷ long ∷ [])
 unfolding lengths_file_check text_check
 read-text short long few many loadable =
     let ls : List (List ℕ) = short ∷ long ∷ [] in
@@ -146,7 +143,7 @@ read-text short long few many loadable =
     (rw (text-holds ls loadable, back) loadable, back)
 
 -- The lengths of a file are written back as the file.
-pub text-read : (file : List ℕ) → lengths_file_check file ≡ Passed → Loadable (lengths_of file) × (text_of (lengths_of file) ≡ file)
+pub text-read : (file : List ℕ) → lengths_file_check file ≡ Ok tt → Loadable (lengths_of file) × (text_of (lengths_of file) ≡ file)
 unfolding lengths_file_check text_of
 text-read file e =
     let both = first-passed (text_check file) (lengths_check (lengths_of file)) e in

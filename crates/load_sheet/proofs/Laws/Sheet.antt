@@ -7,7 +7,7 @@
 --                               those of the last line the number of lines and the greatest quotient
 --     most-above, most-met      which is that of a line, and no line's is greater
 use Prim.Native.Nat.{ℕ, zero, suc, ◌+◌, ◌-◌, ◌*◌, ◌/◌, ◌^◌, ◌≤◌, ◌<◌}
-use Rattle.std.specs.Prelude.{◌≡◌, refl, get_or, take, drop}
+use Rattle.std.specs.Prelude.{◌≡◌, refl, get_or, take, drop, Some}
 use mathlib.Core.List.{List, [], ◌∷◌, ◌++◌, map, append_assoc, Memᴰ as Mem}
 use Rattle.std.proofs.Math.Nat.{div-add-mod, div-le_of_le-mul, mod-lt, mul-le-mul, mul-le-mul_left}
 use Rattle.std.proofs.Common.{div-le_self, length-append, take_at, drop_at, drop-drop}
@@ -18,7 +18,6 @@ use Rattle.std.proofs.Math.ListN.{length, length-map}
 use Rattle.arith.specs.Lists.{keep, range}
 use Rattle.arith.specs.Laws.Members.{mem-keep, of-keep, length-keep, length-range, exists-mem, mem-get_d, mem-range, of_range, of_map}
 use Rattle.arith.specs.Laws.Sums.{sum_bound, le-greatest, greatest-le, greatest-exceeds}
-use Rattle.decimal.specs.declared.Column.TheVariants.{Value}
 use Rattle.decimal.specs.Decimal.{read_column, write_column}
 use Rattle.decimal.specs.Laws.{length-write, read-write}
 use Rattle.bus_model.specs.declared.Frame.{Frame}
@@ -43,16 +42,16 @@ dividend-back h gs = omega (arith, div-add-mod (dividend h gs) h)
 
 -- A number that fits is read back from behind what stands before it.
 column-reads : (before after : List ℕ) (k w n : ℕ) → length before ≡ k → 0 < w → n < 10 ^ w → n < 1_000_000_000_000_000_000
-    → read_column (take w (drop k (before ++ (write_column w n ++ after)))) ≡ Value n
+    → read_column (take w (drop k (before ++ (write_column w n ++ after)))) ≡ Some n
 column-reads before after k w n size some fits small =
     rw (drop_at before (write_column w n ++ after) k size, take_at (write_column w n) after w (length-write w n)) (read-write w n some fits small)
 
 -- what the columns of a line say: a node and its load
 pub record LineReads (line : List ℕ) (j : ℕ) (l : Load) : Type 0 where
-  pub node : read_column (take 3 line) ≡ Value j
-  pub quotient : read_column (take 10 (drop 3 line)) ≡ Value l.quotient
-  pub remainder : read_column (take 8 (drop 13 line)) ≡ Value l.remainder
-  pub divisor : read_column (take 8 (drop 21 line)) ≡ Value l.divisor
+  pub node : read_column (take 3 line) ≡ Some j
+  pub quotient : read_column (take 10 (drop 3 line)) ≡ Some l.quotient
+  pub remainder : read_column (take 8 (drop 13 line)) ≡ Some l.remainder
+  pub divisor : read_column (take 8 (drop 21 line)) ≡ Some l.divisor
 
 node-reads : (j : ℕ) (l : Load) → j ≤ 16 → l.quotient ≤ 256000000 → l.remainder < 1000000 → l.divisor ≤ 1000000 → LineReads (node_line j l) j l
 unfolding node_line
@@ -72,8 +71,8 @@ node-reads j l node quotient remainder divisor =
 
 -- what those of a last line say: how many nodes, and their greatest quotient
 pub record LastReads (line : List ℕ) (count most : ℕ) : Type 0 where
-  pub nodes : read_column (take 3 line) ≡ Value count
-  pub greatest : read_column (take 10 (drop 3 line)) ≡ Value most
+  pub nodes : read_column (take 3 line) ≡ Some count
+  pub greatest : read_column (take 10 (drop 3 line)) ≡ Some most
 
 end_reads : (count most : ℕ) → count ≤ 16 → most ≤ 256000000 → LastReads (last_line count most) count most
 unfolding last_line

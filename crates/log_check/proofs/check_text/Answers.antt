@@ -10,39 +10,21 @@ pub returns-then-is_missized : goal.returns-then-is_missized
 unfolding text_answer
 returns-then-is_missized c = rw (← c.is_missized.ensures, c.if-is_missized.true) c.refuse_at.ensures
 
-pub first_broken-broken-requires : goal.first_broken-broken-requires
-first_broken-broken-requires c = sized _ (sym c.is_missized.ensures ∙ c.if-is_missized.false)
+pub first_broken-requires : goal.first_broken-requires
+first_broken-requires c = sized _ (sym c.is_missized.ensures ∙ c.if-is_missized.false)
 
 pub overflow_add-i : goal.overflow_add-i
 overflow_add-i c =
     let most = sized _ (sym c.is_missized.ensures ∙ c.if-is_missized.false) in
-    omega (arith, broken-few _ most _ (sym c.first_broken-broken.ensures ∙ c.in-At.is))
+    omega (arith, broken-few _ most _ (sym c.first_broken.ensures ∙ c.in-Some.is))
 
 pub answer-requires : goal.answer-requires
-answer-requires c = record {
-  loadable = c.requires;
-  text_len_bound = (
-    sized _ (sym c.is_missized.ensures ∙ c.if-is_missized.false),
-    sym c.first_broken-broken.ensures ∙ c.in-Nothing.is,
-  );
-}
+answer-requires c = (sized _ (sym c.is_missized.ensures ∙ c.if-is_missized.false), sym c.first_broken.ensures ∙ c.in-None.is)
 
-pub returns-in-At : goal.returns-in-At
+pub returns-in-Some : goal.returns-in-Some
 unfolding text_answer line_answer
-returns-in-At c =
-    rw (
-      ← c.is_missized.ensures,
-      c.if-is_missized.false,
-      ← c.first_broken-broken.ensures,
-      c.in-At.is,
-    ) c.refuse_at-in-At.ensures
+returns-in-Some c = rw (← c.is_missized.ensures, c.if-is_missized.false, ← c.first_broken.ensures, c.in-Some.is) c.refuse_at-in-Some.ensures
 
-pub returns-in-Nothing : goal.returns-in-Nothing
+pub returns-in-None : goal.returns-in-None
 unfolding text_answer line_answer
-returns-in-Nothing c =
-    rw (
-      ← c.is_missized.ensures,
-      c.if-is_missized.false,
-      ← c.first_broken-broken.ensures,
-      c.in-Nothing.is,
-    ) c.answer.ensures
+returns-in-None c = rw (← c.is_missized.ensures, c.if-is_missized.false, ← c.first_broken.ensures, c.in-None.is) c.answer.ensures

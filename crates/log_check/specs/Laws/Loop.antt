@@ -1,17 +1,15 @@
 -- Lines that are in the notation, as a loop follows them.
-use Rattle.std.specs.Prelude.{ℕ, ◌+◌, ◌-◌, ◌*◌, ◌/◌, ◌%◌, ◌≤◌, ◌<◌, ◌≡◌, refl, true, false, List, [], ◌∷◌, map, eqb, length}
+use Rattle.std.specs.Prelude.{ℕ, ◌+◌, ◌-◌, ◌*◌, ◌/◌, ◌%◌, ◌≤◌, ◌<◌, ◌≡◌, refl, true, false, List, [], ◌∷◌, map, eqb, length, None, Ok, Err}
 use Rattle.std.proofs.Common.{sym, ◌∙◌, arith, ltb-false}
 use Rattle.std.proofs.Math.Path.{ap}
 use Rattle.arith.specs.Lists.{range}
-use Rattle.arith.specs.declared.Found.TheVariants.{Nothing}
 use Rattle.arith.specs.Laws.Tests.{by-test}
 use Rattle.arith.specs.Laws.Least.{least-finds, none-at}
 use Rattle.arith.specs.Laws.Members.{range-next, range-end}
 use Rattle.table_checks.specs.Frames.{frames_of}
 use Rattle.bus_log.specs.declared.Entry.{Entry}
 use Rattle.bus_log.specs.declared.Progress.{Progress}
-use Rattle.bus_log.specs.declared.Followed.{Followed}
-use Rattle.bus_log.specs.Follow.{entry_of, begin, follow_line, follow, follow_log}
+use Rattle.bus_log.specs.Follow.{Followed, entry_of, begin, follow_line, follow, follow_log}
 use Rattle.bus_log.proofs.Theory.Lines.{line-goes, line-stops}
 use Rattle.log_reader.specs.Text.{line_at}
 use Rattle.log_check.specs.Check.{is_missized, is_broken, first_broken, lines_of}
@@ -25,7 +23,7 @@ sized size f =
     (λ n. let z : true ≡ false = rw n at f in let y : ◌≡◌ {A = ℕ} 0 1 = cc in absurd (omega arith))
 
 -- Where no line is broken, line i is not.
-pub whole-line : (text : List ℕ) → first_broken text ≡ Nothing → (i : ℕ) → i < length text / 40 → is_broken text i ≡ false
+pub whole-line : (text : List ℕ) → first_broken text ≡ None → (i : ℕ) → i < length text / 40 → is_broken text i ≡ false
 unfolding first_broken
 whole-line text none i l =
     by-test (is_broken text i)
@@ -58,18 +56,21 @@ module _ (ls : List (List ℕ)) (rows text : List ℕ) where
 
   module _ (n i : ℕ) (p : Progress) (is : follow (frames_of ls rows) p i (map entry_at (range i (n - i))) ≡ goal) where
     -- It ends after the last.
-    pub log-end : n ≤ i → record { place = 0; progress = p } ≡ goal
+    pub log-end : n ≤ i → goal ≡ record { place = 0; progress = p }
     unfolding follow
-    log-end h = rw (range-end n i h) at is
+    log-end h = sym (rw (range-end n i h) at is)
 
-    module _ (r : Followed) (l : i < n) (line : r ≡ follow_line (frames_of ls rows) p i (entry_at i)) where
+    module _ (l : i < n) where
       here : follow (frames_of ls rows) p i (entry_at i ∷ map entry_at (range (i + 1) (n - (i + 1)))) ≡ goal
       here = rw (range-next n i l) at is
 
       -- It goes on after a line,
-      pub log-goes : r.place ≡ 0 → follow (frames_of ls rows) r.progress (i + 1) (map entry_at (range (i + 1) (n - (i + 1)))) ≡ goal
-      log-goes z = line-goes (frames_of ls rows) p i (entry_at i) (map entry_at (range (i + 1) (n - (i + 1)))) r line z ∙ here
+      pub log-goes : (q : Progress) → Ok q ≡ follow_line (frames_of ls rows) p i (entry_at i)
+          → follow (frames_of ls rows) q (i + 1) (map entry_at (range (i + 1) (n - (i + 1)))) ≡ goal
+      log-goes q line = line-goes (frames_of ls rows) p i (entry_at i) (map entry_at (range (i + 1) (n - (i + 1)))) q line ∙ here
 
       -- or stops there.
-      pub log-stops : (r.place ≡ 0 → ⊥) → r ≡ goal
-      log-stops some = line-stops (frames_of ls rows) p i (entry_at i) (map entry_at (range (i + 1) (n - (i + 1)))) r line some ∙ here
+      pub log-stops : (k : ℕ) → Err k ≡ follow_line (frames_of ls rows) p i (entry_at i) → (1 ≤ k) × (goal.place ≡ k)
+      log-stops k line =
+          let (at, e) = line-stops (frames_of ls rows) p i (entry_at i) (map entry_at (range (i + 1) (n - (i + 1)))) k line in
+          (omega arith, ap (λ (r : Followed). r.place) (sym (e ∙ here)))

@@ -1,5 +1,5 @@
 -- What every answer says holds of the notation and of the bus rule.
-use Rattle.std.specs.Prelude.{ℕ, ◌+◌, ◌*◌, ◌/◌, ◌%◌, ◌≤◌, ◌<◌, List, map, eqb}
+use Rattle.std.specs.Prelude.{ℕ, ◌+◌, ◌*◌, ◌/◌, ◌%◌, ◌≤◌, ◌<◌, List, map, eqb, Option, Some, None, Result, Ok, Err}
 use Rattle.std.proofs.Math.Path.{◌≡◌, refl, ap}
 use Rattle.std.proofs.Common.{sym, subst, ◌∙◌}
 use Rattle.std.proofs.Math.Bool.{true, false}
@@ -8,28 +8,24 @@ use Rattle.std.proofs.Math.Nat.{zero-add}
 use native.Mathlib.Omega.{arith}
 use borrow.Author.Tests.{eqb-true, eqb-false, eq-eqb, le-ltb}
 use Rattle.std.proofs.Math.ListN.{length, length-map}
+use Rattle.table_checks.specs.declared.Refusal.{Refusal}
 use Rattle.arith.specs.Lists.{range}
-use Rattle.arith.specs.declared.Found.{Found}
-use Rattle.arith.specs.declared.Found.TheVariants.{At, Nothing}
 use Rattle.arith.specs.Laws.Tests.{by-test}
 use Rattle.arith.specs.Laws.Least.{least_at, least-le}
 use Rattle.arith.specs.Laws.Members.{length-range, get_d-table, map_same}
 use Rattle.table_checks.specs.Frames.{frames_of}
 use Rattle.table_checks.specs.Checks.{Loadable, Accepted}
-use Rattle.table_checks.specs.declared.Checked.{Checked}
-use Rattle.table_checks.specs.declared.Checked.TheVariants.{Passed, Failed}
 use Rattle.bus_log.specs.declared.Line.{Line}
-use Rattle.bus_log.specs.declared.Followed.{Followed}
+use Rattle.bus_log.specs.declared.Progress.{Progress}
 use Rattle.bus_log.specs.Log.{shown_starts}
-use Rattle.bus_log.specs.Follow.{follow_log, start_shown}
+use Rattle.bus_log.specs.Follow.{Followed, follow_log, start_shown}
 use Rattle.bus_log.proofs.Theory.Step.{of_T}
 use Rattle.bus_log.proofs.Theory.Table.{followed-shortest, followed-shown, shown-known}
-use Rattle.log_reader.specs.declared.LineRead.{LineRead}
-use Rattle.log_reader.specs.declared.LineRead.TheVariants.{Read, Broken, End}
+use Rattle.log_reader.specs.declared.Unread.{Unread}
 use Rattle.log_reader.specs.Text.{Stands, line_at, read_at}
 use Rattle.log_reader.specs.Laws.{read-stands, stands_read, read-line}
-use Rattle.log_check.specs.declared.LogChecked.{LogChecked}
-use Rattle.log_check.specs.Check.{accepted_with, is_missized, is_read, is_broken, first_broken, lines_of, followed_answer, line_answer, text_answer, checked_answer}
+use Rattle.log_check.specs.declared.Refusal.{Refusal as LogRefusal}
+use Rattle.log_check.specs.Check.{is_missized, is_broken, first_broken, lines_of, followed_answer, line_answer, text_answer, checked_answer}
 use Rattle.log_check.specs.Verdict.{Sized, Holds, FirstBroken, Refuses, Means}
 use Rattle.log_check.specs.Laws.Loop.{sized, whole-line}
 
@@ -53,14 +49,13 @@ module _ (text : List ℕ) where
   -- ---- a line
 
   -- A line that is not broken stands there,
-  line_read : (i : ℕ) → is_broken text i ≡ false → (l : Line) × (read_at text (40 * i) ≡ Read l)
-  unfolding is_broken is_read
+  line_read : (i : ℕ) → is_broken text i ≡ false → (l : Line) × (read_at text (40 * i) ≡ Ok l)
+  unfolding is_broken
   line_read i f = go (read_at text (40 * i)) refl
     where
-      go : (r : LineRead) → read_at text (40 * i) ≡ r → (l : Line) × (read_at text (40 * i) ≡ Read l)
-      go (Read l) e = (l, e)
-      go Broken e = let z : true ≡ false = rw e at f in let y : ◌≡◌ {A = ℕ} 0 1 = cc in absurd (omega arith)
-      go End e = let z : true ≡ false = rw e at f in let y : ◌≡◌ {A = ℕ} 0 1 = cc in absurd (omega arith)
+      go : (r : Result Line Unread) → read_at text (40 * i) ≡ r → (l : Line) × (read_at text (40 * i) ≡ Ok l)
+      go (Ok l) e = (l, e)
+      go (Err _) e = let z : true ≡ false = rw e at f in let y : ◌≡◌ {A = ℕ} 0 1 = cc in absurd (omega arith)
 
   pub line-stands : (i : ℕ) → is_broken text i ≡ false → Stands text (40 * i) (line_at text (40 * i))
   line-stands i f =
@@ -69,7 +64,7 @@ module _ (text : List ℕ) where
 
   -- and at one that is broken no line stands.
   broken-line : (i : ℕ) (l : Line) → is_broken text i ≡ true → Stands text (40 * i) l → ⊥
-  unfolding is_broken is_read
+  unfolding is_broken
   broken-line i l t s =
       let z : false ≡ true = rw (stands_read text (40 * i) l s) at t in
       let y : ◌≡◌ {A = ℕ} 0 1 = cc in
@@ -81,7 +76,7 @@ module _ (text : List ℕ) where
   unfolding lines_of
   lines-count = length-map (range 0 (length text / 40)) _ ∙ length-range 0 (length text / 40)
 
-  pub all_hold : is_missized (length text) ≡ false → first_broken text ≡ Nothing → Holds text (lines_of text)
+  pub all_hold : is_missized (length text) ≡ false → first_broken text ≡ None → Holds text (lines_of text)
   unfolding lines_of
   all_hold f none =
       let count = lines-count in
@@ -93,7 +88,7 @@ module _ (text : List ℕ) where
             rw (get_d-table (λ (i : ℕ). line_at text (40 * i)) 0 (length text / 40) i l h', zero-add i) (line-stands i (whole-line text none i h'));
       }
 
-  first-broken : is_missized (length text) ≡ false → (i : ℕ) → first_broken text ≡ At i → FirstBroken text (i + 1)
+  first-broken : is_missized (length text) ≡ false → (i : ℕ) → first_broken text ≡ Some i → FirstBroken text (i + 1)
   unfolding first_broken
   first-broken f i e =
       let (low, high, t) = least_at (is_broken text) (length text / 40) 0 i e in
@@ -111,14 +106,14 @@ module _ (text : List ℕ) where
 
   -- ---- places are small
 
-  pub broken-few : length text ≤ 64000 → (i : ℕ) → first_broken text ≡ At i → i < 1600
+  pub broken-few : length text ≤ 64000 → (i : ℕ) → first_broken text ≡ Some i → i < 1600
   unfolding first_broken
   broken-few most i e = let (low, high, t) = least_at (is_broken text) (length text / 40) 0 i e in omega arith
 
 module _ (ls : List (List ℕ)) (rows text : List ℕ) where
   -- what an answer says
-  abbrev pub MeansOf : Checked → LogChecked → Type 0
-  MeansOf check a = Means check ls rows text a.starts a.outcome
+  abbrev pub MeansOf : Result (Unit {0}) Refusal → Result (List ℕ) LogRefusal → Type 0
+  MeansOf check a = Means check ls rows text a
 
   pub place-few : Loadable ls → Accepted rows → length text ≤ 64000 → (follow_log (frames_of ls rows) rows (lines_of text)).place ≤ 1600
   place-few loadable accepted most =
@@ -130,7 +125,7 @@ module _ (ls : List (List ℕ)) (rows text : List ℕ) where
 
   -- ---- the answer
 
-  module _ (check : Checked) (passed : check ≡ Passed) (loadable : Loadable ls) (accepted : Accepted rows) where
+  module _ (check : Result (Unit {0}) Refusal) (passed : check ≡ Ok tt) (loadable : Loadable ls) (accepted : Accepted rows) where
     followed-means : Holds text (lines_of text) → MeansOf check (followed_answer (frames_of ls rows) rows (lines_of text))
     unfolding followed_answer Means Refuses
     followed-means holds =
@@ -140,10 +135,10 @@ module _ (ls : List (List ℕ)) (rows text : List ℕ) where
         let some = eqb-false (follow_log (frames_of ls rows) rows (lines_of text)).place 0 f in
         rw f (passed, holds, followed-shortest ls rows accepted loadable (lines_of text) (omega arith)))
 
-    line-means : is_missized (length text) ≡ false → (found : Found) → first_broken text ≡ found → MeansOf check (line_answer ls rows text found)
+    line-means : is_missized (length text) ≡ false → (found : Option ℕ) → first_broken text ≡ found → MeansOf check (line_answer ls rows text found)
     unfolding line_answer Means Refuses
-    line-means f (At i) e = (passed, inr (first-broken text f i e))
-    line-means f Nothing e = followed-means (all_hold text f e)
+    line-means f (Some i) e = (passed, inr (first-broken text f i e))
+    line-means f None e = followed-means (all_hold text f e)
 
     text-means : MeansOf check (text_answer ls rows text)
     unfolding text_answer Means Refuses
@@ -153,18 +148,18 @@ module _ (ls : List (List ℕ)) (rows text : List ℕ) where
         (λ f. rw f (line-means f (first_broken text) refl))
 
   -- Where a check passes only lengths and tables that can be used, the answer says what it is to say.
-  pub answer-means : (check : Checked) → (check ≡ Passed → Loadable ls × Accepted rows) → MeansOf check (checked_answer check ls rows text)
+  pub answer-means : (check : Result (Unit {0}) Refusal) → (check ≡ Ok tt → Loadable ls × Accepted rows) → MeansOf check (checked_answer check ls rows text)
   unfolding checked_answer Means Refuses
-  answer-means Passed good = let (loadable, accepted) = good refl in text-means Passed refl loadable accepted
-  answer-means (Failed r) good = refl
+  answer-means (Ok tt) good = let (loadable, accepted) = good refl in text-means (Ok tt) refl loadable accepted
+  answer-means (Err r) good = refl
 
 -- ---- the starts as code has them
 
 module _ (ls : List (List ℕ)) (rows text : List ℕ) (loadable : Loadable ls) (accepted : Accepted rows) where
   -- What is known at the end of a log that was followed is what is shown.
-  pub starts-known : (r : Followed) → r ≡ follow_log (frames_of ls rows) rows (lines_of text) → r.place ≡ 0
-      → accepted_with (map (start_shown r.progress) (range 1 16)) ≡ accepted_with (shown_starts (frames_of ls rows) rows (lines_of text))
+  pub starts-known : (p : Progress) → follow_log (frames_of ls rows) rows (lines_of text) ≡ record { place = 0; progress = p }
+      → map (start_shown p) (range 1 16) ≡ shown_starts (frames_of ls rows) rows (lines_of text)
   unfolding shown_starts
-  starts-known r e z =
-      let z' = ap (λ (x : Followed). x.place) (sym e) ∙ z in
-      ap accepted_with (map_same (range 1 16) (λ j m. ap (λ (x : Followed). start_shown x.progress j) e ∙ shown-known ls rows accepted loadable (lines_of text) z' j))
+  starts-known p e =
+      map_same (range 1 16)
+      (λ j m. ap (λ (x : Followed). start_shown x.progress j) (sym e) ∙ shown-known ls rows accepted loadable (lines_of text) (ap (λ (x : Followed). x.place) e) j)

@@ -1,26 +1,20 @@
 -- What is returned in numbers: it settles the answer, and comes in the documents' order.
-use Rattle.std.specs.Prelude.{ℕ, ◌+◌, ◌≡◌, false, List, eqb, length}
+use Rattle.std.specs.Prelude.{ℕ, ◌+◌, ◌≡◌, false, List, eqb, length, Option, Some, None, Result, Ok, Err}
 use Rattle.std.proofs.Math.Path.{refl}
 use Rattle.std.proofs.Common.{sym, ap, arith}
 use borrow.Author.Tests.{ne_eqb}
-use Rattle.arith.specs.declared.Found.{Found}
-use Rattle.arith.specs.declared.Found.TheVariants.{At, Nothing}
+use Rattle.table_checks.specs.declared.Refusal.{Refusal as TableRefusal}
 use Rattle.arith.specs.Laws.Tests.{by-test}
 use Rattle.table_checks.specs.Frames.{frames_of}
-use Rattle.table_checks.specs.Refusal.{Returned, returned, check_returns}
-use Rattle.table_checks.specs.declared.Checked.{Checked}
-use Rattle.table_checks.specs.declared.Checked.TheVariants.{Passed, Failed}
+use Rattle.table_checks.specs.Refusal.{check_returns}
 use Rattle.table_checks.proofs.Laws.Returns.{number-some as table-number-some, number-settles as table-number-settles, number-range}
 use Rattle.bus_log.specs.Follow.{follow_log}
 use Rattle.log_check.specs.declared.Refusal.{Refusal}
-use Rattle.log_check.specs.declared.Outcome.{Outcome}
-use Rattle.log_check.specs.declared.Outcome.TheVariants.{Accepted, Refused}
-use Rattle.log_check.specs.declared.LogChecked.{LogChecked}
 use Rattle.log_check.specs.declared.Cause.{Cause}
 use Rattle.log_check.specs.declared.Cause.TheVariants.{Table, Notation, Contradiction}
 use Rattle.log_check.specs.Refusal.{number_of}
 use Rattle.log_check.specs.Check.{is_missized, first_broken, lines_of, followed_answer, line_answer, text_answer, checked_answer}
-use Rattle.log_check.specs.Returns.{LogReturned, outcome_returns, log_returns, log_returns_for}
+use Rattle.log_check.specs.Returns.{LogReturned, log_returns, log_returns_for}
 
 -- No cause has the number 0.
 pub number-some : (cause : Cause) → number_of cause ≡ 0 → ⊥
@@ -42,43 +36,33 @@ number-settles Contradiction (Table b) e = absurd (omega (arith, (number-range b
 number-settles Contradiction Notation e = absurd (omega arith)
 number-settles Contradiction Contradiction e = refl
 
-outcome-settles : (a b : Outcome) → outcome_returns a ≡ outcome_returns b → a ≡ b
-unfolding outcome_returns
-outcome-settles Accepted Accepted e = refl
-outcome-settles Accepted (Refused g) e = absurd (number-some g.cause (sym (ap (λ (r : Returned). r.number) e)))
-outcome-settles (Refused f) Accepted e = absurd (number-some f.cause (ap (λ (r : Returned). r.number) e))
-outcome-settles (Refused f) (Refused g) e =
-    let cause : f.cause ≡ g.cause = number-settles f.cause g.cause (ap (λ (r : Returned). r.number) e) in
-    let place : f.place ≡ g.place = ap (λ (r : Returned). r.place) e in
-    ap Refused (both f.cause f.place cause place)
+-- Answers that return the same are the same.
+pub log-settles : (a b : Result (List ℕ) Refusal) → log_returns a ≡ log_returns b → a ≡ b
+unfolding log_returns
+log-settles (Ok s) (Ok t) e = ap Ok (ap (λ (r : LogReturned). r.starts) e)
+log-settles (Ok s) (Err g) e = absurd (number-some g.cause (sym (ap (λ (r : LogReturned). r.number) e)))
+log-settles (Err f) (Ok t) e = absurd (number-some f.cause (ap (λ (r : LogReturned). r.number) e))
+log-settles (Err f) (Err g) e =
+    let cause : f.cause ≡ g.cause = number-settles f.cause g.cause (ap (λ (r : LogReturned). r.number) e) in
+    let place : f.place ≡ g.place = ap (λ (r : LogReturned). r.place) e in
+    ap Err (both f.cause f.place cause place)
   where
     both : (c : Cause) (p : ℕ) {c' : Cause} {p' : ℕ} → c ≡ c' → p ≡ p' → ◌≡◌ {A = Refusal} (record { cause = c; place = p }) (record { cause = c'; place = p' })
     both c p x y = cc
 
--- Answers that return the same are the same.
-pub log-settles : (a b : LogChecked) → log_returns a ≡ log_returns b → a ≡ b
-unfolding log_returns
-log-settles a b e =
-    whole a.outcome a.starts
-    (outcome-settles a.outcome b.outcome (ap (λ (r : LogReturned). returned r.number r.place) e))
-    (ap (λ (r : LogReturned). r.starts) e)
-  where
-    whole : (o : Outcome) (s : List ℕ) {o' : Outcome} {s' : List ℕ} → o ≡ o' → s ≡ s' → ◌≡◌ {A = LogChecked} (record { outcome = o; starts = s }) (record { outcome = o'; starts = s' })
-    whole o s x y = cc
-
 module _ (ls : List (List ℕ)) (rows text : List ℕ) where
-  line-returns : (found : Found) → first_broken text ≡ found → is_missized (length text) ≡ false
-      → log_returns (text_answer ls rows text) ≡ log_returns_for (check_returns Passed) ls rows text
-  unfolding text_answer line_answer followed_answer log_returns outcome_returns log_returns_for number_of check_returns
-  line-returns (At i) e f = rw (f, e, ne_eqb (i + 1) 0 (λ z. omega arith))
-  line-returns Nothing e f =
+  line-returns : (found : Option ℕ) → first_broken text ≡ found → is_missized (length text) ≡ false
+      → log_returns (text_answer ls rows text) ≡ log_returns_for (check_returns (Ok tt)) ls rows text
+  unfolding text_answer line_answer followed_answer log_returns log_returns_for number_of check_returns
+  line-returns (Some i) e f = rw (f, e, ne_eqb (i + 1) 0 (λ z. omega arith))
+  line-returns None e f =
       by-test (eqb (follow_log (frames_of ls rows) rows (lines_of text)).place 0) (λ t. rw (f, e, t)) (λ n. rw (f, e, n))
 
-  text-returns : log_returns (text_answer ls rows text) ≡ log_returns_for (check_returns Passed) ls rows text
-  unfolding text_answer log_returns outcome_returns log_returns_for number_of check_returns
+  text-returns : log_returns (text_answer ls rows text) ≡ log_returns_for (check_returns (Ok tt)) ls rows text
+  unfolding text_answer log_returns log_returns_for number_of check_returns
   text-returns = by-test (is_missized (length text)) (λ t. rw t) (λ f. line-returns (first_broken text) refl f)
 
-  pub checked-returns : (checked : Checked) → log_returns (checked_answer checked ls rows text) ≡ log_returns_for (check_returns checked) ls rows text
-  unfolding checked_answer log_returns outcome_returns log_returns_for number_of check_returns
-  checked-returns Passed = text-returns
-  checked-returns (Failed r) = rw (ne_eqb _ 0 (table-number-some r.cause))
+  pub checked-returns : (checked : Result (Unit {0}) TableRefusal) → log_returns (checked_answer checked ls rows text) ≡ log_returns_for (check_returns checked) ls rows text
+  unfolding checked_answer log_returns log_returns_for number_of check_returns
+  checked-returns (Ok tt) = text-returns
+  checked-returns (Err r) = rw (ne_eqb _ 0 (table-number-some r.cause))

@@ -1,19 +1,16 @@
 -- No start that is shown has more than eleven digits.
-use Rattle.std.specs.Prelude.{ℕ, ◌+◌, ◌*◌, ◌≤◌, ◌<◌, ◌≡◌, refl, false, eqb, length, get_or}
+use Rattle.std.specs.Prelude.{ℕ, ◌+◌, ◌*◌, ◌≤◌, ◌<◌, ◌≡◌, refl, false, eqb, length, get_or, Option, Some, None, Result, Ok, Err}
 use mathlib.Core.List.Memᴰ.{head as here}
 use mathlib.Core.List.Memᴰ.{tail as there}
 use mathlib.Core.List.{List, [], ◌∷◌, Memᴰ as Mem}
 use Rattle.std.proofs.Common.{arith}
 use Rattle.std.proofs.lemmas.List.{get_or-replicate}
-use Rattle.arith.specs.declared.Found.{Found}
-use Rattle.arith.specs.declared.Found.TheVariants.{At, Nothing}
+use Rattle.table_checks.specs.declared.Refusal.{Refusal}
 use Rattle.arith.specs.Laws.Tests.{by-test}
 use Rattle.arith.specs.Laws.Members.{get_d-table, place_of}
 use Rattle.bus_model.specs.Frame.{row}
 use Rattle.bus_model.specs.declared.Frame.{Frame}
 use Rattle.table_checks.specs.Frames.{frames_of}
-use Rattle.table_checks.specs.declared.Checked.{Checked}
-use Rattle.table_checks.specs.declared.Checked.TheVariants.{Passed, Failed}
 use Rattle.frame_table.specs.Text.{fields_of}
 use Rattle.lengths_file.specs.Lengths.{lengths_of}
 use Rattle.lengths_file.specs.Input.{input_check}
@@ -66,23 +63,23 @@ zeros : (i : ℕ) → i < 16 → get_or no_starts i 0 ≤ latest
 zeros i h = omega (arith, get_or-replicate {A = ℕ} 16 i 0 0 h)
 
 module _ (ls : List (List ℕ)) (rows text : List ℕ) (i : ℕ) (h : i < 16) where
-  followed-early : Holds text (lines_of text) → get_or (followed_answer (frames_of ls rows) rows (lines_of text)).starts i 0 ≤ latest
-  unfolding followed_answer shown_starts
+  followed-early : Holds text (lines_of text) → get_or (log_returns (followed_answer (frames_of ls rows) rows (lines_of text))).starts i 0 ≤ latest
+  unfolding log_returns followed_answer shown_starts
   followed-early holds =
       by-test (eqb (follow_log (frames_of ls rows) rows (lines_of text)).place 0)
       (λ t. rw (t, get_d-table (shown_start (frames_of ls rows) rows (lines_of text)) 1 16 i 0 h)
       (shown-early (frames_of ls rows) rows (1 + i) (lines_of text) (early (lines_of text) text holds)))
       (λ f. rw f (zeros i h))
 
-  line-early : is_missized (length text) ≡ false → (found : Found) → first_broken text ≡ found → get_or (line_answer ls rows text found).starts i 0 ≤ latest
-  unfolding line_answer
-  line-early f (At k) e = zeros i h
-  line-early f Nothing e = followed-early (all_hold text f e)
+  line-early : is_missized (length text) ≡ false → (found : Option ℕ) → first_broken text ≡ found → get_or (log_returns (line_answer ls rows text found)).starts i 0 ≤ latest
+  unfolding log_returns line_answer
+  line-early f (Some k) e = zeros i h
+  line-early f None e = followed-early (all_hold text f e)
 
-  answer-early : (check : Checked) → get_or (checked_answer check ls rows text).starts i 0 ≤ latest
-  unfolding checked_answer text_answer
-  answer-early (Failed r) = zeros i h
-  answer-early Passed = by-test (is_missized (length text)) (λ t. rw t (zeros i h)) (λ f. rw f (line-early f (first_broken text) refl))
+  answer-early : (check : Result (Unit {0}) Refusal) → get_or (log_returns (checked_answer check ls rows text)).starts i 0 ≤ latest
+  unfolding log_returns checked_answer text_answer
+  answer-early (Err r) = zeros i h
+  answer-early (Ok tt) = by-test (is_missized (length text)) (λ t. rw t (zeros i h)) (λ f. rw f (line-early f (first_broken text) refl))
 
 -- What is returned of them.
 pub starts-early : (lengths table text : List ℕ) (i : ℕ) → i < 16 → get_or (files_returns lengths table text).starts i 0 ≤ latest

@@ -9,7 +9,7 @@ use Rattle.log_command.specs.Command.{starts_text}
 use Rattle.log_command.proofs.write_lines.Goals as goal
 
 pub loop-i-init : goal.loop-i-init
-loop-i-init c = (refl, search rules, refl)
+loop-i-init c = (refl, refl)
 
 pub write_numbered_line-requires : goal.write_numbered_line-requires
 write_numbered_line-requires c =
@@ -20,9 +20,8 @@ unfolding starts_text numbered_at
 loop-i-preserved c = (
   line-over (numbered-lines 11 c.args.starts.now) _ _ _ _ c.loop-i.invariant.0 _ c.loop-i-test.true c.write_numbered_line.ensures,
   search rules,
-  search rules,
 )
 
 pub returns : goal.returns
 unfolding starts_text
-returns c = lines-over (numbered-lines 11 c.args.starts.now) _ _ _ _ c.loop-i.invariant.0 c.loop-i.invariant.1 c.loop-i-test.false
+returns c = lines-over (numbered-lines 11 c.args.starts.now) _ _ _ _ c.loop-i.invariant.0 c.loop-i.auto.i-end c.loop-i-test.false

@@ -1,8 +1,7 @@
 -- Each start can be read back from its column: none is cut.
-use Rattle.std.specs.Prelude.{ℕ, ◌+◌, ◌-◌, ◌*◌, ◌<◌, ◌≡◌, List, [], ◌∷◌, ◌++◌, get_or, take, drop}
+use Rattle.std.specs.Prelude.{ℕ, ◌+◌, ◌-◌, ◌*◌, ◌<◌, ◌≡◌, List, [], ◌∷◌, ◌++◌, get_or, take, drop, Some}
 use Rattle.std.proofs.Common.{sym, ap, ◌∙◌, append_assoc, arith, drop-drop, drop_at, take_at}
 use Rattle.arith.specs.Laws.Lines.{lines_at}
-use Rattle.decimal.specs.declared.Column.TheVariants.{Value}
 use Rattle.decimal.specs.Decimal.{read_column, write_column}
 use Rattle.decimal.specs.Numbered.{numbered_line, numbered_at, numbered_lines}
 use Rattle.decimal.specs.Laws.{length-write, read-write, numbered-lines}
@@ -24,7 +23,7 @@ column-at starts i h =
     ∙ take_at (write_column 11 s) ((10 ∷ []) ++ rest) 11 (length-write 11 s)
 
 pub start-read : (lengths table log : List ℕ) (i : ℕ) → i < 16 → let r = files_returns lengths table log in r.number ≡ 0
-    → read_column (take 11 (drop (15 * i + 3) (text_of r))) ≡ Value (get_or r.starts i 0)
+    → read_column (take 11 (drop (15 * i + 3) (text_of r))) ≡ Some (get_or r.starts i 0)
 unfolding text_of
 start-read lengths table log i h e =
     let r = files_returns lengths table log in

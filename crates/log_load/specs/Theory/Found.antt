@@ -7,7 +7,6 @@ use native.Mathlib.Omega.{arith}
 use Rattle.std.proofs.Math.Decide.{dec_lt}
 use Rattle.std.proofs.Math.Dec.{eqb, eqb→eq}
 use Rattle.arith.specs.Lists.{greatest, range}
-use Rattle.arith.specs.Least.{or_zero}
 use Rattle.arith.specs.Laws.Members.{mem-range, of_range}
 use Rattle.arith.specs.Laws.Sums.{le-greatest, greatest-le}
 use Rattle.arith.specs.Laws.Least.{least_at, least-finds}
@@ -31,7 +30,7 @@ module _ (log : List Line) (w : ℕ) (room : w ≤ last_end log) where
 
   -- None that begins earlier has as many.
   pub busiest-first : (s : ℕ) → Busiest log w s → first_busiest log w ≡ s
-  unfolding first_busiest or_zero
+  unfolding first_busiest
   busiest-first s b =
       let same = busiest-most s b in
       let p : ℕ → Bool = λ u. eqb (busy_in log w u) (most_busy log w) in

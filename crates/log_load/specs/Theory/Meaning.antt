@@ -1,13 +1,12 @@
 -- A sheet is written of an accepted log alone, and says what it is to say.
-use Rattle.std.specs.Prelude.{ℕ, ◌+◌, ◌*◌, ◌/◌, ◌≤◌, ◌≡◌, Bool, true, false, List, eqb, ltb, length}
+use Rattle.std.specs.Prelude.{ℕ, ◌+◌, ◌*◌, ◌/◌, ◌≤◌, ◌≡◌, Bool, true, false, List, eqb, ltb, length, Result, Ok, Err}
 use Rattle.std.proofs.Common.{ap, ◌∙◌, arith, ltb-false}
 use Rattle.std.proofs.lemmas.Bool.{eqb-false}
+use Rattle.table_checks.specs.declared.Refusal.{Refusal as TableRefusal}
 use Rattle.arith.specs.Laws.Tests.{by-test}
 use Rattle.table_checks.specs.Columns.{columns}
 use Rattle.table_checks.specs.Frames.{frames_of}
 use Rattle.table_checks.specs.Checks.{Accepted}
-use Rattle.table_checks.specs.declared.Checked.{Checked}
-use Rattle.table_checks.specs.declared.Checked.TheVariants.{Passed}
 use Rattle.table_checks.proofs.Laws.First.{first-passed}
 use Rattle.table_checks.proofs.Laws.Accepted.{accepted-size}
 use Rattle.frame_table.specs.Text.{fields_of}
@@ -17,12 +16,9 @@ use Rattle.lengths_file.specs.Lengths.{lengths_file_check}
 use Rattle.lengths_file.specs.Input.{input_check}
 use Rattle.bus_log.specs.declared.Line.{Line}
 use Rattle.bus_log.specs.Log.{last_end, AcceptedLog, start_in}
-use Rattle.log_check.specs.declared.Outcome.{Outcome}
-use Rattle.log_check.specs.declared.Outcome.TheVariants.{Accepted as LogAccepted, Refused as LogRefused}
+use Rattle.log_check.specs.declared.Refusal.{Refusal as LogRefusal}
 use Rattle.log_check.specs.Check.{lines_of}
 use Rattle.log_check.specs.Verdict.{Means}
-use Rattle.log_load.specs.declared.Answer.{Answer}
-use Rattle.log_load.specs.declared.Answer.TheVariants.{Done, Refused}
 use Rattle.log_load.specs.declared.Refusal.{Refusal}
 use Rattle.log_load.specs.Refusal.{of_log}
 use Rattle.log_load.specs.Sheet.{sheet_of}
@@ -43,21 +39,20 @@ pub record Ready (ls : List (List ℕ)) (rows text : List ℕ) : Type 0 where
   pub accepted : AcceptedLog (frames_of ls rows) rows (lines_of text)
   pub ordered : Ordered 0 (lines_of text)
 
-pub check-passed : (check : Checked) (ls : List (List ℕ)) (rows text starts : List ℕ) (outcome : Outcome) → Means check ls rows text starts outcome
-    → outcome ≡ LogAccepted → check ≡ Passed
+pub check-passed : (check : Result (Unit {0}) TableRefusal) (ls : List (List ℕ)) (rows text starts : List ℕ) → Means check ls rows text (Ok starts) → check ≡ Ok tt
 unfolding Means
-check-passed check ls rows text starts outcome means is = (rw is at means).0
+check-passed check ls rows text starts means = means.0
 
 -- A table as bytes was read.
-pub table-read : (lengths table : List ℕ) → input_check lengths table ≡ Passed → (read_check table ≡ Passed) × Accepted (fields_of table)
+pub table-read : (lengths table : List ℕ) → input_check lengths table ≡ Ok tt → (read_check table ≡ Ok tt) × Accepted (fields_of table)
 unfolding input_check
 table-read lengths table e = let (a, b) = first-passed (lengths_file_check lengths) (read_check table) e in (b, (text-read table b).0)
 
-pub ready : (check : Checked) (ls : List (List ℕ)) (rows text starts : List ℕ) (outcome : Outcome) → Means check ls rows text starts outcome
-    → outcome ≡ LogAccepted → (check ≡ Passed → Accepted rows) → Ready ls rows text
+pub ready : (check : Result (Unit {0}) TableRefusal) (ls : List (List ℕ)) (rows text starts : List ℕ) → Means check ls rows text (Ok starts)
+    → (check ≡ Ok tt → Accepted rows) → Ready ls rows text
 unfolding Means AcceptedLog
-ready check ls rows text starts outcome means is table =
-    let (passed, holds, shown) = rw is at means in
+ready check ls rows text starts means table =
+    let (passed, holds, shown) = means in
     let accepted : AcceptedLog (frames_of ls rows) rows (lines_of text) = (start_in starts, shown.serve) in
     record {
       table = table passed;
@@ -68,11 +63,11 @@ ready check ls rows text starts outcome means is table =
 
 -- ---- an answer
 
-is_done : Answer → Bool
-is_done (Done n) = true
-is_done (Refused f) = false
+is_done : Result ℕ Refusal → Bool
+is_done (Ok n) = true
+is_done (Err f) = false
 
-pub refused-done : (f : Refusal) (n : ℕ) {A : Type 0} → Refused f ≡ Done n → A
+pub refused-done : (f : Refusal) (n : ℕ) {A : Type 0} → Err f ≡ Ok n → A
 unfolding is_done
 refused-done f n e = let z : false ≡ true = ap is_done e in let y : ◌≡◌ {A = ℕ} 0 1 = cc in absurd (omega arith)
 
@@ -83,26 +78,26 @@ width_some w last f =
     (λ t. let z : true ≡ false = rw t at f in let y : ◌≡◌ {A = ℕ} 0 1 = cc in absurd (omega arith))
     (λ g. let some = eqb-false w 0 g in (omega arith, ltb-false last w (rw g at f)))
 
-width-done : (rows : List ℕ) (log : List Line) (w : ℕ) (old : List ℕ) (n : ℕ) → width_answer rows log w old ≡ Done n
+width-done : (rows : List ℕ) (log : List Line) (w : ℕ) (old : List ℕ) (n : ℕ) → width_answer rows log w old ≡ Ok n
     → (1 ≤ w) × (w ≤ last_end log) × (n ≡ length (sheet_of rows log w)) × (length (sheet_of rows log w) ≤ length old)
 unfolding width_answer
 width-done rows log w old n e =
     by-test (is_no_width w (last_end log)) (λ t. refused-done _ n (rw t at e)) (λ f.
     by-test (ltb (length old) (length (sheet_of rows log w))) (λ t. refused-done _ n (rw (f, t) at e)) (λ g.
     let (some, room) = width_some w (last_end log) f in
-    let same : Done (length (sheet_of rows log w)) ≡ Done n = rw (f, g) at e in
+    let same : Ok (length (sheet_of rows log w)) ≡ Ok n = rw (f, g) at e in
     (some, room, cc, ltb-false (length old) (length (sheet_of rows log w)) g)))
 
 -- Where a sheet is written, it has room.
-pub answer-room : (outcome : Outcome) (rows : List ℕ) (log : List Line) (w : ℕ) (old : List ℕ) (n : ℕ) → outcome_answer outcome rows log w old ≡ Done n
+pub answer-room : (outcome : Result (List ℕ) LogRefusal) (rows : List ℕ) (log : List Line) (w : ℕ) (old : List ℕ) (n : ℕ) → outcome_answer outcome rows log w old ≡ Ok n
     → (n ≡ length (sheet_of rows log w)) × (length (sheet_of rows log w) ≤ length old)
 unfolding outcome_answer
-answer-room LogAccepted rows log w old n e = let (some, room, same, fits) = width-done rows log w old n e in (same, fits)
-answer-room (LogRefused f) rows log w old n e = refused-done (of_log f) n e
+answer-room (Ok starts) rows log w old n e = let (some, room, same, fits) = width-done rows log w old n e in (same, fits)
+answer-room (Err f) rows log w old n e = refused-done (of_log f) n e
 
 -- What it says.
 pub sheet-says : (ls : List (List ℕ)) (rows text : List ℕ) (w : ℕ) (old : List ℕ) (n : ℕ) → Ready ls rows text
-    → width_answer rows (lines_of text) w old ≡ Done n → Says ls rows text w n
+    → width_answer rows (lines_of text) w old ≡ Ok n → Says ls rows text w n
 sheet-says ls rows text w old n ok e =
     let (some, room, same, fits) = width-done rows (lines_of text) w old n e in
     let size : n ≡ 23 + 42 * (length rows / columns) = same ∙ length-sheet rows (lines_of text) w in

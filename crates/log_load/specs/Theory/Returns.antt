@@ -1,26 +1,22 @@
 -- What is returned in numbers: it settles the answer, and comes in document 02's order.
-use Rattle.std.specs.Prelude.{ℕ, ◌≡◌, refl, cond, List, eqb, ltb, length}
+use Rattle.std.specs.Prelude.{ℕ, ◌≡◌, refl, cond, List, eqb, ltb, length, Result, Ok, Err}
 use Rattle.std.proofs.Common.{sym, ap, ◌∙◌, arith}
 use borrow.Author.Tests.{ne_eqb}
+use Rattle.log_load.specs.declared.Refusal.{Refusal}
 use Rattle.arith.specs.Laws.Tests.{by-test}
 use Rattle.table_checks.specs.declared.Cause.TheVariants.{OutputArea}
 use Rattle.table_checks.specs.Refusal.{number_of as table_number_of, returned}
-use Rattle.table_checks.specs.Returns.{first_returned}
 use Rattle.table_checks.proofs.Laws.Returns.{number-range, cause_of as table_cause_of, cause-back as table-cause-back}
 use Rattle.frame_table.specs.Table.{Answered, returns_for}
 use Rattle.bus_log.specs.declared.Line.{Line}
 use Rattle.bus_log.specs.Log.{last_end}
 use Rattle.log_check.specs.declared.Cause.TheVariants.{Table, Notation, Contradiction}
-use Rattle.log_check.specs.declared.Outcome.{Outcome}
-use Rattle.log_check.specs.declared.Outcome.TheVariants.{Accepted, Refused as LogRefused}
-use Rattle.log_check.specs.declared.LogChecked.{LogChecked}
+use Rattle.log_check.specs.declared.Refusal.{Refusal as LogRefusal}
 use Rattle.log_check.specs.Refusal.{number_of as log_number_of}
-use Rattle.log_check.specs.Returns.{LogReturned, outcome_returns, log_returns}
+use Rattle.log_check.specs.Returns.{LogReturned, log_returns}
 use Rattle.log_check.specs.Laws.Returns.{number-some}
 use Rattle.log_load.specs.declared.Cause.{Cause}
 use Rattle.log_load.specs.declared.Cause.TheVariants.{Log, Width}
-use Rattle.log_load.specs.declared.Answer.{Answer}
-use Rattle.log_load.specs.declared.Answer.TheVariants.{Done, Refused}
 use Rattle.log_load.specs.Refusal.{number_of}
 use Rattle.log_load.specs.Sheet.{sheet_of}
 use Rattle.log_load.specs.Answer.{is_no_width, refused_at, width_answer, outcome_answer}
@@ -29,7 +25,7 @@ use Rattle.log_load.specs.Returns.{answer_returns, width_returns, returns_after}
 -- ---- the order
 
 module _ (rows : List ℕ) (log : List Line) (w : ℕ) (old : List ℕ) where
-  room-returned : answer_returns (cond (ltb (length old) (length (sheet_of rows log w))) (refused_at (Log (Table OutputArea)) 0) (Done (length (sheet_of rows log w))))
+  room-returned : answer_returns (cond (ltb (length old) (length (sheet_of rows log w))) (refused_at (Log (Table OutputArea)) 0) (Ok (length (sheet_of rows log w))))
       ≡ returns_for (returned 0 0) (sheet_of rows log w) old
   unfolding answer_returns returns_for number_of log_number_of table_number_of
   room-returned = by-test (ltb (length old) (length (sheet_of rows log w))) (λ t. rw t) (λ f. rw f)
@@ -38,11 +34,10 @@ module _ (rows : List ℕ) (log : List Line) (w : ℕ) (old : List ℕ) where
   unfolding answer_returns width_answer width_returns returns_for number_of log_number_of
   width-returned = by-test (is_no_width w (last_end log)) (λ t. rw t) (λ f. rw f room-returned)
 
-  outcome-returned : (outcome : Outcome)
-      → answer_returns (outcome_answer outcome rows log w old) ≡ returns_for (first_returned (outcome_returns outcome) (width_returns w (last_end log))) (sheet_of rows log w) old
-  unfolding outcome_answer outcome_returns answer_returns returns_for number_of
-  outcome-returned Accepted = width-returned
-  outcome-returned (LogRefused f) = let no = ne_eqb _ 0 (number-some f.cause) in rw (no, no)
+  outcome-returned : (outcome : Result (List ℕ) LogRefusal) → answer_returns (outcome_answer outcome rows log w old) ≡ returns_after (log_returns outcome) rows log w old
+  unfolding outcome_answer log_returns returns_after answer_returns returns_for number_of
+  outcome-returned (Ok starts) = width-returned
+  outcome-returned (Err f) = let no = ne_eqb _ 0 (number-some f.cause) in rw (no, no)
 
 -- ---- what it settles
 
@@ -68,22 +63,21 @@ unfolding number_of
 cause-some Width e = omega arith
 cause-some (Log cause) e = number-some cause e
 
-answer_of : Answered → Answer
-answer_of a = cond (eqb a.number 0) (Done a.written) (Refused (record { cause = cause_of a.number; place = a.place }))
+answer_of : Answered → Result ℕ Refusal
+answer_of a = cond (eqb a.number 0) (Ok a.written) (Err (record { cause = cause_of a.number; place = a.place }))
 
-answer_back : (a : Answer) → answer_of (answer_returns a) ≡ a
+answer_back : (a : Result ℕ Refusal) → answer_of (answer_returns a) ≡ a
 unfolding answer_of answer_returns
-answer_back (Done n) = refl
-answer_back (Refused f) = rw (ne_eqb _ _ (cause-some f.cause), cause-back f.cause)
+answer_back (Ok n) = refl
+answer_back (Err f) = rw (ne_eqb _ _ (cause-some f.cause), cause-back f.cause)
 
 -- Answers that return the same are the same.
-pub answer-settles : (a b : Answer) → answer_returns a ≡ answer_returns b → a ≡ b
+pub answer-settles : (a b : Result ℕ Refusal) → answer_returns a ≡ answer_returns b → a ≡ b
 answer-settles a b e = sym (answer_back a) ∙ ap answer_of e ∙ answer_back b
 
 -- ---- what the code answers, told in numbers
 
-pub answer-told : (rows : List ℕ) (log : List Line) (w : ℕ) (old : List ℕ) (checked : LogChecked) (returned : LogReturned) {a : Answer}
-    → log_returns checked ≡ returned → a ≡ outcome_answer checked.outcome rows log w old → answer_returns a ≡ returns_after returned rows log w old
-unfolding returns_after log_returns
+pub answer-told : (rows : List ℕ) (log : List Line) (w : ℕ) (old : List ℕ) (checked : Result (List ℕ) LogRefusal) (returned : LogReturned) {a : Result ℕ Refusal}
+    → log_returns checked ≡ returned → a ≡ outcome_answer checked rows log w old → answer_returns a ≡ returns_after returned rows log w old
 answer-told rows log w old checked returned numbers is =
-    ap answer_returns is ∙ outcome-returned rows log w old checked.outcome ∙ ap (λ (r : LogReturned). returns_after r rows log w old) numbers
+    ap answer_returns is ∙ outcome-returned rows log w old checked ∙ ap (λ (r : LogReturned). returns_after r rows log w old) numbers

@@ -1,7 +1,7 @@
 -- The two searches of a scenario, as one loop computes them: the load of a number, what the loop may pass over,
 -- the busy window, and the instances of a window one after the other.
 use Prim.Native.Nat.{ℕ, zero, suc, ◌+◌, ◌-◌, ◌*◌, ◌≤◌, ◌<◌, min, max}
-use Rattle.std.specs.Prelude.{◌≡◌, List, Bool, T}
+use Rattle.std.specs.Prelude.{◌≡◌, List, Bool, T, Option, Some, None}
 use Rattle.std.proofs.Math.Path.{refl, sym, ap, fun_ext}
 use Rattle.std.proofs.Common.{subst, ◌∙◌, add-zero, mul-le-mul}
 use native.Mathlib.Omega.{arith}
@@ -14,9 +14,9 @@ use Rattle.arith.specs.Least.{least, or_zero}
 use Rattle.arith.specs.Releases.{releases_before}
 use Rattle.arith.specs.Laws.Walks.{CountUp, count-start, count-more, count-end, greatest-more}
 use Rattle.arith.specs.Laws.Releases.{counted}
+use Rattle.arith.specs.Laws.Members.{of_range}
+use Rattle.arith.specs.Laws.Sums.{greatest-le}
 use Rattle.arith.specs.Laws.Least.{least-le, least-here, least-none, least_skip, least-from, least-neither}
-use Rattle.arith.specs.declared.Found.{Found}
-use Rattle.arith.specs.declared.Found.TheVariants.{At, Nothing}
 use Rattle.bus_model.specs.declared.Frame.{Frame}
 use Rattle.bus_model.specs.declared.Faults.{Faults}
 use Rattle.bus_model.specs.declared.Faults.TheVariants.{Never, Apart}
@@ -40,7 +40,7 @@ use Rattle.workload.specs.Placed.{Placed, placed_frames, placed_out, placed_work
 use Rattle.workload.proofs.Laws.Fine.{in-table-fine}
 use Rattle.workload.proofs.Laws.Groups.{blocking-small}
 use Rattle.workload.proofs.Laws.Placed.{placed-mono, placed-both, faults-work, better-exact, ahead-exact}
-use Rattle.response_time.specs.Load.{load_of, frame_load, holds, OwnFixed, Asked, base_of, waits_of, shift_of, placed_holds}
+use Rattle.response_time.specs.Load.{load_of, frame_load, holds, Asked, base_of, waits_of, shift_of, placed_holds, Windowed, Later, NoneAbove, Meets}
 
 -- ---- the search for a number that holds its load, where loads do not fall
 
@@ -49,7 +49,7 @@ module _ (load : ℕ → ℕ) (mono : (x y : ℕ) → x ≤ y → load x ≤ loa
   fits y = leb (load y) y
 
   -- It stops at one.
-  pub stop-here : x < e → needed ≤ x → At x ≡ least fits (e - x) x
+  pub stop-here : x < e → needed ≤ x → Some x ≡ least fits (e - x) x
   stop-here inside le = sym (least-here _ e x inside (le→leb _ x (rw is at le)))
 
   -- Nothing below its load holds its own.
@@ -61,7 +61,7 @@ module _ (load : ℕ → ℕ) (mono : (x y : ℕ) → x ≤ y → load x ≤ loa
   skip-on more inside = least_skip _ e x needed (omega arith) inside passed_over
 
   -- and finds nothing where that is beyond its end.
-  pub stop-beyond : e ≤ needed → Nothing ≡ least fits (e - x) x
+  pub stop-beyond : e ≤ needed → None ≡ least fits (e - x) x
   stop-beyond over = sym (least-none _ (e - x) x (λ y le less. passed_over y le (omega arith)))
 
 -- ---- that of a scenario
@@ -76,7 +76,7 @@ module _ (faults : Faults) {fs : List Frame} (valid : Valid fs) (k : Frame) (cs 
       omega (arith, work-mono later fs valid k (better-ahead fs k) cs, fault-mono ended faults fs k)
 
   module _ (search : Search) (e x : ℕ) {needed : ℕ} (is : needed ≡ load_of faults fs k cs search x) where
-    pub climb-here : x < e → needed ≤ x → At x ≡ least (holds faults fs k cs search) (e - x) x
+    pub climb-here : x < e → needed ≤ x → Some x ≡ least (holds faults fs k cs search) (e - x) x
     unfolding holds
     climb-here = stop-here (load_of faults fs k cs search) (load-mono search) e x is
 
@@ -84,7 +84,7 @@ module _ (faults : Faults) {fs : List Frame} (valid : Valid fs) (k : Frame) (cs 
     unfolding holds
     climb-skip = skip-on (load_of faults fs k cs search) (load-mono search) e x is
 
-    pub climb-beyond : e ≤ needed → Nothing ≡ least (holds faults fs k cs search) (e - x) x
+    pub climb-beyond : e ≤ needed → None ≡ least (holds faults fs k cs search) (e - x) x
     unfolding holds
     climb-beyond = stop-beyond (load_of faults fs k cs search) (load-mono search) e x is
 
@@ -94,7 +94,7 @@ module _ {gs : List Placed} (fine : FinePlaced gs) (shift base e x : ℕ) {neede
   placed-load-mono : (x y : ℕ) → x ≤ y → base + placed_work gs (x + shift) ≤ base + placed_work gs (y + shift)
   placed-load-mono x y le = let later : x + shift ≤ y + shift = omega arith in omega (arith, placed-mono fine later)
 
-  pub placed-here : x < e → needed ≤ x → At x ≡ least (placed_holds gs shift base) (e - x) x
+  pub placed-here : x < e → needed ≤ x → Some x ≡ least (placed_holds gs shift base) (e - x) x
   unfolding placed_holds
   placed-here = stop-here (λ y. base + placed_work gs (y + shift)) placed-load-mono e x is
 
@@ -102,7 +102,7 @@ module _ {gs : List Placed} (fine : FinePlaced gs) (shift base e x : ℕ) {neede
   unfolding placed_holds
   placed-skip = skip-on (λ y. base + placed_work gs (y + shift)) placed-load-mono e x is
 
-  pub placed-beyond : e ≤ needed → Nothing ≡ least (placed_holds gs shift base) (e - x) x
+  pub placed-beyond : e ≤ needed → None ≡ least (placed_holds gs shift base) (e - x) x
   unfolding placed_holds
   placed-beyond = stop-beyond (λ y. base + placed_work gs (y + shift)) placed-load-mono e x is
 
@@ -175,18 +175,18 @@ module _ (faults : Faults) {fs : List Frame} (valid : Valid fs) (k : Frame) (cs 
   load-finer Window x = omega (arith, work-refine valid k (λ g m. m) cs cs' finer x)
   load-finer (Instance q) x = omega (arith, work-refine valid k (better-ahead fs k) cs cs' finer (suc x))
 
-  module _ (search : Search) (e x : ℕ) {found : Found} (is : found ≡ least (holds faults fs k cs' search) (e - x) x) where
+  module _ (search : Search) (e x : ℕ) {found : Option ℕ} (is : found ≡ least (holds faults fs k cs' search) (e - x) x) where
     -- What holds its load holds it there.
     holds-finer : (y : ℕ) → T (holds faults fs k cs search y) → T (holds faults fs k cs' search y)
     unfolding holds
     holds-finer y t = le→leb _ y (omega (arith, load-finer search y, leb→le _ y t))
 
     -- So the search goes on at what is found there,
-    pub finer-skip : {y : ℕ} → found ≡ At y → least (holds faults fs k cs search) (e - x) x ≡ least (holds faults fs k cs search) (e - y) y
+    pub finer-skip : {y : ℕ} → found ≡ Some y → least (holds faults fs k cs search) (e - x) x ≡ least (holds faults fs k cs search) (e - y) y
     finer-skip {y} at = least-from _ _ e holds-finer x y (sym is ∙ at)
 
     -- and finds nothing where nothing is found there.
-    pub finer-beyond : found ≡ Nothing → Nothing ≡ least (holds faults fs k cs search) (e - x) x
+    pub finer-beyond : found ≡ None → None ≡ least (holds faults fs k cs search) (e - x) x
     finer-beyond none = sym (least-neither _ _ e holds-finer x (sym is ∙ none))
 
 -- ---- the busy window
@@ -198,7 +198,7 @@ module _ (faults : Faults) (fs : List Frame) (k : Frame) (cs : List Choice) wher
   window-search = refl
 
   -- It is not longer than the limit.
-  pub window-small : {l : ℕ} → busy_window faults fs k cs ≡ At l → l ≤ 1000000
+  pub window-small : {l : ℕ} → busy_window faults fs k cs ≡ Some l → l ≤ 1000000
   unfolding window_limit
   window-small {l} e = (window-at faults fs k cs l e).1
 
@@ -211,7 +211,7 @@ module _ (faults : Faults) (fs : List Frame) (k : Frame) (cs : List Choice) wher
   delay-search q from later inside = sym (least_skip _ 1000000 0 from (omega arith) inside (λ w low less t. omega (arith, later w (leb→le _ w t))))
 
   -- No other delay is below it.
-  delay-least : (q v w : ℕ) → queueing_delay faults fs k cs q ≡ At v → delay_load faults fs k cs q w ≤ w → v ≤ w
+  delay-least : (q v w : ℕ) → queueing_delay faults fs k cs q ≡ Some v → delay_load faults fs k cs q w ≤ w → v ≤ w
   unfolding queueing_delay
   delay-least q v w e fits = least-le _ window_limit 0 v w e (omega arith) (le→leb _ w fits)
 
@@ -230,26 +230,25 @@ module _ {fs : List Frame} (valid : Valid fs) {k : Frame} (listed : InTable fs k
   start-load q x whole part = let share = own-part (x + 1) in (omega arith, rw (← add-one x) (omega arith))
 
   -- An instance released in the window ends in it.
-  ends-within : (faults : Faults) {l : ℕ} → busy_window faults fs k cs ≡ At l → (q : ℕ) → distance k own + q * k.period < l → (w : ℕ) × (queueing_delay faults fs k cs q ≡ At w) × (w + k.length ≤ l)
+  ends-within : (faults : Faults) {l : ℕ} → busy_window faults fs k cs ≡ Some l → (q : ℕ) → distance k own + q * k.period < l → (w : ℕ) × (queueing_delay faults fs k cs q ≡ Some w) × (w + k.length ≤ l)
   ends-within faults {l} window =
-      subst (λ (f : Frame). choice_of cs f.group ≡ Fixed own → busy_window faults fs f cs ≡ At l
-      → (q : ℕ) → distance f own + q * f.period < l → (w : ℕ) × (queueing_delay faults fs f cs q ≡ At w) × (w + f.length ≤ l))
+      subst (λ (f : Frame). choice_of cs f.group ≡ Fixed own → busy_window faults fs f cs ≡ Some l
+      → (q : ℕ) → distance f own + q * f.period < l → (w : ℕ) × (queueing_delay faults fs f cs q ≡ Some w) × (w + f.length ≤ l))
       (sym listed.is) (λ f. delay-within valid listed.inside faults cs own f l) fixed window
 
 -- ---- the instances released in a busy window
 
--- The window of a scenario that fixes k's own group: its length is l, and k is released so often in it.
-pub record Windowed (faults : Faults) (fs : List Frame) (k : Frame) (cs : List Choice) (l instances : ℕ) : Type 0 where
-  pub accepted : FineTable fs
-  pub listed : InTable fs k
-  pub fixed : OwnFixed k cs
-  pub window : busy_window faults fs k cs ≡ At l
-  pub number : instances ≡ releases_before (own_distance k cs) k.period l
+-- An instance after another waits for no less.
+pub later-pass : (faults : Faults) (fs : List Frame) (k : Frame) (cs : List Choice) {from q p : ℕ} → q ≤ p → Later faults fs k cs from q → Later faults fs k cs from p
+unfolding delay_load
+later-pass faults fs k cs {q = q} {p} le later w t =
+    let same : q + (p - q) ≡ p = omega arith in
+    later w (omega (arith, rw same at (add-mul q (p - q) k.length), t))
 
 -- Instance q is next: `best` is the greatest of `given` and what is counted before it, and no delay of it is below `from`.
 pub record InstanceLoop (faults : Faults) (fs : List Frame) (k : Frame) (cs : List Choice) (l instances given best from q : ℕ) : Type 0 where
   pub counts : CountUp (greatest (instance_response faults fs k cs)) max instances (max given (response_time faults fs k cs l)) best q
-  pub later : (w : ℕ) → delay_load faults fs k cs q w ≤ w → from ≤ w
+  pub later : Later faults fs k cs from q
 
 module _ {faults : Faults} {fs : List Frame} {k : Frame} {cs : List Choice} {l instances given best from : ℕ} where
   -- The last one was counted.
@@ -259,11 +258,10 @@ module _ {faults : Faults} {fs : List Frame} {k : Frame} {cs : List Choice} {l i
 
   -- One that has no greater response may be passed over: the next one waits for no less.
   loop-pass : {q : ℕ} → InstanceLoop faults fs k cs l instances given best from q → q < instances → instance_response faults fs k cs q ≤ best → InstanceLoop faults fs k cs l instances given best from (q + 1)
-  unfolding delay_load
   loop-pass {q} turn inside le =
       record {
         counts = count-more _ _ _ _ turn.counts inside (greatest-more _ best q (omega arith));
-        later = λ w t. turn.later w (omega (arith, add-mul q 1 k.length, t));
+        later = later-pass faults fs k cs (omega arith) turn.later;
       }
 
   -- So may some, up to the last.
@@ -280,6 +278,23 @@ module _ {faults : Faults} {fs : List Frame} {k : Frame} {cs : List Choice} {l i
         | no over ↦ let same : min (q + suc c) instances ≡ q = omega (arith, turn.counts.inside) in rw same turn
       ]
 
+  -- So the greatest is known where none of the rest is above it.
+  pub loop-none : {q : ℕ} → InstanceLoop faults fs k cs l instances given best from q → NoneAbove faults fs k cs best q instances → best ≡ max given (response_time faults fs k cs l)
+  loop-none {q} turn none = loop-end (loop-skip (instances - q) turn (λ i less. none (q + i) (omega arith) (omega arith))) (omega arith)
+
+  -- With the response of the one that is met counted the next one's turn is there.
+  pub loop-met : {q response next from' q' : ℕ} → InstanceLoop faults fs k cs l instances given best from q → Meets faults fs k cs instances best q response from' q'
+      → next ≡ max best response → InstanceLoop faults fs k cs l instances given next from' q'
+  loop-met {q} {from' = from'} {q'} turn m is =
+      let there : min (q + (m.met - q)) instances ≡ m.met = omega (arith, m.reached, m.inside) in
+      let at = rw there at (loop-skip (m.met - q) turn (λ i less. m.passed (q + i) (omega arith) (omega (arith, m.reached)))) in
+      record {
+        counts = rw m.after (count-more _ _ _ _ at.counts m.inside (greatest-more _ best m.met (is ∙ ap (max best) m.is)));
+        later = m.later;
+      }
+
+-- ---- one instance's turn: its delay is found, and its response
+
 module _ {faults : Faults} {fs : List Frame} {k : Frame} {cs : List Choice} {l instances : ℕ} (v : Windowed faults fs k cs l instances) where
   valid : Valid fs
   valid = v.accepted.valid
@@ -292,25 +307,24 @@ module _ {faults : Faults} {fs : List Frame} {k : Frame} {cs : List Choice} {l i
   unfolding response_time
   loop-start = record { counts = count-start _ _ _ _ (rw v.number); later = λ w t. omega arith }
 
-  module _ {given best from q : ℕ} (turn : InstanceLoop faults fs k cs l instances given best from q) (inside : q < instances) where
-    released : own_distance k cs + q * k.period < l
-    released = (counted (own_distance k cs) (in-table-fine fs v.accepted v.listed).period-low l q).0 (rw v.number at inside)
+  released : {q : ℕ} → q < instances → own_distance k cs + q * k.period < l
+  released {q} inside = (counted (own_distance k cs) (in-table-fine fs v.accepted v.listed).period-low l q).0 (rw v.number at inside)
 
-    starts : (w : ℕ) × (queueing_delay faults fs k cs q ≡ At w) × (w + k.length ≤ l)
-    starts = ends-within valid v.listed cs v.fixed.1 faults v.window q (rw own-away at released)
+  -- An instance's release is below the limit.
+  pub loop-fits : (q : ℕ) → q < instances → own_distance k cs + q * k.period < 1000000
+  loop-fits q inside = omega (arith, window-small faults fs k cs v.window, released inside)
 
-    -- Its release is below the limit,
-    pub loop-fits : own_distance k cs + q * k.period < 1000000
-    loop-fits = omega (arith, window-small faults fs k cs v.window, released)
+  module _ {from q : ℕ} (later : Later faults fs k cs from q) (inside : q < instances) where
+    starts : (w : ℕ) × (queueing_delay faults fs k cs q ≡ Some w) × (w + k.length ≤ l)
+    starts = ends-within valid v.listed cs v.fixed.1 faults v.window q (rw own-away at (released inside))
 
-    -- and its delay is found by the search from `from` on.
-    module _ {delay : ℕ} {found : Found} (search : found ≡ least (holds faults fs k cs (Instance q)) (1000000 - from) from) (is : delay ≡ or_zero found) where
-      its-delay : (queueing_delay faults fs k cs q ≡ At delay) × (delay + k.length ≤ l)
-      unfolding or_zero
+    -- Its delay is found by the search from `from` on.
+    module _ {delay : ℕ} {found : Option ℕ} (search : found ≡ least (holds faults fs k cs (Instance q)) (1000000 - from) from) (is : delay ≡ or_zero found) where
+      its-delay : (queueing_delay faults fs k cs q ≡ Some delay) × (delay + k.length ≤ l)
       its-delay =
           let (w, e, le) = starts in
-          let low : from ≤ 1000000 = omega (arith, turn.later w (delay-at faults fs k cs q w e), window-small faults fs k cs v.window) in
-          let same : delay ≡ w = is ∙ ap or_zero (search ∙ delay-search faults fs k cs q from turn.later low ∙ e) in
+          let low : from ≤ 1000000 = omega (arith, later w (delay-at faults fs k cs q w e), window-small faults fs k cs v.window) in
+          let same : delay ≡ w = is ∙ ap or_zero (search ∙ delay-search faults fs k cs q from later low ∙ e) in
           rw same (e, le)
 
       -- It ends below the limit,
@@ -319,62 +333,38 @@ module _ {faults : Faults} {fs : List Frame} {k : Frame} {cs : List Choice} {l i
 
       -- its response runs from its release to there,
       pub loop-response : {response : ℕ} → response ≡ delay + k.length - (own_distance k cs + q * k.period) → response ≡ instance_response faults fs k cs q
-      unfolding instance_response or_zero
+      unfolding instance_response
       loop-response response-is = response-is ∙ rw its-delay.0
 
-      -- and with its response counted the next one's turn is there.
-      pub loop-more : {next response : ℕ} → response ≡ delay + k.length - (own_distance k cs + q * k.period) → next ≡ max best response
-          → InstanceLoop faults fs k cs l instances given next (delay + k.length) (q + 1)
-      loop-more response-is next-is =
-          record {
-            counts = count-more _ _ _ _ turn.counts inside (greatest-more _ best q (next-is ∙ ap (max best) (loop-response response-is)));
-            later = λ w t. delay-next faults valid k cs q delay (λ x u. delay-least faults fs k cs q delay x its-delay.0 u) w (rw add-one at t);
-          }
+      -- and no delay of the next one is below.
+      pub loop-later : Later faults fs k cs (delay + k.length) (q + 1)
+      loop-later w t = delay-next faults valid k cs q delay (λ x u. delay-least faults fs k cs q delay x its-delay.0 u) w (rw add-one at t)
 
 -- ---- the first of them whose response exceeds a claim
 
--- Instance q is next: no response before it exceeds the claim.
-pub record ClaimLoop (faults : Faults) (fs : List Frame) (k : Frame) (cs : List Choice) (l instances claim from q : ℕ) : Type 0 where
-  pub turn : InstanceLoop faults fs k cs l instances claim claim from q
-  pub within : (i : ℕ) → i < q → instance_response faults fs k cs i ≤ claim
+-- What is passed over after those that do not does not either.
+none-on : (faults : Faults) (fs : List Frame) (k : Frame) (cs : List Choice) {claim q end : ℕ} → NoneAbove faults fs k cs claim 0 q → NoneAbove faults fs k cs claim q end → NoneAbove faults fs k cs claim 0 end
+none-on faults fs k cs {q = q} before after i low less = elim (dec_lt i q) [ yes earlier ↦ before i low earlier | no later ↦ after i (omega arith) less ]
 
-module _ {faults : Faults} {fs : List Frame} {k : Frame} {cs : List Choice} {l instances claim : ℕ} (v : Windowed faults fs k cs l instances) where
-  pub claim-start : ClaimLoop faults fs k cs l instances claim 0 0
-  claim-start = record { turn = loop-start v; within = λ i less. absurd (omega arith) }
+module _ {faults : Faults} {fs : List Frame} {k : Frame} {cs : List Choice} {instances claim q : ℕ} (before : NoneAbove faults fs k cs claim 0 q) where
+  -- Where all are passed over, there is none.
+  pub claim-end : {l : ℕ} → Windowed faults fs k cs l instances → NoneAbove faults fs k cs claim q instances → None ≡ exceeding_instance faults fs k claim cs
+  unfolding response_time
+  claim-end {l} v after =
+      sym (exceeding-none faults fs k claim cs (rw (response-at faults fs k cs l v.window)
+      (greatest-le _ (λ i m. let (low, high) = of_range 0 _ m in none-on faults fs k cs before after i (omega arith) (omega (arith, v.number))))))
 
-  module _ {from q : ℕ} (turn : ClaimLoop faults fs k cs l instances claim from q) where
-    -- Some that do not exceed it are passed over.
-    pub claim-skip : (c : ℕ) → ((i : ℕ) → i < c → instance_response faults fs k cs (q + i) ≤ claim) → ClaimLoop faults fs k cs l instances claim from (min (q + c) instances)
-    claim-skip c each =
-        record {
-          turn = loop-skip c turn.turn each;
-          within = λ i less. elim (dec_lt i q) [
-            | yes before ↦ turn.within i before
-            | no after ↦ let is : q + (i - q) ≡ i = omega arith in rw is at (each (i - q) (omega arith))
-          ];
-        }
+  module _ {response from next : ℕ} (m : Meets faults fs k cs instances claim q response from next) where
+    -- The first that exceeds it is found,
+    pub claim-here : {l : ℕ} → Windowed faults fs k cs l instances → claim < response → Some next ≡ exceeding_instance faults fs k claim cs
+    claim-here {l} v more =
+        sym (rw (m.after, add-one m.met) (exceeding-is faults fs k claim cs l v.window m.met (rw v.number at m.inside) (omega (arith, m.is)) (λ i less. none-on faults fs k cs before m.passed i (omega arith) less)))
 
-    -- Where the last one is passed, there is none.
-    pub claim-end : instances ≤ q → Nothing ≡ exceeding_instance faults fs k claim cs
-    claim-end over = let all = loop-end turn.turn over in sym (exceeding-none faults fs k claim cs (omega (arith, response-at faults fs k cs l v.window)))
-
-    module _ (inside : q < instances) {delay : ℕ} {found : Found} (search : found ≡ least (holds faults fs k cs (Instance q)) (1000000 - from) from) (is : delay ≡ or_zero found)
-        {response : ℕ} (response-is : response ≡ delay + k.length - (own_distance k cs + q * k.period)) where
-      -- The first that exceeds it is found,
-      pub claim-here : claim < response → At (q + 1) ≡ exceeding_instance faults fs k claim cs
-      claim-here more =
-          let its = loop-response v turn.turn inside search is response-is in
-          sym (rw (add-one q) (exceeding-is faults fs k claim cs l v.window q (rw v.number at inside) (omega arith) turn.within))
-
-      -- and one that does not is counted.
-      pub claim-more : response ≤ claim → ClaimLoop faults fs k cs l instances claim (delay + k.length) (q + 1)
-      claim-more le =
-          let its = loop-response v turn.turn inside search is response-is in
-          let last : (i : ℕ) → i ≡ q → instance_response faults fs k cs i ≤ claim = λ i same. rw same (omega arith) in
-          record {
-            turn = loop-more v turn.turn inside search is response-is (omega arith);
-            within = λ i less. elim (dec_lt i q) [
-              | yes before ↦ turn.within i before
-              | no after ↦ last i (omega arith)
-            ];
-          }
+    -- and one that does not is counted.
+    pub claim-more : response ≤ claim → NoneAbove faults fs k cs claim 0 next
+    claim-more le i low less =
+        let last : (i : ℕ) → i ≡ m.met → instance_response faults fs k cs i ≤ claim = λ i same. rw same (omega (arith, m.is)) in
+        elim (dec_lt i m.met) [
+          | yes earlier ↦ none-on faults fs k cs before m.passed i low earlier
+          | no later ↦ last i (omega (arith, m.after))
+        ]

@@ -1,14 +1,13 @@
 -- A scenario no response of which exceeds a number, as a sweep over the instances finds it.
-use Rattle.std.specs.Prelude.{ℕ, ◌+◌, ◌-◌, ◌*◌, ◌≤◌, ◌<◌, min, ◌≡◌, refl, List, Bool, true, false, cond, ltb}
+use Rattle.std.specs.Prelude.{ℕ, ◌+◌, ◌-◌, ◌*◌, ◌≤◌, ◌<◌, min, ◌≡◌, refl, List, Bool, true, false, cond, ltb, Some, None}
 use Rattle.std.proofs.Math.Path.{ap}
-use Rattle.std.proofs.Common.{subst, arith, le-mul_of_pos_right, add-mul, add-one, ltb-false}
+use Rattle.std.proofs.Common.{arith, le-mul_of_pos_right, add-mul, add-one, ltb-false}
 use Rattle.std.proofs.Math.Decide.{dec_lt}
 use Rattle.arith.specs.Least.{or_zero}
 use Rattle.arith.specs.Releases.{releases_before}
 use Rattle.arith.specs.Laws.Members.{of_range}
 use Rattle.arith.specs.Laws.Sums.{greatest-le}
 use Rattle.arith.specs.Laws.Releases.{counted, count-mono}
-use Rattle.arith.specs.declared.Found.TheVariants.{At, Nothing}
 use Rattle.bus_model.specs.declared.Frame.{Frame}
 use Rattle.bus_model.specs.declared.Faults.{Faults}
 use Rattle.bus_model.specs.declared.Choice.{Choice}
@@ -22,16 +21,16 @@ use Rattle.workload.specs.Prepared.{FineTable, InTable}
 use Rattle.workload.specs.Faults.{cost_of, lead_of, FineTarget}
 use Rattle.workload.specs.Placed.{Placed, placed_out}
 use Rattle.workload.proofs.Laws.Placed.{better-above}
-use Rattle.response_time.specs.Load.{latest_start, base_of, waits_of, WindowWithin, Shows, ShowsPlaced, ShownWithin, Reaches}
+use Rattle.response_time.specs.Load.{latest_start, base_of, waits_of, WindowWithin, Shows, ShowsPlaced, ShownWithin, Reaches, Swept}
 use Rattle.response_time.specs.Laws.Searches.{placed-load, load-finer}
 use Rattle.workload.proofs.Laws.Fine.{in-table-fine}
 
 -- From the latest start the response is not above `best`, and it is below the window's limit.
-pub latest-start-fits : (best length released : ℕ) {latest : ℕ} → latest_start best length released ≡ At latest → (latest + length ≤ best + released) × (latest < 1000000)
+pub latest-start-fits : (best length released : ℕ) {latest : ℕ} → latest_start best length released ≡ Some latest → (latest + length ≤ best + released) × (latest < 1000000)
 unfolding latest_start
 latest-start-fits best length released {latest} = go (ltb (best + released) length) refl
   where
-    go : (b : Bool) → ltb (best + released) length ≡ b → cond b Nothing (At (min (best + released - length) 999999)) ≡ At latest
+    go : (b : Bool) → ltb (best + released) length ≡ b → cond b None (Some (min (best + released - length) 999999)) ≡ Some latest
         → (latest + length ≤ best + released) × (latest < 1000000)
     go true t e = let z : ◌≡◌ {A = ℕ} 0 1 = cc in absurd (omega arith)
     go false t e =
@@ -69,13 +68,13 @@ instance-fits {fs} {k} accepted listed d {l = l} {q} number small inside =
 module _ (faults : Faults) (fs : List Frame) (k : Frame) (cs : List Choice) where
   -- Where an instance may start at x, which leaves it a response of `best` at the most, it has no greater one: it starts no later.
   pub shown-response : (q best : ℕ) → ShownWithin faults fs k cs best q → instance_response faults fs k cs q ≤ best
-  unfolding instance_response or_zero window_limit
+  unfolding instance_response window_limit
   shown-response q best t =
       let (w, e, first) = delay-found faults fs k cs q t.start t.inside t.holds in
       omega (arith, ap or_zero e, t.fits)
 
   -- The instances that a start shows it of: those after the first are released later.
-  pub shows-within : (q best : ℕ) {latest start count : ℕ} → latest_start best k.length (own_distance k cs + q * k.period) ≡ At latest
+  pub shows-within : (q best : ℕ) {latest start count : ℕ} → latest_start best k.length (own_distance k cs + q * k.period) ≡ Some latest
       → Shows faults fs k cs q latest start count → (i : ℕ) → i < count → ShownWithin faults fs k cs best (q + i)
   shows-within q best {start = start} latest-is shown i less =
       let (fits, inside) = latest-start-fits best k.length (own_distance k cs + q * k.period) latest-is in
@@ -103,12 +102,6 @@ reach-all {fs = fs} {k = k} accepted listed cs {limit} w number best =
       shown = λ q over less. absurd (omega (arith, number, count-mono (own_distance k cs) f.period-low w.within));
     }
 
--- A sweep has passed the instances before q: it is shown of those from `last` on.
-pub record Swept (faults : Faults) (fs : List Frame) (k : Frame) (cs : List Choice) (best reach last q : ℕ) : Type 0 where
-  pub before : last ≤ q
-  pub inside : q ≤ reach
-  pub each : (i : ℕ) → last ≤ i → i < q → ShownWithin faults fs k cs best i
-
 module _ {faults : Faults} {fs : List Frame} {k : Frame} {cs : List Choice} {best : ℕ} where
   -- What is shown of an instance still is where more is allowed,
   shown-more : {q best' : ℕ} → best ≤ best' → ShownWithin faults fs k cs best q → ShownWithin faults fs k cs best' q
@@ -129,7 +122,7 @@ module _ {faults : Faults} {fs : List Frame} {k : Frame} {cs : List Choice} {bes
 
   -- and where more groups are fixed, k's own being as it was: the window is no longer.
   pub reach-finer : Valid fs → 1 ≤ k.period → {cs' : List Choice} → RefinedBy fs k cs cs' → own_distance k cs' ≡ own_distance k cs → {reach window : ℕ} → (r : Reaches faults fs k cs best reach)
-      → busy_window faults fs k cs' ≡ At window → window ≤ r.window → Reaches faults fs k cs' best reach
+      → busy_window faults fs k cs' ≡ Some window → window ≤ r.window → Reaches faults fs k cs' best reach
   reach-finer valid some {cs'} finer same {reach} {window} r is shorter = record {
     window = window;
     is = is;
@@ -138,25 +131,37 @@ module _ {faults : Faults} {fs : List Frame} {k : Frame} {cs : List Choice} {bes
   }
 
   -- It starts with none,
-  pub swept_none : {reach : ℕ} → Swept faults fs k cs best reach 0 0
-  swept_none = record { before = omega arith; inside = omega arith; each = λ i low less. absurd (omega arith) }
+  pub swept_none : {reach q : ℕ} → q ≤ reach → Swept faults fs k cs best reach q q
+  swept_none le = record { before = omega arith; inside = omega arith; each = λ i low less. absurd (omega arith) }
 
-  module _ {reach last q : ℕ} (s : Swept faults fs k cs best reach last q) (less : q < reach) where
-    -- passes those of which it is shown,
-    pub swept-shown : (count : ℕ) → ((i : ℕ) → i < count → ShownWithin faults fs k cs best (q + i)) → Swept faults fs k cs best reach last (min (q + count) reach)
-    swept-shown count each = record {
-      before = omega (arith, s.before);
-      inside = omega arith;
-      each = λ i low l.
-          elim (dec_lt i q) [
-            | yes earlier ↦ s.each i low earlier
-            | no later ↦ let is : q + (i - q) ≡ i = omega arith in subst (ShownWithin faults fs k cs best) is (each (i - q) (omega arith))
-          ];
-    }
+  -- passes those of which it is shown,
+  pub swept-shown : {reach last q next : ℕ} → Swept faults fs k cs best reach last q → q < next → ((i : ℕ) → q ≤ i → i < next → ShownWithin faults fs k cs best i)
+      → Swept faults fs k cs best reach last (min next reach)
+  swept-shown {q = q} s more each = record {
+    before = omega (arith, s.before, s.inside);
+    inside = omega arith;
+    each = λ i low l.
+        elim (dec_lt i q) [
+          | yes earlier ↦ s.each i low earlier
+          | no later ↦ each i (omega arith) (omega arith)
+        ];
+  }
 
-    -- and one of which it is not.
-    pub swept-missed : Swept faults fs k cs best reach (q + 1) (q + 1)
-    swept-missed = record { before = omega arith; inside = omega arith; each = λ i low l. absurd (omega arith) }
+  -- goes on as another one does from there,
+  pub swept_on : {reach last q next : ℕ} → Swept faults fs k cs best reach last q → Swept faults fs k cs best reach q next → Swept faults fs k cs best reach last next
+  swept_on {q = q} s t = record {
+    before = omega (arith, s.before, t.before);
+    inside = t.inside;
+    each = λ i low l.
+        elim (dec_lt i q) [
+          | yes earlier ↦ s.each i low earlier
+          | no later ↦ t.each i (omega arith) l
+        ];
+  }
+
+  -- and passes one of which it is not.
+  pub swept-missed : {reach q : ℕ} → q < reach → Swept faults fs k cs best reach (q + 1) (q + 1)
+  swept-missed less = record { before = omega arith; inside = omega arith; each = λ i low l. absurd (omega arith) }
 
   -- At the end it reaches no further.
   pub swept_all : {reach last q : ℕ} → Reaches faults fs k cs best reach → Swept faults fs k cs best reach last q → reach ≤ q → Reaches faults fs k cs best last

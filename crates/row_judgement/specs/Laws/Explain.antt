@@ -1,5 +1,5 @@
 -- What explaining a row tells: the answer of judging it, and just for verdict 3 a case.
-use Rattle.std.specs.Prelude.{ℕ, ◌<◌, ◌/◌, ◌≡◌, refl, Bool, true, false, ◌≢◌, ◌↔◌, T, length, replicate}
+use Rattle.std.specs.Prelude.{ℕ, ◌<◌, ◌/◌, ◌≡◌, refl, Bool, true, false, ◌≢◌, ◌↔◌, T, length, replicate, Option, Some, None, Result, Ok, Err}
 use Rattle.std.proofs.Math.Path.{sym, ap}
 use Rattle.std.proofs.Common.{subst, ◌∙◌, arith}
 use mathlib.Core.List.{List}
@@ -10,27 +10,20 @@ use Rattle.bus_model.specs.declared.Judgement.{Judgement}
 use Rattle.bus_model.specs.declared.Case.{Case}
 use Rattle.bus_model.specs.Frame.{row}
 use Rattle.bus_model.specs.Bus.{MeetsClaim}
-use Rattle.bus_model.specs.Bounds.{blocking}
 use Rattle.bus_model.specs.Judgement.{lacks_window, outcome_of, verdict, judge}
-use Rattle.bus_model.specs.Case.{no_case, first_case, case_of}
+use Rattle.bus_model.specs.Case.{first_case, case_of}
 use Rattle.bus_model.proofs.Theory.Cases.{Exists, small-just-with-case, case-of-small, case-of-other}
 use Rattle.table_checks.specs.Columns.{columns}
 use Rattle.table_checks.specs.Frames.{frames_of}
 use Rattle.table_checks.specs.Checks.{Loadable, Accepted}
 use Rattle.table_checks.specs.Returns.{loaded_returns}
 use Rattle.table_checks.proofs.Laws.Accepted.{accepted-valid}
-use Rattle.workload.specs.declared.Target.{Target}
-use Rattle.workload.specs.Prepared.{table_of, Prepared, InTable}
-use Rattle.workload.specs.Faults.{cost_of, FineFaults}
-use Rattle.workload.proofs.Laws.Groups.{target-fine}
-use Rattle.greatest_work.specs.Ready.{Ready}
+use Rattle.greatest_work.specs.declared.Setting.{Setting}
+use Rattle.greatest_work.specs.Setting.{Remembers}
 use Rattle.greatest_work.proofs.Laws.Memory.{remembers-none}
-use Rattle.arith.specs.declared.Found.TheVariants.{At}
 use Rattle.bounds.specs.declared.Bound.{Bound}
 use Rattle.bounds.specs.Find.{bound_for}
 use Rattle.row_judgement.specs.declared.Refusal.{Refusal}
-use Rattle.row_judgement.specs.declared.Judged.{Judged}
-use Rattle.row_judgement.specs.declared.Judged.TheVariants.{Verdict, NotJudged}
 use Rattle.row_judgement.specs.declared.Explained.{Explained}
 use Rattle.row_judgement.specs.Judge.{claim_of, judge_row, judge_faults, certified}
 use Rattle.row_judgement.specs.Explain.{case_beside, beside, explain_row, explain_faults, explained_returns, explain_returns, explain_faults_returns}
@@ -60,28 +53,17 @@ module _ (faults : Faults) (ls : List (List ℕ)) (rows : List ℕ) (loadable : 
   row-case = case-of-small faults fs f (claim_of rows r) (judge faults fs f (claim_of rows r)).outcome
 
   -- for every other verdict there is none.
-  pub row-no-case : v ≢ 3 → case_of faults fs f (claim_of rows r) (judge faults fs f (claim_of rows r)).outcome ≡ no_case
+  pub row-no-case : v ≢ 3 → case_of faults fs f (claim_of rows r) (judge faults fs f (claim_of rows r)).outcome ≡ None
   row-no-case = case-of-other faults fs f (claim_of rows r) (judge faults fs f (claim_of rows r)).outcome
 
 -- ---- for the code
 
-abbrev explained_by : Judged → Case → Explained
+abbrev explained_by : Result Judgement Refusal → Option Case → Explained
 explained_by answer c = record { judged = answer; breaking = c }
 
--- A row that is prepared, with nothing remembered.
-pub ready-new : (ls : List (List ℕ)) {rows p : List ℕ} {t : Target} {i : ℕ} → table_of rows p ≡ frames_of ls rows → t.frame ≡ row (frames_of ls rows) i
-    → FineFaults t.faults → Prepared rows p t.frame × (t.blocked ≡ blocking (table_of rows p) t.frame) × (t.cost ≡ cost_of t.faults (table_of rows p) t.frame)
-    → i < length (frames_of ls rows) → Ready rows p t (replicate 528 0)
-ready-new ls {rows} {p} {t} {i} same is premise (prepared, blocked, cost) inside =
-    let listed = subst (λ (fs : List Frame). InTable fs t.frame) (sym same) (record { at = i; inside = inside; is = is }) in
-    record {
-      prepared = prepared;
-      listed = listed;
-      blocked = blocked;
-      target = target-fine prepared.filled.table listed premise cost;
-      cost = cost;
-      remembered = remembers-none prepared.filled.table t.frame refl refl;
-    }
+-- Where nothing is remembered, all that is remembered is so.
+pub remembers-new : (s : Setting) → Remembers s (replicate 528 0)
+remembers-new s = remembers-none s.posed.prepared.filled.table s.target.frame refl refl
 
 -- Where the verdict is 3, no window lacks.
 pub small-windows : (faults : Faults) (fs : List Frame) (k : Frame) (claim : ℕ) → verdict (judge faults fs k claim).outcome ≡ 3 → lacks_window faults fs k ≡ false
@@ -94,7 +76,7 @@ small-windows faults fs k claim e = go (lacks_window faults fs k) refl e
 
 module _ (faults : Faults) (ls : List (List ℕ)) (rows : List ℕ) (r : ℕ) {fs : List Frame} {k : Frame} (table : fs ≡ frames_of ls rows) (is : k ≡ row (frames_of ls rows) r) where
   -- the judgement by the bound that decides
-  pub judged-row : {bound : Bound} {j : Judgement} → bound ≡ bound_for faults fs k (At (claim_of rows r)) → j ≡ judged_by (claim_of rows r) bound
+  pub judged-row : {bound : Bound} {j : Judgement} → bound ≡ bound_for faults fs k (Some (claim_of rows r)) → j ≡ judged_by (claim_of rows r) bound
       → j ≡ judge faults (frames_of ls rows) (row (frames_of ls rows) r) (claim_of rows r)
   judged-row decides by =
       by ∙ ap (judged_by (claim_of rows r)) decides ∙ decided-judge faults fs k (claim_of rows r)
@@ -105,30 +87,31 @@ module _ (faults : Faults) (ls : List (List ℕ)) (rows : List ℕ) (r : ℕ) {f
     pub small-has : verdict j.outcome ≡ 3 → lacks_window faults fs k ≡ false
     small-has small = rw (table, is) (small-windows faults (frames_of ls rows) (row (frames_of ls rows) r) (claim_of rows r) (rw judged at small))
 
-    pub small-beside : verdict j.outcome ≡ 3 → {c : Case} → c ≡ first_case faults fs k (claim_of rows r)
-        → explained_by (Verdict j) c ≡ beside faults ls rows r (Verdict (judge faults (frames_of ls rows) (row (frames_of ls rows) r) (claim_of rows r)))
+    pub small-beside : verdict j.outcome ≡ 3 → {c : Option Case} → c ≡ first_case faults fs k (claim_of rows r)
+        → explained_by (Ok j) c ≡ beside faults ls rows r (Ok (judge faults (frames_of ls rows) (row (frames_of ls rows) r) (claim_of rows r)))
     unfolding case_beside
     small-beside small {c} first =
         let found : c ≡ case_of faults (frames_of ls rows) (row (frames_of ls rows) r) (claim_of rows r) j.outcome
         = first ∙ ap (λ (gs : List Frame). first_case faults gs k (claim_of rows r)) table ∙ ap (λ (g : Frame). first_case faults (frames_of ls rows) g (claim_of rows r)) is
         ∙ sym (case-of-small _ _ _ _ j.outcome small) in
-        ap (λ (x : Case). explained_by (Verdict j) x) found ∙ ap (λ (x : Judgement). beside faults ls rows r (Verdict x)) judged
+        ap (λ (x : Option Case). explained_by (Ok j) x) found ∙ ap (λ (x : Judgement). beside faults ls rows r (Ok x)) judged
 
     -- and else none.
-    pub other-beside : verdict j.outcome ≢ 3 → {c : Case} → c ≡ no_case
-        → explained_by (Verdict j) c ≡ beside faults ls rows r (Verdict (judge faults (frames_of ls rows) (row (frames_of ls rows) r) (claim_of rows r)))
+    pub other-beside : verdict j.outcome ≢ 3 → {c : Option Case} → c ≡ None
+        → explained_by (Ok j) c ≡ beside faults ls rows r (Ok (judge faults (frames_of ls rows) (row (frames_of ls rows) r) (claim_of rows r)))
     unfolding case_beside
     other-beside other {c} none =
-        ap (λ (x : Case). explained_by (Verdict j) x) (none ∙ sym (case-of-other faults (frames_of ls rows) (row (frames_of ls rows) r) (claim_of rows r) j.outcome other))
-        ∙ ap (λ (x : Judgement). beside faults ls rows r (Verdict x)) judged
+        ap (λ (x : Option Case). explained_by (Ok j) x) (none ∙ sym (case-of-other faults (frames_of ls rows) (row (frames_of ls rows) r) (claim_of rows r) j.outcome other))
+        ∙ ap (λ (x : Judgement). beside faults ls rows r (Ok x)) judged
 
 -- By what judging the row answers.
-pub refused-beside : (faults : Faults) (ls : List (List ℕ)) (rows : List ℕ) (r : ℕ) {answer : Judged} (f : Refusal) → answer ≡ NotJudged f → explained_by (NotJudged f) no_case ≡ beside faults ls rows r answer
+pub refused-beside : (faults : Faults) (ls : List (List ℕ)) (rows : List ℕ) (r : ℕ) {answer : Result Judgement Refusal} (f : Refusal) → answer ≡ Err f → explained_by (Err f) None ≡ beside faults ls rows r answer
 unfolding case_beside
 refused-beside faults ls rows r f e = sym (ap (beside faults ls rows r) e)
 
-pub judged-beside : (faults : Faults) (ls : List (List ℕ)) (rows : List ℕ) (r : ℕ) {answer : Judged} (j : Judgement) → answer ≡ Verdict j → beside faults ls rows r (Verdict j) ≡ beside faults ls rows r answer
-judged-beside faults ls rows r j e = sym (ap (beside faults ls rows r) e)
+pub judged-beside : (faults : Faults) (ls : List (List ℕ)) (rows : List ℕ) (r : ℕ) {answer : Result Judgement Refusal} {j : Judgement} {e : Explained} → e ≡ beside faults ls rows r (Ok j) → answer ≡ Ok j
+    → e ≡ beside faults ls rows r answer
+judged-beside faults ls rows r is answered = is ∙ sym (ap (beside faults ls rows r) answered)
 
 -- What the code answers tells all,
 pub explained-told : (ls : List (List ℕ)) (rows : List ℕ) (r : ℕ) {e : Explained} → e ≡ beside Never ls rows r (judge_row ls rows r)

@@ -1,6 +1,7 @@
 -- What is returned in numbers: it settles the answer, and comes in document 01's order.
-use Rattle.std.specs.Prelude.{ℕ, ◌≤◌, ◌≡◌, refl, List, cond, T, eqb}
+use Rattle.std.specs.Prelude.{ℕ, ◌≤◌, ◌≡◌, refl, List, cond, T, eqb, Result, Ok, Err}
 use Rattle.std.proofs.Common.{sym, ap, ◌∙◌, arith, eq-eqb, ne_eqb}
+use Rattle.table_checks.specs.declared.Refusal.{Refusal as TableRefusal}
 use Rattle.arith.specs.Laws.Tests.{cond_map}
 use Rattle.bus_model.specs.declared.Judgement.{Judgement}
 use Rattle.bus_model.specs.Frame.{row}
@@ -8,8 +9,6 @@ use Rattle.bus_model.specs.Bus.{MeetsClaim}
 use Rattle.bus_model.specs.Judgement.{judge, MarginSign}
 use Rattle.bus_model.proofs.Theory.Finding.{Whole, judge-whole, judgement_by, judgement-back, judge-finds}
 use Rattle.bus_model.specs.declared.Faults.TheVariants.{Never, Apart}
-use Rattle.table_checks.specs.declared.Checked.{Checked}
-use Rattle.table_checks.specs.declared.Checked.TheVariants.{Passed, Failed}
 use Rattle.table_checks.specs.Frames.{frames_of}
 use Rattle.table_checks.specs.Refusal.{number_of as table_number_of, check_returns}
 use Rattle.table_checks.specs.Checks.{loaded_check}
@@ -18,10 +17,6 @@ use Rattle.table_checks.proofs.Laws.Returns.{number-range as table-number-range,
 use Rattle.row_judgement.specs.declared.Cause.{Cause}
 use Rattle.row_judgement.specs.declared.Cause.TheVariants.{Table, NoSuchRow, NoWindow, TooManyScenarios, GapOutside}
 use Rattle.row_judgement.specs.declared.Refusal.{Refusal}
-use Rattle.row_judgement.specs.declared.Judged.{Judged}
-use Rattle.row_judgement.specs.declared.Judged.TheVariants.{Verdict, NotJudged}
-use Rattle.row_judgement.specs.declared.Bounded.{Bounded}
-use Rattle.row_judgement.specs.declared.Bounded.TheVariants.{Bound, NotBounded}
 use Rattle.row_judgement.specs.Refusal.{number_of}
 use Rattle.row_judgement.specs.Judge.{claim_of, no_row, judge_checked, judge_row, is_gap, judge_faults_checked, judge_faults, certified, bound_frame, bound_checked, bound_row}
 use Rattle.row_judgement.specs.Returns.{JudgedReturned, judged_returns, judge_returns, judge_faults_returns, BoundedReturned, bounded_returns, bound_returns}
@@ -65,23 +60,23 @@ refusal_of number place = record { cause = cause_of number; place = place }
 -- ---- judging a row
 
 -- the answer that returns these numbers
-judged_of : JudgedReturned → Judged
+judged_of : JudgedReturned → Result Judgement Refusal
 judged_of r =
-    cond (eqb r.number 0) (Verdict (judgement_by (record { verdict = r.verdict; bound = r.bound; margin = r.margin })))
-    (NotJudged (refusal_of r.number r.place))
+    cond (eqb r.number 0) (Ok (judgement_by (record { verdict = r.verdict; bound = r.bound; margin = r.margin })))
+    (Err (refusal_of r.number r.place))
 
 -- the bound beside the outcome is the one that the outcome holds
-abbrev pub JudgedWhole : Judged → Type 0
-JudgedWhole (Verdict j) = Whole j
-JudgedWhole (NotJudged f) = Unit {0}
+abbrev pub JudgedWhole : Result Judgement Refusal → Type 0
+JudgedWhole (Ok j) = Whole j
+JudgedWhole (Err f) = Unit {0}
 
-judged-back : (j : Judged) → JudgedWhole j → judged_of (judged_returns j) ≡ j
+judged-back : (j : Result Judgement Refusal) → JudgedWhole j → judged_of (judged_returns j) ≡ j
 unfolding judged_of judged_returns refusal_of
-judged-back (Verdict j) whole = ap Verdict (judgement-back j whole)
-judged-back (NotJudged f) whole = rw (ne_eqb _ _ (number-some f.cause), cause-back f.cause)
+judged-back (Ok j) whole = ap Ok (judgement-back j whole)
+judged-back (Err f) whole = rw (ne_eqb _ _ (number-some f.cause), cause-back f.cause)
 
 -- Answers that return the same are the same,
-pub judged-settles : (a b : Judged) → JudgedWhole a → JudgedWhole b → judged_returns a ≡ judged_returns b → a ≡ b
+pub judged-settles : (a b : Result Judgement Refusal) → JudgedWhole a → JudgedWhole b → judged_returns a ≡ judged_returns b → a ≡ b
 judged-settles a b p q e = sym (judged-back a p) ∙ ap judged_of e ∙ judged-back b q
 
 -- and what judging a row answers is such an answer.
@@ -89,14 +84,14 @@ pub judged-whole : (ls : List (List ℕ)) (rows : List ℕ) (r : ℕ) → Judged
 judged-whole ls rows r =
     by-judged JudgedWhole ls rows r (λ f. tt) (λ loadable accepted l. judge-whole Never (frames_of ls rows) (row (frames_of ls rows) r) (claim_of rows r))
 
-judge-returned : (check : Checked) (ls : List (List ℕ)) (rows : List ℕ) (r : ℕ) → judged_returns (judge_checked check ls rows r) ≡ judge_returns (check_returns check) ls rows r
+judge-returned : (check : Result (Unit {0}) TableRefusal) (ls : List (List ℕ)) (rows : List ℕ) (r : ℕ) → judged_returns (judge_checked check ls rows r) ≡ judge_returns (check_returns check) ls rows r
 unfolding number_of check_returns judged_returns judge_returns judge_checked
-judge-returned Passed ls rows r = cond_map judged_returns (no_row rows r) _ _ ∙ rw (judge-finds Never (frames_of ls rows) (row (frames_of ls rows) r) (claim_of rows r))
-judge-returned (Failed f) ls rows r = rw (ne_eqb _ _ (table-number-some f.cause))
+judge-returned (Ok _) ls rows r = cond_map judged_returns (no_row rows r) _ _ ∙ rw (judge-finds Never (frames_of ls rows) (row (frames_of ls rows) r) (claim_of rows r))
+judge-returned (Err f) ls rows r = rw (ne_eqb _ _ (table-number-some f.cause))
 
 -- What the code answers is told in numbers too.
-pub judged-told : (ls : List (List ℕ)) (rows : List ℕ) (r : ℕ) {answer : Judged} → answer ≡ judge_row ls rows r
-    → (answer ≡ judge_row ls rows r) × ((T (certified answer) → MeetsClaim Never (frames_of ls rows) r (claim_of rows r)) × (((j : Judgement) → answer ≡ Verdict j → MarginSign j) × (judged_returns answer ≡ judge_returns (loaded_returns ls rows) ls rows r)))
+pub judged-told : (ls : List (List ℕ)) (rows : List ℕ) (r : ℕ) {answer : Result Judgement Refusal} → answer ≡ judge_row ls rows r
+    → (answer ≡ judge_row ls rows r) × ((T (certified answer) → MeetsClaim Never (frames_of ls rows) r (claim_of rows r)) × (((j : Judgement) → answer ≡ Ok j → MarginSign j) × (judged_returns answer ≡ judge_returns (loaded_returns ls rows) ls rows r)))
 unfolding judge_row
 judged-told ls rows r e =
     let (is, (never-late, sign)) = answered ls rows r e in
@@ -108,16 +103,16 @@ pub faults-whole : (ls : List (List ℕ)) (rows : List ℕ) (r g : ℕ) → Judg
 faults-whole ls rows r g =
     by-faults JudgedWhole ls rows r g (λ f. tt) (λ loadable accepted l gap. judge-whole (Apart g) (frames_of ls rows) (row (frames_of ls rows) r) (claim_of rows r))
 
-faults-returned : (check : Checked) (ls : List (List ℕ)) (rows : List ℕ) (r g : ℕ) → judged_returns (judge_faults_checked check ls rows r g) ≡ judge_faults_returns (check_returns check) ls rows r g
+faults-returned : (check : Result (Unit {0}) TableRefusal) (ls : List (List ℕ)) (rows : List ℕ) (r g : ℕ) → judged_returns (judge_faults_checked check ls rows r g) ≡ judge_faults_returns (check_returns check) ls rows r g
 unfolding number_of check_returns judged_returns judge_faults_returns judge_faults_checked
-faults-returned Passed ls rows r g =
+faults-returned (Ok _) ls rows r g =
     cond_map judged_returns (no_row rows r) _ _
-    ∙ rw (cond_map judged_returns (is_gap g) (Verdict (judge (Apart g) (frames_of ls rows) (row (frames_of ls rows) r) (claim_of rows r))) (NotJudged (record { cause = GapOutside; place = 0 })), judge-finds (Apart g) (frames_of ls rows) (row (frames_of ls rows) r) (claim_of rows r))
-faults-returned (Failed f) ls rows r g = rw (ne_eqb _ _ (table-number-some f.cause))
+    ∙ rw (cond_map judged_returns (is_gap g) (Ok (judge (Apart g) (frames_of ls rows) (row (frames_of ls rows) r) (claim_of rows r))) (Err (record { cause = GapOutside; place = 0 })), judge-finds (Apart g) (frames_of ls rows) (row (frames_of ls rows) r) (claim_of rows r))
+faults-returned (Err f) ls rows r g = rw (ne_eqb _ _ (table-number-some f.cause))
 
 -- What the code answers is told in numbers too.
-pub faults-told : (ls : List (List ℕ)) (rows : List ℕ) (r g : ℕ) {answer : Judged} → answer ≡ judge_faults ls rows r g
-    → (answer ≡ judge_faults ls rows r g) × ((T (certified answer) → MeetsClaim (Apart g) (frames_of ls rows) r (claim_of rows r)) × (((j : Judgement) → answer ≡ Verdict j → MarginSign j) × (judged_returns answer ≡ judge_faults_returns (loaded_returns ls rows) ls rows r g)))
+pub faults-told : (ls : List (List ℕ)) (rows : List ℕ) (r g : ℕ) {answer : Result Judgement Refusal} → answer ≡ judge_faults ls rows r g
+    → (answer ≡ judge_faults ls rows r g) × ((T (certified answer) → MeetsClaim (Apart g) (frames_of ls rows) r (claim_of rows r)) × (((j : Judgement) → answer ≡ Ok j → MarginSign j) × (judged_returns answer ≡ judge_faults_returns (loaded_returns ls rows) ls rows r g)))
 unfolding judge_faults
 faults-told ls rows r g e =
     let (is, (never-late, sign)) = faults-answered ls rows r g e in
@@ -126,25 +121,25 @@ faults-told ls rows r g e =
 -- ---- the precise bound alone
 
 -- the answer that returns these numbers
-bounded_of : BoundedReturned → Bounded
-bounded_of r = cond (eqb r.number 0) (Bound r.bound) (NotBounded (refusal_of r.number r.place))
+bounded_of : BoundedReturned → Result ℕ Refusal
+bounded_of r = cond (eqb r.number 0) (Ok r.bound) (Err (refusal_of r.number r.place))
 
-bounded-back : (b : Bounded) → bounded_of (bounded_returns b) ≡ b
+bounded-back : (b : Result ℕ Refusal) → bounded_of (bounded_returns b) ≡ b
 unfolding bounded_of bounded_returns refusal_of
-bounded-back (Bound b) = refl
-bounded-back (NotBounded f) = rw (ne_eqb _ _ (number-some f.cause), cause-back f.cause)
+bounded-back (Ok b) = refl
+bounded-back (Err f) = rw (ne_eqb _ _ (number-some f.cause), cause-back f.cause)
 
 -- Answers that return the same are the same.
-pub bounded-settles : (a b : Bounded) → bounded_returns a ≡ bounded_returns b → a ≡ b
+pub bounded-settles : (a b : Result ℕ Refusal) → bounded_returns a ≡ bounded_returns b → a ≡ b
 bounded-settles a b e = sym (bounded-back a) ∙ ap bounded_of e ∙ bounded-back b
 
-bound-returned : (check : Checked) (ls : List (List ℕ)) (rows : List ℕ) (r : ℕ) → bounded_returns (bound_checked check ls rows r) ≡ bound_returns (check_returns check) ls rows r
+bound-returned : (check : Result (Unit {0}) TableRefusal) (ls : List (List ℕ)) (rows : List ℕ) (r : ℕ) → bounded_returns (bound_checked check ls rows r) ≡ bound_returns (check_returns check) ls rows r
 unfolding number_of check_returns bounded_returns bound_returns bound_checked bound_frame
-bound-returned Passed ls rows r = simp (cond_map bounded_returns)
-bound-returned (Failed f) ls rows r = rw (ne_eqb _ _ (table-number-some f.cause))
+bound-returned (Ok _) ls rows r = simp (cond_map bounded_returns)
+bound-returned (Err f) ls rows r = rw (ne_eqb _ _ (table-number-some f.cause))
 
 -- What the code answers is told in numbers too.
-pub bounded-told : (ls : List (List ℕ)) (rows : List ℕ) (r : ℕ) {b : Bounded} → b ≡ bound_row ls rows r
+pub bounded-told : (ls : List (List ℕ)) (rows : List ℕ) (r : ℕ) {b : Result ℕ Refusal} → b ≡ bound_row ls rows r
     → (b ≡ bound_row ls rows r) × (bounded_returns b ≡ bound_returns (loaded_returns ls rows) ls rows r)
 unfolding bound_row
 bounded-told ls rows r e = (e, ap bounded_returns e ∙ bound-returned (loaded_check ls rows) ls rows r ∙ rw (loaded-returned ls rows))

@@ -1,6 +1,6 @@
 -- The check of logs (request 10) accepts the text of every simulated log (request 12).
 use Prim.Native.Nat.{ℕ, zero, suc, ◌+◌, ◌-◌, ◌*◌, ◌/◌, ◌%◌, ◌≤◌, ◌<◌}
-use Rattle.std.specs.Prelude.{◌≡◌, false, drop}
+use Rattle.std.specs.Prelude.{◌≡◌, false, drop, None, Ok}
 use Rattle.std.proofs.Math.Path.{refl, subst}
 use mathlib.Core.List.{List, ◌∷◌, ◌++◌, map}
 use native.Mathlib.Omega.{arith}
@@ -10,17 +10,14 @@ use Rattle.std.proofs.Math.ListN.{length}
 use Rattle.arith.specs.Lists.{range}
 use Rattle.arith.specs.Laws.Least.{least-none}
 use Rattle.arith.specs.Laws.Lines.{length-lines, lines_at}
-use Rattle.arith.specs.declared.Found.TheVariants.{Nothing}
 use Rattle.table_checks.specs.Frames.{frames_of}
 use Rattle.table_checks.specs.Checks.{Loadable, Accepted, loaded_check}
-use Rattle.table_checks.specs.declared.Checked.TheVariants.{Passed}
 use Rattle.bus_log.specs.declared.Line.{Line}
 use Rattle.bus_log.specs.Log.{shown_starts}
 use Rattle.bus_log.specs.Follow.{follow_log}
 use Rattle.bus_log.proofs.Theory.Table.{accepted-followed}
 use Rattle.log_reader.specs.Text.{line_at, read_at}
-use Rattle.log_reader.specs.declared.LineRead.TheVariants.{Read}
-use Rattle.log_check.specs.Check.{is_missized, is_read, is_broken, first_broken, lines_of, accepted_with, followed_answer, line_answer, text_answer, checked_answer, log_answer}
+use Rattle.log_check.specs.Check.{is_missized, is_broken, first_broken, lines_of, accepted_with, followed_answer, line_answer, text_answer, checked_answer, log_answer}
 use Rattle.simulator.specs.declared.Engine.{Engine}
 use Rattle.simulator.specs.Engine.{entry_at, entries_from}
 use Rattle.simulator.specs.Starts.{engine_of}
@@ -54,13 +51,13 @@ module _ (ls : List (List ℕ)) (loadable : Loadable ls) (t : List ℕ) (accepte
   inside : (i : ℕ) → i < n → 40 * i + 40 ≤ length text
   inside i l = omega (arith, long)
 
-  is-read : (i : ℕ) → i < n → read_at text (40 * i) ≡ Read (line i)
+  is-read : (i : ℕ) → i < n → read_at text (40 * i) ≡ Ok (line i)
   is-read i l = read-line (line i) (line-fits i l) text _ (40 * i) (stands i l) (inside i l)
 
   -- No line is broken.
-  none-broken : first_broken text ≡ Nothing
-  unfolding first_broken is_broken is_read
-  none-broken = least-none (is_broken text) (length text / 40) 0 (λ i low high y. let e : read_at text (40 * i) ≡ Read (line i) = is-read i (omega (arith, long)) in rw e at y)
+  none-broken : first_broken text ≡ None
+  unfolding first_broken is_broken
+  none-broken = least-none (is_broken text) (length text / 40) 0 (λ i low high y. let e : read_at text (40 * i) ≡ Ok (line i) = is-read i (omega (arith, long)) in rw e at y)
 
   -- The lines are those of the log.
   lines_same : (m i : ℕ) → i + m ≡ n → map (λ k. line_at text (40 * k)) (range i m) ≡ map (line_of t) (entries_from (frames_of ls t) first m i)
@@ -94,7 +91,7 @@ module _ (ls : List (List ℕ)) (loadable : Loadable ls) (t : List ℕ) (accepte
   unfolding text_answer line_answer followed_answer
   answered = rw (sized, none-broken, eq-eqb _ 0 followed, text-lines)
 
-  checked : loaded_check ls t ≡ Passed
+  checked : loaded_check ls t ≡ Ok tt
   unfolding loaded_check
   checked = rw (loadable, accepted)
 

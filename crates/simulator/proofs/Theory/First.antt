@@ -15,7 +15,6 @@ use Rattle.bus_model.proofs.Theory.Hyperperiod.{common-none, hyper-le}
 use Rattle.table_checks.specs.Frames.{frames_of}
 use Rattle.table_checks.specs.Checks.{Loadable, Accepted}
 use Rattle.table_checks.proofs.Laws.Accepted.{length-frames, no_row, accepted-pattern, accepted-valid}
-use Rattle.bus_log.specs.Follow.{start_of}
 use Rattle.bus_log.proofs.Theory.Verdict.{get_d_replicate}
 use Rattle.generator.specs.Draw.{draw_from}
 use Rattle.simulator.specs.declared.Starts.{Starts}

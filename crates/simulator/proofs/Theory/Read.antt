@@ -1,5 +1,5 @@
 -- The text of a simulated log is read back line by line.
-use Rattle.std.specs.Prelude.{ℕ, suc, ◌+◌, ◌^◌, ◌≤◌, ◌<◌, ◌≡◌, true, length, get_or, take, drop}
+use Rattle.std.specs.Prelude.{ℕ, suc, ◌+◌, ◌^◌, ◌≤◌, ◌<◌, ◌≡◌, true, length, get_or, take, drop, Ok}
 use Rattle.std.proofs.Math.Path.{refl, ap}
 use Rattle.std.proofs.Common.{sym, ◌∙◌, arith, length-append, drop_at, take_at, drop-drop, drop-cons}
 use mathlib.Core.List.{List, [], ◌∷◌, ◌++◌, append_assoc}
@@ -8,7 +8,6 @@ use Rattle.decimal.specs.Decimal.{read_column, write_column}
 use Rattle.decimal.specs.Laws.{length-write, read-write}
 use Rattle.bus_log.specs.declared.Line.{Line}
 use Rattle.log_reader.specs.Text.{number_of, number_at, line_at, is_within, read_at}
-use Rattle.log_reader.specs.declared.LineRead.TheVariants.{Read}
 use Rattle.simulator.specs.Text.{line_text}
 use Rattle.simulator.proofs.Theory.Turns.{Fits}
 
@@ -94,6 +93,6 @@ module _ (l : Line) (f : Fits l) (text R : List ℕ) (at : ℕ) (stands : drop a
       )
 
   -- The line is read.
-  pub read-line : at + 40 ≤ length text → read_at text at ≡ Read l
+  pub read-line : at + 40 ≤ length text → read_at text at ≡ Ok l
   unfolding read_at
   read-line long = rw (le-ltb (length text) (at + 40) long, feed long, line_read, within)

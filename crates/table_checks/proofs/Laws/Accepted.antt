@@ -1,6 +1,6 @@
 -- What is known of an accepted table: its size, the limits of its numbers, its groups' patterns,
 -- and that its frames, by lengths that passed, are valid in the sense of the bus model.
-use Rattle.std.specs.Prelude.{ℕ, ◌+◌, ◌-◌, ◌/◌, ◌≤◌, ◌<◌, ◌≡◌, true, cond, T, ltb}
+use Rattle.std.specs.Prelude.{ℕ, ◌+◌, ◌-◌, ◌/◌, ◌≤◌, ◌<◌, ◌≡◌, true, cond, T, ltb, Ok}
 use Rattle.std.proofs.Math.Path.{refl, sym, ap}
 use Rattle.std.proofs.Common.{subst, ◌∙◌}
 use mathlib.Core.List.{List, [], ◌∷◌, map}
@@ -20,7 +20,6 @@ use Rattle.bus_model.specs.Frame.{no_frame, row}
 use Rattle.bus_model.specs.Pattern.{of_group, hyperperiod, pattern_releases}
 use Rattle.bus_model.specs.Valid.{ValidFrame, Valid}
 use Rattle.table_checks.specs.declared.Cause.TheVariants.{Duplicate, Hyperperiod, Releases, SecondGroup}
-use Rattle.table_checks.specs.declared.Checked.TheVariants.{Passed}
 use Rattle.table_checks.specs.Columns.{field, columns, node_column, group_column, identifier_column, kind_column, payload_column, period_column}
 use Rattle.table_checks.specs.Frames.{frame_at, frames_of, unmeasured}
 use Rattle.table_checks.specs.Checks.{lengths_check, rows_size_check, columns_check, is_same_frame, stands_earlier, is_other_group, has_second_group, line_check, lines_check, group_check, groups_check, table_check, rows_check, loaded_check, Accepted, Loadable}
@@ -77,7 +76,7 @@ module _ (ls : List (List ℕ)) (t : List ℕ) (j : ℕ) where
 -- ---- no frame stands twice
 
 -- A line that passed has another kind or identifier than each earlier one.
-line-differs : (t : List ℕ) (i m : ℕ) → line_check t i ≡ Passed → m < i → field t m identifier_column ≡ field t i identifier_column → field t m kind_column ≡ field t i kind_column → ⊥
+line-differs : (t : List ℕ) (i m : ℕ) → line_check t i ≡ Ok tt → m < i → field t m identifier_column ≡ field t i identifier_column → field t m kind_column ≡ field t i kind_column → ⊥
 unfolding line_check stands_earlier is_same_frame
 line-differs t i m e l p q =
     let same : is_same_frame t i m ≡ true = rw (eq-eqb _ _ p, eq-eqb _ _ q) in
@@ -86,12 +85,12 @@ line-differs t i m e l p q =
     (λ s. subst T s (exists-mem (is_same_frame t i) (mem-range 0 i m (omega arith) (omega arith)) (rw same tt)))
 
 -- Where lengths and rows pass, both do.
-pub loaded-both : (ls : List (List ℕ)) (rows : List ℕ) → loaded_check ls rows ≡ Passed → Loadable ls × Accepted rows
+pub loaded-both : (ls : List (List ℕ)) (rows : List ℕ) → loaded_check ls rows ≡ Ok tt → Loadable ls × Accepted rows
 unfolding loaded_check
 loaded-both ls rows e = first-passed (lengths_check ls) (rows_check rows) e
 
 -- A line that passed has the group of each earlier line of its node.
-line-group : (t : List ℕ) (i m : ℕ) → line_check t i ≡ Passed → m < i → field t m node_column ≡ field t i node_column → field t m group_column ≡ field t i group_column
+line-group : (t : List ℕ) (i m : ℕ) → line_check t i ≡ Ok tt → m < i → field t m node_column ≡ field t i node_column → field t m group_column ≡ field t i group_column
 unfolding line_check has_second_group is_other_group
 line-group t i m e l p =
     let late = (first-passed (columns_check t i) _ e).1 in
@@ -102,7 +101,7 @@ line-group t i m e l p =
     (λ b. absurd (subst T b (exists-mem (is_other_group t i) (mem-range 0 i m (omega arith) (omega arith)) (rw other tt))))))
 
 module _ (rows : List ℕ) (accepted : Accepted rows) where
-  table-passed : table_check rows ≡ Passed
+  table-passed : table_check rows ≡ Ok tt
   unfolding rows_check
   table-passed = (first-passed (rows_size_check (length rows)) (table_check rows) accepted).1
 
@@ -111,7 +110,7 @@ module _ (rows : List ℕ) (accepted : Accepted rows) where
   unfolding rows_check
   accepted-size = rows-size (length rows) (first-passed (rows_size_check (length rows)) (table_check rows) accepted).0
 
-  lines-passed : lines_check rows ≡ Passed
+  lines-passed : lines_check rows ≡ Ok tt
   unfolding table_check
   lines-passed = (first-passed (lines_check rows) (groups_check (unmeasured rows)) table-passed).0
 
@@ -122,7 +121,7 @@ module _ (rows : List ℕ) (accepted : Accepted rows) where
   pub accepted-periods : Periods rows
   accepted-periods = lines-periods rows lines-passed
 
-  line-passed : (i : ℕ) → i < length rows / columns → line_check rows i ≡ Passed
+  line-passed : (i : ℕ) → i < length rows / columns → line_check rows i ≡ Ok tt
   unfolding lines_check
   line-passed i l = rw zero-add at (first-each (line_check rows) (length rows / columns) 0 lines-passed i l)
 
@@ -140,7 +139,7 @@ module _ (rows : List ℕ) (accepted : Accepted rows) where
 
   -- ---- patterns
 
-  group-passed : (j : ℕ) → 1 ≤ j → j ≤ 16 → group_check (unmeasured rows) j ≡ Passed
+  group-passed : (j : ℕ) → 1 ≤ j → j ≤ 16 → group_check (unmeasured rows) j ≡ Ok tt
   unfolding table_check groups_check
   group-passed j low high =
       let z : 1 + (j - 1) ≡ j = omega arith in

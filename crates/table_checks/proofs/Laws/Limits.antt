@@ -1,11 +1,10 @@
 -- What is known of a line that passed its checks: each number is within its limits.
-use Rattle.std.specs.Prelude.{ℕ, ◌+◌, ◌/◌, ◌^◌, ◌-◌, ◌≤◌, ◌<◌, ◌≡◌, true, ◌&&◌, List, [], ◌∷◌, ◌⊎◌, length, get_or, leb, ltb, eqb}
+use Rattle.std.specs.Prelude.{ℕ, ◌+◌, ◌/◌, ◌^◌, ◌-◌, ◌≤◌, ◌<◌, ◌≡◌, true, ◌&&◌, List, [], ◌∷◌, ◌⊎◌, length, get_or, leb, ltb, eqb, Ok}
 use Rattle.std.proofs.Common.{inl, inr, zero-add, arith, leb-true, eqb-true, ltb→lt}
 use Rattle.arith.specs.Laws.Tests.{by-test, and_both}
 use Rattle.arith.specs.Laws.Below.{below, each_below}
 use Rattle.table_checks.specs.declared.Cause.{Cause}
 use Rattle.table_checks.specs.declared.Cause.TheVariants.{FileForm, Notation, Limit}
-use Rattle.table_checks.specs.declared.Checked.TheVariants.{Passed}
 use Rattle.table_checks.specs.Columns.{field, between, is_identifier, within, columns, node_column, group_column, identifier_column, kind_column, payload_column, period_column, offset_column, claim_column}
 use Rattle.table_checks.specs.Refusal.{failed}
 use Rattle.table_checks.specs.Checks.{malformed, unterminated, column_check, columns_check, line_check, lines_check}
@@ -27,13 +26,13 @@ pub record Limits (t : List ℕ) (i : ℕ) : Type 0 where
   pub claim-max : field t i claim_column ≤ 1000000
 
 -- A check that failed did not pass.
-pub not-passed {ℓ} : {A : Type ℓ} {cause : Cause} {place : ℕ} → failed cause place ≡ Passed → A
+pub not-passed {ℓ} : {A : Type ℓ} {cause : Cause} {place : ℕ} → failed cause place ≡ Ok tt → A
 not-passed e = let z : ◌≡◌ {A = ℕ} 0 1 = cc in absurd (omega arith)
 
 -- ---- a line
 
 -- A column that passed is within its limits.
-pub column-within : (t : List ℕ) (i j : ℕ) → column_check t i j ≡ Passed → within j (field t i (j - 1)) (field t i j) ≡ true
+pub column-within : (t : List ℕ) (i j : ℕ) → column_check t i j ≡ Ok tt → within j (field t i (j - 1)) (field t i j) ≡ true
 unfolding column_check
 column-within t i j e =
     by-test (eqb (field t i j) unterminated) (λ u. not-passed {cause = FileForm} {place = i + 1} (simp u at e))
@@ -46,7 +45,7 @@ unfolding between
 between-true low high v e = let b = and_both (leb low v) (leb v high) e in (leb-true low v b.0, leb-true v high b.1)
 
 -- Each number of a line that passed is within its limits.
-pub line-limits : (t : List ℕ) (i : ℕ) → line_check t i ≡ Passed → Limits t i
+pub line-limits : (t : List ℕ) (i : ℕ) → line_check t i ≡ Ok tt → Limits t i
 unfolding line_check columns_check
 line-limits t i e =
     let each : (j : ℕ) → j < columns → within j (field t i (j - 1)) (field t i j) ≡ true
@@ -108,10 +107,10 @@ field-small t i m j l =
 -- ---- a table
 
 -- Where the lines pass, each does.
-pub lines-each : (t : List ℕ) → lines_check t ≡ Passed → (i : ℕ) → i < length t / columns → Limits t i
+pub lines-each : (t : List ℕ) → lines_check t ≡ Ok tt → (i : ℕ) → i < length t / columns → Limits t i
 unfolding lines_check
 lines-each t e i l = line-limits t i (rw zero-add at (first-each (line_check t) (length t / columns) 0 e i l))
 
-pub lines-periods : (t : List ℕ) → lines_check t ≡ Passed → Periods t
+pub lines-periods : (t : List ℕ) → lines_check t ≡ Ok tt → Periods t
 unfolding Periods
 lines-periods t e i l = let m = lines-each t e i l in (m.period-min, m.period-max)

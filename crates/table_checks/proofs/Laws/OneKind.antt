@@ -1,15 +1,15 @@
 -- A table of one kind keeps its answers under any rank that rises with the identifiers of that kind:
 -- under document 01's, where kind 11 went ahead of kind 29, as under ISO 11898-1's.
-use Rattle.std.specs.Prelude.{ℕ, ◌+◌, ◌/◌, ◌<◌, ◌≡◌, refl, cond, ◌⊎◌, List, map, eqb, length}
+use Rattle.std.specs.Prelude.{ℕ, ◌+◌, ◌/◌, ◌<◌, ◌≡◌, refl, cond, ◌⊎◌, List, map, eqb, length, Result}
 use Rattle.std.proofs.Common.{sym, ap, ◌∙◌, inl, inr, arith}
 use Rattle.std.proofs.Math.Path.{fun_ext}
 use Rattle.std.proofs.lemmas.Simd.{map-map}
+use Rattle.table_checks.specs.declared.Refusal.{Refusal}
 use Rattle.arith.specs.Lists.{range}
 use Rattle.arith.specs.Laws.Members.{map_same, of_range}
 use Rattle.bus_model.specs.declared.Frame.{Frame}
 use Rattle.bus_model.proofs.Theory.Alike.{recast, KeepsOrder, keeps-rising}
 use Rattle.bus_model.proofs.Theory.Answers.{SameAnswers, ranked-answers, answers-through}
-use Rattle.table_checks.specs.declared.Checked.{Checked}
 use Rattle.table_checks.specs.Columns.{field, columns, identifier_column, kind_column}
 use Rattle.table_checks.specs.Frames.{priority_of, frame_at, frames_of}
 use Rattle.table_checks.specs.Checks.{first_of, group_check, groups_check}
@@ -71,4 +71,4 @@ answers-kept ls t kind is all = rw (frames-ranked ls t) (one-kind ls t kind all 
 -- and their groups pass the same checks.
 pub checks-kept : {fs gs : List Frame} → SameAnswers fs gs → groups_check fs ≡ groups_check gs
 unfolding groups_check group_check
-checks-kept same = ap (λ (check : ℕ → Checked). first_of check 16 1) (fun_ext (λ j. rw (same.hyper j, same.releases j)))
+checks-kept same = ap (λ (check : ℕ → Result (Unit {0}) Refusal). first_of check 16 1) (fun_ext (λ j. rw (same.hyper j, same.releases j)))

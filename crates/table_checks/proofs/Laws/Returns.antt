@@ -1,11 +1,10 @@
 -- Numbers and places: those of each cause, that they settle what a check found, and those of the checks.
-use Rattle.std.specs.Prelude.{ℕ, ◌-◌, ◌≤◌, ◌≡◌, refl, cond, List, [], ◌∷◌, ◌++◌, map, eqb, length, get_or, take}
+use Rattle.std.specs.Prelude.{ℕ, ◌-◌, ◌≤◌, ◌≡◌, refl, cond, List, [], ◌∷◌, ◌++◌, map, eqb, length, get_or, take, Result, Ok, Err}
 use Rattle.std.proofs.Common.{sym, ap, ap₂, ◌∙◌, arith, ne_eqb}
+use Rattle.table_checks.specs.declared.Refusal.{Refusal}
 use Rattle.arith.specs.Laws.Tests.{cond_map}
 use Rattle.table_checks.specs.declared.Cause.{Cause}
 use Rattle.table_checks.specs.declared.Cause.TheVariants.{FileForm, TooManyLines, Notation, Limit, Duplicate, Hyperperiod, Releases, OutputArea, RowsLength, LengthsFile, Length, SecondGroup}
-use Rattle.table_checks.specs.declared.Checked.{Checked}
-use Rattle.table_checks.specs.declared.Checked.TheVariants.{Passed, Failed}
 use Rattle.table_checks.specs.Frames.{unmeasured}
 use Rattle.table_checks.specs.Refusal.{number_of, failed, Returned, returned, check_returns}
 use Rattle.table_checks.specs.Checks.{first, lengths_check, file_size_check, rows_size_check, lines_check, groups_check, table_check, rows_check, loaded_check}
@@ -67,22 +66,22 @@ number-settles a b e = sym (cause-back a) ∙ ap cause_of e ∙ cause-back b
 -- ---- a check
 
 -- the check that returns number and place
-check_of : Returned → Checked
-check_of r = cond (eqb r.number 0) Passed (failed (cause_of r.number) r.place)
+check_of : Returned → Result (Unit {0}) Refusal
+check_of r = cond (eqb r.number 0) (Ok tt) (failed (cause_of r.number) r.place)
 
-check-back : (c : Checked) → check_of (check_returns c) ≡ c
+check-back : (c : Result (Unit {0}) Refusal) → check_of (check_returns c) ≡ c
 unfolding check_of check_returns
-check-back Passed = refl
-check-back (Failed r) = rw (ne_eqb _ _ (number-some r.cause), cause-back r.cause)
+check-back (Ok _) = refl
+check-back (Err r) = rw (ne_eqb _ _ (number-some r.cause), cause-back r.cause)
 
 -- Checks that return the same found the same.
-pub check-settles : (a b : Checked) → check_returns a ≡ check_returns b → a ≡ b
+pub check-settles : (a b : Result (Unit {0}) Refusal) → check_returns a ≡ check_returns b → a ≡ b
 check-settles a b e = sym (check-back a) ∙ ap check_of e ∙ check-back b
 
-pub first-returned : (a b : Checked) → check_returns (first a b) ≡ first_returned (check_returns a) (check_returns b)
+pub first-returned : (a b : Result (Unit {0}) Refusal) → check_returns (first a b) ≡ first_returned (check_returns a) (check_returns b)
 unfolding check_returns
-first-returned Passed b = refl
-first-returned (Failed r) b = rw (ne_eqb _ _ (number-some r.cause))
+first-returned (Ok _) b = refl
+first-returned (Err r) b = rw (ne_eqb _ _ (number-some r.cause))
 
 -- ---- the checks
 
@@ -110,14 +109,14 @@ loaded-returned ls rows = first-returned (lengths_check ls) (rows_check rows) �
 
 -- ---- what the code answers
 
-pub lengths-told : (ls : List (List ℕ)) {c : Checked} → c ≡ lengths_check ls → (c ≡ lengths_check ls) × (check_returns c ≡ lengths_returns ls)
+pub lengths-told : (ls : List (List ℕ)) {c : Result (Unit {0}) Refusal} → c ≡ lengths_check ls → (c ≡ lengths_check ls) × (check_returns c ≡ lengths_returns ls)
 lengths-told ls e = (e, ap check_returns e ∙ lengths-returned ls)
 
-pub size-told : (size : ℕ) {c : Checked} → c ≡ file_size_check size → (c ≡ file_size_check size) × (check_returns c ≡ file_size_returns size)
+pub size-told : (size : ℕ) {c : Result (Unit {0}) Refusal} → c ≡ file_size_check size → (c ≡ file_size_check size) × (check_returns c ≡ file_size_returns size)
 size-told size e = (e, ap check_returns e ∙ file-size-returned size)
 
-pub rows_told : (rows : List ℕ) {c : Checked} → c ≡ rows_check rows → (c ≡ rows_check rows) × (check_returns c ≡ rows_returns rows)
+pub rows_told : (rows : List ℕ) {c : Result (Unit {0}) Refusal} → c ≡ rows_check rows → (c ≡ rows_check rows) × (check_returns c ≡ rows_returns rows)
 rows_told rows e = (e, ap check_returns e ∙ rows-returned rows)
 
-pub loaded-told : (ls : List (List ℕ)) (rows : List ℕ) {c : Checked} → c ≡ loaded_check ls rows → (c ≡ loaded_check ls rows) × (check_returns c ≡ loaded_returns ls rows)
+pub loaded-told : (ls : List (List ℕ)) (rows : List ℕ) {c : Result (Unit {0}) Refusal} → c ≡ loaded_check ls rows → (c ≡ loaded_check ls rows) × (check_returns c ≡ loaded_returns ls rows)
 loaded-told ls rows e = (e, ap check_returns e ∙ loaded-returned ls rows)

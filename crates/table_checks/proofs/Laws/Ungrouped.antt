@@ -2,7 +2,7 @@
 -- node, such a table is checked as it was, and has the same frames; so what is told of frames is told as before. Every table with group
 -- equal to node is a widened one.
 use Prim.Native.Nat.{ℕ, zero, suc, ◌+◌, ◌-◌, ◌*◌, ◌/◌, ◌%◌, ◌<◌}
-use Rattle.std.specs.Prelude.{◌≡◌, refl, Bool, true, false, cond, not, ◌&&◌, ◌||◌, get_or}
+use Rattle.std.specs.Prelude.{◌≡◌, refl, Bool, true, false, cond, not, ◌&&◌, ◌||◌, get_or, Result, Ok}
 use Rattle.std.proofs.Math.Path.{sym, ap, ap₂, fun_ext}
 use Rattle.std.proofs.Common.{◌∙◌, ext_get_or}
 use mathlib.Core.List.{List, [], ◌∷◌, map}
@@ -11,12 +11,11 @@ use Rattle.std.proofs.Math.Decide.{ℕ_discrete, dec_lt}
 use borrow.Author.Tests.{eq-eqb, ne_eqb, lt-ltb, le-ltb}
 use Rattle.std.proofs.Math.Dec.{ltb, eqb}
 use Rattle.std.proofs.Math.ListN.{length, length-map}
+use Rattle.table_checks.specs.declared.Refusal.{Refusal}
 use Rattle.arith.specs.Lists.{exists, range}
 use Rattle.arith.specs.Laws.Members.{length-range, get_d-table, get_d_beyond}
 use Rattle.bus_model.specs.declared.Frame.{Frame}
 use Rattle.table_checks.specs.declared.Cause.TheVariants.{FileForm, Notation, Limit, Duplicate, RowsLength}
-use Rattle.table_checks.specs.declared.Checked.{Checked}
-use Rattle.table_checks.specs.declared.Checked.TheVariants.{Passed}
 use Rattle.table_checks.specs.Columns.{field, within, columns, node_column, group_column, identifier_column, kind_column, payload_column, period_column, offset_column, most_lines}
 use Rattle.table_checks.specs.Frames.{priority_of, largest_length, frame_at, frames_of}
 use Rattle.table_checks.specs.Refusal.{failed}
@@ -52,28 +51,28 @@ unfoldable pub plain_frames : List (List ℕ) → List ℕ → List Frame
 plain_frames ls t = map (plain_frame_at ls t) (range 0 (length t / plain_columns))
 
 -- its checks: 10
-unfoldable pub plain_size_check : ℕ → Checked
+unfoldable pub plain_size_check : ℕ → Result (Unit {0}) Refusal
 plain_size_check size =
-    cond (eqb size 0 || (not (eqb (size % plain_columns) 0) || ltb (plain_columns * most_lines) size)) (failed RowsLength 0) Passed
+    cond (eqb size 0 || (not (eqb (size % plain_columns) 0) || ltb (plain_columns * most_lines) size)) (failed RowsLength 0) (Ok tt)
 
 -- 1, 3, 4: each column has the limits that it has today
-unfoldable pub plain_column_check : List ℕ → ℕ → ℕ → Checked
+unfoldable pub plain_column_check : List ℕ → ℕ → ℕ → Result (Unit {0}) Refusal
 plain_column_check t i j =
     cond (eqb (plain_field t i j) unterminated) (failed FileForm (i + 1))
     (cond (eqb (plain_field t i j) malformed) (failed Notation (i + 1))
-    (cond (within (column_now j) (plain_field t i (j - 1)) (plain_field t i j)) Passed (failed Limit (i + 1))))
+    (cond (within (column_now j) (plain_field t i (j - 1)) (plain_field t i j)) (Ok tt) (failed Limit (i + 1))))
 
 -- 5
 unfoldable pub plain_same_frame : List ℕ → ℕ → ℕ → Bool
 plain_same_frame t i m = eqb (plain_field t m 1) (plain_field t i 1) && eqb (plain_field t m 2) (plain_field t i 2)
 
-unfoldable pub plain_line_check : List ℕ → ℕ → Checked
+unfoldable pub plain_line_check : List ℕ → ℕ → Result (Unit {0}) Refusal
 plain_line_check t i =
     first (first_of (plain_column_check t i) plain_columns 0)
-    (cond (exists (plain_same_frame t i) (range 0 i)) (failed Duplicate (i + 1)) Passed)
+    (cond (exists (plain_same_frame t i) (range 0 i)) (failed Duplicate (i + 1)) (Ok tt))
 
 -- and 6 and 7
-unfoldable pub plain_check : List ℕ → Checked
+unfoldable pub plain_check : List ℕ → Result (Unit {0}) Refusal
 plain_check t =
     first (plain_size_check (length t))
     (first (first_of (plain_line_check t) (length t / plain_columns) 0) (groups_check (plain_frames [] t)))
@@ -104,9 +103,9 @@ within-now zero before v = refl
 within-now (suc j) before v = refl
 
 -- the check of a number, by whether it is within its limits
-abbrev check_of : ℕ → Bool → ℕ → Checked
+abbrev check_of : ℕ → Bool → ℕ → Result (Unit {0}) Refusal
 check_of i ok v =
-    cond (eqb v unterminated) (failed FileForm (i + 1)) (cond (eqb v malformed) (failed Notation (i + 1)) (cond ok Passed (failed Limit (i + 1))))
+    cond (eqb v unterminated) (failed FileForm (i + 1)) (cond (eqb v malformed) (failed Notation (i + 1)) (cond ok (Ok tt) (failed Limit (i + 1))))
 
 module _ (t : List ℕ) (whole : length t % plain_columns ≡ 0) where
   pub length-widened : length (widened t) ≡ columns * (length t / plain_columns)
@@ -210,7 +209,7 @@ module _ (t : List ℕ) (whole : length t % plain_columns ≡ 0) where
   pub widened-check : rows_check (widened t) ≡ plain_check t
   unfolding rows_check table_check lines_check plain_check
   widened-check =
-      rw (size-widened, widened-frames [], rows-widened, ap (λ (c : ℕ → Checked). first_of c (length t / plain_columns) 0) (fun_ext line-widened))
+      rw (size-widened, widened-frames [], rows-widened, ap (λ (c : ℕ → Result (Unit {0}) Refusal). first_of c (length t / plain_columns) 0) (fun_ext line-widened))
 
 -- ---- every table whose groups are its nodes is a widened one
 

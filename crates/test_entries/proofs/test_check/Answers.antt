@@ -5,12 +5,12 @@ use Rattle.certifier.specs.Encode.{encode_refusal}
 use Rattle.test_entries.specs.Encode.{encode_checked}
 use Rattle.test_entries.proofs.test_check.Goals as goal
 
-pub returns-in-Passed : goal.returns-in-Passed
+pub returns-in-Ok : goal.returns-in-Ok
 unfolding encode_checked
-returns-in-Passed c = rw (sym c.check-checked.ensures.value ∙ c.in-Passed.is)
+returns-in-Ok c = rw (sym c.check.ensures.value ∙ c.in-Ok.is)
 
-pub returns-in-Failed : goal.returns-in-Failed
+pub returns-in-Err : goal.returns-in-Err
 unfolding encode_checked
-returns-in-Failed c =
-    rw (sym c.check-checked.ensures.value ∙ c.in-Failed.is)
-    (kept _ c.encode_refusal.type_inv ∙ c.encode_refusal.ensures ∙ ap encode_refusal c.of_table.ensures)
+returns-in-Err c =
+    rw (sym c.check.ensures.value ∙ c.in-Err.is)
+    (kept _ c.encode_refusal.type_inv ∙ c.encode_refusal.ensures ∙ ap encode_refusal c.from.ensures)

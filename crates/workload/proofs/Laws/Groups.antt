@@ -1,5 +1,6 @@
 -- The rows of each group's frames ahead of k, as they are found and then read; and the lengths below k.
-use Rattle.std.specs.Prelude.{◌≡◌, ℕ, zero, suc, ◌+◌, ◌-◌, ◌*◌, ◌<◌, ◌≤◌, max, Bool, true, false, cond, ◌&&◌, leb, List, [], ◌∷◌, ◌++◌, length, get_or, take, drop, ◌==◌, nat_eq, nat_le, slice_index, slice_index_or, slice_set}
+use Rattle.std.specs.Prelude.{◌≡◌, ℕ, zero, suc, ◌+◌, ◌-◌, ◌*◌, ◌<◌, ◌≤◌, max, Bool, true, false, cond, if◌then◌else◌, ◌&&◌, leb, ltb, List, [], ◌∷◌, ◌++◌, length, get_or, take, drop, ◌==◌, nat_eq, nat_le, slice_index, slice_index_or, slice_set}
+use Rattle.std.specs.Bool.{beq}
 use Rattle.std.proofs.Math.Path.{refl, ap}
 use Rattle.std.proofs.Common.{sym, ap₂, subst, ◌∙◌, arith, le_refl, le_trans, le-leb, eq-eqb, ne_eqb, length-set, length-append, drop_of_length-le, get_or-set_same, get_or-set_other, get_or-take, drop-set-lt, length-take-le, take_at, drop_at, below_more}
 use mathlib.Core.List.Memᴰ.{head as here}
@@ -17,7 +18,7 @@ use Rattle.arith.specs.Multiples.{lcm, lcm_of}
 use Rattle.arith.specs.Laws.Members.{of-keep, fold-keep, map-keep, keep-keep, keep-le, list-places, part-before, part-written, part-start, mem-get_d}
 use Rattle.arith.specs.Laws.Multiples.{lcm-ge-second}
 use Rattle.arith.specs.Laws.Sums.{greatest-le}
-use Rattle.arith.specs.Laws.Walks.{Down, down-start, down-more, down-end}
+use Rattle.arith.specs.Laws.Walks.{Down, down-start, down-more, down-end, Through, through-more, through-end}
 use Rattle.arith.specs.Laws.Gathering.{Gathered, gathered-all}
 use Rattle.bus_model.specs.declared.Frame.{Frame}
 use Rattle.bus_model.specs.declared.Faults.{Faults}
@@ -43,26 +44,53 @@ abbrev pub longest_of : (Frame → Bool) → List Frame → ℕ
 longest_of p gs = greatest (λ g. g.length) (keep p gs)
 
 -- what a frame more makes of it
-abbrev longer_of : (Frame → Bool) → Frame → ℕ → ℕ
+abbrev pub longer_of : (Frame → Bool) → Frame → ℕ → ℕ
 longer_of p g n = max n (cond (p g) g.length 0)
 
 longer-is : (b : Bool) (l n : ℕ) → cond b (max l n) n ≡ max n (cond b l 0)
 longer-is true l n = omega arith
 longer-is false l n = omega arith
 
-longest-cons : (p : Frame → Bool) (g : Frame) (gs : List Frame) → longest_of p (g ∷ gs) ≡ longer_of p g (longest_of p gs)
+pub longest-cons : (p : Frame → Bool) (g : Frame) (gs : List Frame) → longest_of p (g ∷ gs) ≡ longer_of p g (longest_of p gs)
 longest-cons p g gs = fold-keep (greatest (λ (x : Frame). x.length)) (λ (x : Frame). max x.length) (λ x xs. unfold greatest in refl) p g gs ∙ longer-is (p g) _ _
 
-module _ (fs : List Frame) (p : Frame → Bool) where
-  -- A loop down through the frames starts at 0.
-  pub longest-none : Down (longest_of p) fs 0 (length fs)
-  unfolding greatest keep
-  longest-none = down-start (longest_of p) fs refl
+-- the frames on one side of k
+abbrev pub side : Bool → Frame → Frame → Bool
+side true k = is_below k
+side false k = is_ahead k
 
+beq-true : (b : Bool) → beq b true ≡ b
+beq-true true = refl
+beq-true false = refl
+
+-- It is on the lower side of k that its number is higher.
+pub side-test : (lower : Bool) (k g : Frame) → beq (ltb k.priority g.priority) lower ≡ side lower k g
+side-test true k g = beq-true _
+side-test false k g =
+    elim (dec_le g.priority k.priority) [
+      | yes low ↦ rw (le-leb g.priority k.priority low, lt-leb (suc k.priority) g.priority (omega arith))
+      | no high ↦ rw (lt-leb g.priority k.priority (omega arith), le-leb (suc k.priority) g.priority (omega arith))
+    ]
+
+pub side-is : (lower : Bool) (fs : List Frame) (k : Frame) → longest_of (side lower k) fs ≡ greatest (λ g. g.length) (if lower then below fs k else ahead fs k)
+unfolding below ahead
+side-is true fs k = refl
+side-is false fs k = refl
+
+-- A loop has found the greatest length of those of the first i frames that pass.
+abbrev pub LongestTo : (Frame → Bool) → List Frame → ℕ → ℕ → Type 0
+LongestTo p fs n i = Through (longest_of p) max fs (longest_of p fs) n i
+
+module _ (fs : List Frame) (p : Frame → Bool) where
   -- It takes one frame more.
-  pub longest-more : {i : ℕ} {g : Frame} {n r : ℕ} → Down (longest_of p) fs n i → 0 < i → g ≡ row fs (i - 1) → r ≡ longer_of p g n
-      → Down (longest_of p) fs r (i - 1)
-  longest-more = down-more (longest_of p) fs (longer_of p) (longest-cons p) no_frame
+  pub longest-more : {i : ℕ} {g : Frame} {n r : ℕ} → LongestTo p fs n i → i < length fs → g ≡ row fs i → r ≡ longer_of p g n → LongestTo p fs r (i + 1)
+  longest-more {i} {g} {n} {r} t less is e =
+      through-more (longest_of p) max fs _ no_frame t less (λ gs. let one = longest-cons p (row fs i) gs in let same : r ≡ longer_of p (row fs i) n = rw is at e in omega arith)
+
+  -- At the end it has that of all.
+  pub longest-all : {i n : ℕ} → LongestTo p fs n i → length fs ≤ i → n ≡ longest_of p fs
+  unfolding greatest keep
+  longest-all t over = let e = through-end (longest_of p) max fs _ t over in omega arith
 
 -- In an accepted table it is small.
 pub longest-small : (fs : List Frame) → FineTable fs → (p : Frame → Bool) → longest_of p fs ≤ 400

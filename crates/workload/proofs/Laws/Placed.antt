@@ -1,22 +1,21 @@
 -- Placed frames: their work is that of the scenario, or a bound of it where a group is open; and the loop that places them.
-use Rattle.std.specs.Prelude.{◌≡◌, ℕ, suc, ◌+◌, ◌*◌, ◌/◌, ◌<◌, ◌≤◌, Bool, true, false, cond, ◌≢◌, List, [], ◌∷◌, ◌++◌, map, length, get_or, take, drop, ◌==◌, nat_eq, slice_index, slice_index_or, slice_set}
+use Rattle.std.specs.Prelude.{◌≡◌, ℕ, suc, ◌+◌, ◌*◌, ◌<◌, ◌≤◌, Bool, true, false, cond, ◌≢◌, List, [], ◌∷◌, ◌++◌, map, length, set, take, drop, ◌==◌, nat_eq}
 use Rattle.std.proofs.Math.Path.{refl, sym, ap}
-use Rattle.std.proofs.Common.{ap₂, ◌∙◌, ⊎_elim, add-one, eqb→eq, drop_of_length-le, length-append, drop-cons, below_more}
+use Rattle.std.proofs.lemmas.List.{take_more_set}
+use Rattle.std.proofs.Common.{append-nil, append_assoc, ◌∙◌, ⊎_elim, add-one, eqb→eq, drop_of_length-le, length-append, drop-cons}
 use mathlib.Core.List.Memᴰ
 use mathlib.Core.List.Memᴰ.{head as here}
 use mathlib.Core.List.Memᴰ.{tail as there}
 use mathlib.Core.List.{map-append, Memᴰ as Mem}
 use native.Mathlib.Omega.{arith}
 use Rattle.std.proofs.Math.Nat.{le_refl, le_of_eq, mul-le-mul_left, zero-add}
-use Rattle.std.proofs.Math.Decide.{dec_le}
 use Rattle.std.proofs.Math.Dec.{eqb_refl}
 use Rattle.std.proofs.lemmas.List.{length-map}
-use Rattle.std.proofs.Math.ListN.{length-set, length-take}
-use Rattle.std.proofs.Math.Seq.{get_or-set_same, get_or-set_other, get_or-take}
+use Rattle.std.proofs.Math.ListN.{length-set}
 use Rattle.arith.specs.Lists.{sum, keep, range}
 use Rattle.arith.specs.Releases.{releases_before}
 use Rattle.arith.specs.Laws.Tests.{cond_yes, cond_no}
-use Rattle.arith.specs.Laws.Members.{keep-le, get_d-table, length-range, map_same, of_range, range-append, of-keep, of_map, list-places}
+use Rattle.arith.specs.Laws.Members.{keep-le, of-keep, of_map}
 use Rattle.arith.specs.Laws.Sums.{sum-le, sum_same, sum-append, sum-keep, sum-at, greatest-le}
 use Rattle.arith.specs.Laws.Releases.{count-mono, count-ahead, count-later}
 use Rattle.bus_model.specs.declared.Frame.{Frame}
@@ -31,8 +30,9 @@ use Rattle.bus_model.proofs.Theory.Frames.{of-group}
 use Rattle.workload.specs.declared.Search.{Search}
 use Rattle.workload.specs.declared.Search.TheVariants.{Window, Instance}
 use Rattle.workload.specs.declared.Target.{Target}
+use Rattle.workload.specs.declared.placed.PlacedFrame.{PlacedFrame}
 use Rattle.workload.specs.Prepared.{Fine, FineTable}
-use Rattle.workload.specs.Placed.{Placed, is_load, first_release, placed_frame, placed_out, placed_demand, placed_work, AllFixed, FineOne, FinePlaced, no_placed, placed_at, placed_in, put_at, placed_frames, fault_frames, placed_faults}
+use Rattle.workload.specs.Placed.{Placed, is_load, first_release, placed_frame, placed_out, placed_demand, placed_work, AllFixed, FineOne, FinePlaced, placed_at, placed_in, placed_frames, fault_frames, placed_faults}
 use Rattle.workload.specs.Faults.{FineFaults, FineTarget, faults_in, lead_of}
 use Rattle.workload.proofs.Laws.Fine.{member-fine}
 
@@ -182,134 +182,26 @@ placed-mono {gs} all le = sum-le gs (λ g m. mul-le-mul_left g.length (count-mon
 
 -- ---- placing them, frame by frame
 
-pub length-placed : (t : List ℕ) → length (placed_in t) ≡ length t / 4
+pub length-placed : (ps : List PlacedFrame) → length (placed_in ps) ≡ length ps
 unfolding placed_in
-length-placed t = length-map (range 0 (length t / 4)) (placed_at t) ∙ length-range 0 (length t / 4)
-
-pub placed-at : (t : List ℕ) (i : ℕ) → i < length t / 4 → slice_index_or (placed_in t) i no_placed ≡ placed_at t i
-unfolding placed_in
-placed-at t i l = get_d-table (placed_at t) 0 (length t / 4) i no_placed l ∙ ap (placed_at t) (zero-add i)
-
-module _ (t : List ℕ) (i : ℕ) (x : Placed) (v : ℕ) where
-  abbrev t1 : List ℕ
-  t1 = slice_set t (4 * i) x.length
-
-  abbrev t2 : List ℕ
-  t2 = slice_set t1 (4 * i + 1) x.period
-
-  abbrev t3 : List ℕ
-  t3 = slice_set t2 (4 * i + 2) x.first
-
-  abbrev put : List ℕ
-  put = put_at t i x.length x.period x.first v
-
-  put-length : length put ≡ length t
-  unfolding put_at
-  put-length = simp length-set
-
-  -- What was put at a place stands there,
-  put-here : 4 * i + 4 ≤ length t → placed_at put i ≡ x
-  unfolding put_at placed_at
-  put-here room =
-      let one : length t1 ≡ length t = simp length-set in
-      let two : length t2 ≡ length t = simp length-set in
-      rw (
-        get_or-set_other t3 (4 * i + 3) (4 * i) v 0 (omega arith),
-        get_or-set_other t3 (4 * i + 3) (4 * i + 1) v 0 (omega arith),
-        get_or-set_other t3 (4 * i + 3) (4 * i + 2) v 0 (omega arith),
-        get_or-set_other t2 (4 * i + 2) (4 * i) x.first 0 (omega arith),
-        get_or-set_other t2 (4 * i + 2) (4 * i + 1) x.first 0 (omega arith),
-        get_or-set_same t2 (4 * i + 2) x.first 0 (omega arith),
-        get_or-set_other t1 (4 * i + 1) (4 * i) x.period 0 (omega arith),
-        get_or-set_same t1 (4 * i + 1) x.period 0 (omega arith),
-        get_or-set_same t (4 * i) x.length 0 (omega arith),
-      )
-
-  -- and what stood before it still does.
-  put-before : (j : ℕ) → j < 4 * i → slice_index put j ≡ slice_index t j
-  unfolding put_at
-  put-before j less =
-      get_or-set_other t3 (4 * i + 3) j v 0 (omega arith)
-      ∙ get_or-set_other t2 (4 * i + 2) j x.first 0 (omega arith)
-      ∙ get_or-set_other t1 (4 * i + 1) j x.period 0 (omega arith)
-      ∙ get_or-set_other t (4 * i) j x.length 0 (omega arith)
-
-  put-there : (m : ℕ) → m < i → placed_at put m ≡ placed_at t m
-  unfolding placed_at
-  put-there m less = rw (put-before (4 * m) (omega arith), put-before (4 * m + 1) (omega arith), put-before (4 * m + 2) (omega arith))
-
--- the first i of a list stand in the area
-pub record PutTo (f : ℕ → Placed) (area : List ℕ) (i : ℕ) : Type 0 where
-  pub size : length area ≡ 260
-  pub each : (m : ℕ) → m < i → placed_at area m ≡ f m
-
-module _ {f : ℕ → Placed} {area : List ℕ} {i : ℕ} (s : PutTo f area i) where
-  -- One more is put there.
-  put-more : i < 64 → {x : Placed} → x ≡ f i → (v : ℕ) → PutTo f (put_at area i x.length x.period x.first v) (i + 1)
-  put-more less {x} is v = record {
-    size = put-length area i x v ∙ s.size;
-    each = below_more _ _ (λ m l. put-there area i x v m l ∙ s.each m l) (put-here area i x v (omega (arith, s.size)) ∙ is);
-  }
-
-  -- At the end all of them do.
-  put_all : i ≤ 65 → placed_in (take (4 * i) area) ≡ map f (range 0 i)
-  unfolding placed_in placed_at
-  put_all few =
-      let long : length (take (4 * i) area) ≡ 4 * i = simp length-take (omega (arith, s.size)) in
-      let number : 4 * i / 4 ≡ i = omega arith in
-      rw (long, number) (map_same (range 0 i) (λ m l. let less : m < i = omega (arith, (of_range 0 i l).1) in taken m less ∙ s.each m less))
-    where
-      taken : (m : ℕ) → m < i → placed_at (take (4 * i) area) m ≡ placed_at area m
-      taken m less =
-          rw (
-            get_or-take (4 * i) area (4 * m) 0 (omega arith),
-            get_or-take (4 * i) area (4 * m + 1) 0 (omega arith),
-            get_or-take (4 * i) area (4 * m + 2) 0 (omega arith),
-          )
+length-placed ps = length-map ps placed_at
 
 -- Behind the first i stands one more.
-pub placed-more : (area : List ℕ) (i : ℕ) → length area ≡ 260 → i ≤ 64 → (x : Placed) (v : ℕ)
-    → placed_in (take (4 * (i + 1)) (put_at area i x.length x.period x.first v)) ≡ placed_in (take (4 * i) area) ++ (x ∷ [])
-unfolding range
-placed-more area i size few x v =
-    let more = put area i x v in
-    let before = put_all {f = placed_at area} {area = area} {i = i} (record { size = size; each = λ m l. refl }) (omega arith) in
-    let after = put_all {f = placed_at more} {area = more} {i = i + 1} (record { size = put-length area i x v ∙ size; each = λ m l. refl }) (omega arith) in
-    after
-    ∙ ap (map (placed_at more)) (range-append 0 i 1)
-    ∙ map-append (placed_at more) (range 0 i) (range (0 + i) 1)
-    ∙ ap₂ (λ (xs ys : List Placed). xs ++ ys)
-    (map_same (range 0 i) (λ m l. put-there area i x v m (omega (arith, (of_range 0 i l).1))) ∙ sym before)
-    (ap (λ (y : Placed). y ∷ []) (ap (placed_at more) (zero-add i) ∙ put-here area i x v (omega arith)))
+pub placed-more : (area : List PlacedFrame) (i : ℕ) → i < length area → (x : PlacedFrame) → placed_in (take (i + 1) (set area i x)) ≡ placed_in (take i area) ++ (placed_at x ∷ [])
+unfolding placed_in
+placed-more area i inside x = ap (map placed_at) (take_more_set area i x inside) ∙ map-append placed_at (take i area) (x ∷ [])
 
--- Of the frames to be placed the first m stand in the area; the others come from the rows from i on.
-pub record PlacedTo (fs : List Frame) (k : Frame) (search : Search) (cs : List Choice) (area : List ℕ) (m i : ℕ) : Type 0 where
-  pub few : m ≤ i
-  pub within : m ≤ length (placed_frames fs k search cs)
-  pub put : PutTo (λ e. get_or (placed_frames fs k search cs) e no_placed) area m
-  pub left : drop m (placed_frames fs k search cs) ≡ placed_frames (drop i fs) k search cs
+-- So many of the frames to be placed stand in the area; the others come from the rows from i on.
+pub record PlacedTo (fs : List Frame) (k : Frame) (search : Search) (cs : List Choice) (area : List PlacedFrame) (count i : ℕ) : Type 0 where
+  pub few : count ≤ i
+  pub size : length area ≡ 65
+  pub all : placed_in (take count area) ++ placed_frames (drop i fs) k search cs ≡ placed_frames fs k search cs
 
-module _ {A : Type 0} (d : A) (xs : List A) (m : ℕ) {y : A} {ys : List A} (left : drop m xs ≡ y ∷ ys) where
-  some_left : m < length xs
-  some_left =
-      elim (dec_le (length xs) m) [
-        | yes over ↦ absurd (let z : 0 ≡ suc (length ys) = ap length (sym (drop_of_length-le xs {i = m} over) ∙ left) in omega arith)
-        | no under ↦ omega arith
-      ]
-
-  parts : get_or xs m d ∷ drop (suc m) xs ≡ y ∷ ys
-  parts = sym (drop-cons xs m d some_left) ∙ left
-
-  next-left : get_or xs m d ≡ y
-  next-left = ap (λ (zs : List A). get_or zs 0 d) parts
-
-  others-left : drop (suc m) xs ≡ ys
-  others-left = ap (drop 1) parts
-
-module _ {fs : List Frame} {k : Frame} {search : Search} {cs : List Choice} {area : List ℕ} where
+module _ {fs : List Frame} {k : Frame} {search : Search} {cs : List Choice} {area : List PlacedFrame} where
   -- At first none is.
-  pub place_none : length area ≡ 260 → PlacedTo fs k search cs area 0 0
-  place_none size = record { few = omega arith; within = omega arith; put = record { size = size; each = λ e l. absurd (omega arith) }; left = refl }
+  pub place_none : length area ≡ 65 → PlacedTo fs k search cs area 0 0
+  unfolding placed_in
+  place_none size = record { few = omega arith; size = size; all = refl }
 
   module _ {m i : ℕ} (s : PlacedTo fs k search cs area m i) (inside : i < length fs) {g : Frame} (is : g ≡ row fs i) {b : Bool} (test : b ≡ is_load search k g) where
     -- what the rows from i on give
@@ -318,31 +210,31 @@ module _ {fs : List Frame} {k : Frame} {search : Search} {cs : List Choice} {are
     rest = rw (drop-cons fs i no_frame inside, test, is)
 
     -- A frame that loads the scenario is put there,
-    pub place-put : m < 64 → b ≡ true → {x : Placed} → x ≡ placed_frame cs g → (v : ℕ) → {area' : List ℕ} → area' ≡ put_at area m x.length x.period x.first v → {m' : ℕ} → m' ≡ m + 1 → PlacedTo fs k search cs area' m' (i + 1)
-    place-put room t at v put more =
-        let now = s.left ∙ rw t at rest in
+    pub place-put : m < 65 → b ≡ true → (x : PlacedFrame) → placed_at x ≡ placed_frame cs g → {area' : List PlacedFrame} → area' ≡ set area m x → {m' : ℕ} → m' ≡ m + 1 → PlacedTo fs k search cs area' m' (i + 1)
+    place-put room t x at put more =
+        let later = placed_frames (drop (suc i) fs) k search cs in
         rw (put, more) (record {
           few = omega (arith, s.few);
-          within = omega (arith, some_left no_placed (placed_frames fs k search cs) m now);
-          put = put-more s.put room (at ∙ sym (next-left no_placed (placed_frames fs k search cs) m now)) v;
-          left = rw (add-one m, add-one i) (others-left no_placed (placed_frames fs k search cs) m now);
+          size = length-set area m x ∙ s.size;
+          all = rw (add-one i) (
+              ap (λ (ys : List Placed). ys ++ later) (placed-more area m (omega (arith, s.size)) x)
+              ∙ append_assoc (placed_in (take m area)) (placed_at x ∷ []) later
+              ∙ ap (λ (y : Placed). placed_in (take m area) ++ (y ∷ later)) at
+              ∙ ap (λ (ys : List Placed). placed_in (take m area) ++ ys) (sym (rw t at rest)) ∙ s.all);
         })
 
     -- and any other is passed over.
-    pub place-skip : b ≡ false → {area' : List ℕ} → area' ≡ area → {m' : ℕ} → m' ≡ m → PlacedTo fs k search cs area' m' (i + 1)
-    place-skip f same still = rw (same, still) (record { few = omega (arith, s.few); within = s.within; put = s.put; left = rw (add-one i) (s.left ∙ rw f at rest) })
+    pub place-skip : b ≡ false → {area' : List PlacedFrame} → area' ≡ area → {m' : ℕ} → m' ≡ m → PlacedTo fs k search cs area' m' (i + 1)
+    place-skip f same still =
+        rw (same, still) (record {
+          few = omega (arith, s.few);
+          size = s.size;
+          all = rw (add-one i) (ap (λ (ys : List Placed). placed_in (take m area) ++ ys) (sym (rw f at rest)) ∙ s.all);
+        })
 
   -- At the end all are.
-  pub place-all : {m i : ℕ} → FineTable fs → PlacedTo fs k search cs area m i → length fs ≤ i → (placed_in (take (4 * m) area) ≡ placed_frames fs k search cs) × (m ≤ 64)
+  pub place-all : {m i : ℕ} → PlacedTo fs k search cs area m i → length fs ≤ i → placed_in (take m area) ≡ placed_frames fs k search cs
   unfolding keep
-  place-all {m} {i} table s over =
-      let gs = placed_frames fs k search cs in
-      let none : drop m gs ≡ [] = s.left ∙ ap (λ (xs : List Frame). placed_frames xs k search cs) (drop_of_length-le fs {i = i} over) in
-      let all : length gs ≤ m =
-      elim (dec_le (length gs) m) [
-        | yes over ↦ over
-        | no under ↦ absurd (let z : suc (length (drop (suc m) gs)) ≡ 0 = ap length (sym (drop-cons gs m no_placed (omega arith)) ∙ none) in omega arith)
-      ] in
-      let count : m ≡ length gs = omega (arith, s.within) in
-      let few : m ≤ 64 = omega (arith, frames-few table k cs search) in
-      (put_all s.put (omega arith) ∙ ap (λ (n : ℕ). map (λ e. get_or gs e no_placed) (range 0 n)) count ∙ list-places no_placed gs, few)
+  place-all {m} {i} s over =
+      let none : placed_frames (drop i fs) k search cs ≡ [] = ap (λ (xs : List Frame). placed_frames xs k search cs) (drop_of_length-le fs {i = i} over) in
+      sym (append-nil (placed_in (take m area))) ∙ ap (λ (ys : List Placed). placed_in (take m area) ++ ys) (sym none) ∙ s.all

@@ -4,10 +4,10 @@ use Rattle.worst_command.specs.Command.{text_of}
 use Rattle.worst_command.proofs.write_last.Goals as goal
 
 pub worst_row-requires : goal.worst_row-requires
-worst_row-requires c = record { loadable = c.requires; i_in_bounds = c.last_row-i.ensures.listed }
+worst_row-requires c = c.last_row-i.ensures.listed
 
 pub write_with-requires : goal.write_with-requires
-write_with-requires c = record { loadable = c.requires; i_in_bounds = rw (length-frames c.args.lengths c.args.rows.now) at c.last_row-i.ensures.listed }
+write_with-requires c = rw (length-frames c.args.table.now.lengths c.args.table.now.rows.now) at c.last_row-i.ensures.listed
 
 pub returns : goal.returns
 unfolding text_of

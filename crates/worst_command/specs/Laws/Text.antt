@@ -1,8 +1,7 @@
 -- The text: how long it is, its last line written column by column, and its parts one behind the other.
-use Rattle.std.specs.Prelude.{ℕ, ◌≡◌, List, ◌++◌, length, drop, set}
+use Rattle.std.specs.Prelude.{ℕ, ◌≡◌, List, ◌++◌, length, drop, set, Option, Some, None}
 use Rattle.std.proofs.Common.{◌∙◌, append_assoc, append-nil, arith, length-append}
 use borrow.Rule.Slice.PartMut.{mid_of, put_mid}
-use Rattle.arith.specs.declared.Found.TheVariants.{At, Nothing}
 use Rattle.arith.specs.Laws.Overwriting.{begun-none, begun-part, begun-filled, begun-element, begun_all}
 use Rattle.bus_model.specs.declared.Faults.TheVariants.{Never}
 use Rattle.decimal.specs.Decimal.{write_column}
@@ -62,10 +61,10 @@ alone-written ls rows i out a p = rw p (begun-part _ out _ 0 (begun-none out) (r
 
 -- ---- by what is shown
 
-pub text-none : (w : WorstCase) (line : List ℕ) → w.response ≡ Nothing → line ++ worst_text w ≡ line
+pub text-none : (o : Option WorstCase) (line : List ℕ) → o ≡ None → line ++ worst_text o ≡ line
 unfolding worst_text
-text-none w line is = rw is (append-nil line)
+text-none o line is = rw is (append-nil line)
 
-pub text-shown : (w : WorstCase) (line : List ℕ) (b : ℕ) → w.response ≡ At b → line ++ worst_text w ≡ line ++ (numbered_lines 8 w.starts 16 0 ++ response_line w.instance b)
+pub text-shown : (o : Option WorstCase) (line : List ℕ) (w : WorstCase) → o ≡ Some w → line ++ worst_text o ≡ line ++ (numbered_lines 8 w.starts 16 0 ++ response_line w.instance w.response)
 unfolding worst_text
-text-shown w line b is = rw is
+text-shown o line w is = rw is

@@ -29,6 +29,6 @@ next_alignment-requires c =
 pub returns : goal.returns
 returns c =
     let fs = table_of c.args.rows.now c.args.prepared.now in
-    let k = c.args.target.frame in
+    let k = c.args.k in
     rw (c.part_of-part.ensures, c.cycle_of.ensures) at c.next_alignment.ensures ∙ read-search c.requires.prepared (c.args.group - 1) (less (goal.at.returns c).Start) c.args.after
     ∙ ap (λ (j : ℕ). least (is_alignment fs k j) (turn fs k j - c.args.after) c.args.after) (same (goal.at.returns c).Start)

@@ -7,15 +7,9 @@ use Rattle.workload.proofs.Laws.Groups.{read-choice}
 use Rattle.bounds.proofs.alignments.next_open.Goals as goal
 use Rattle.bounds.proofs.alignments.next_open.Goals.{After-is_open, After-is_open-in-loop-j}
 
-pub overflow_sub-at : goal.overflow_sub-at
-overflow_sub-at c = omega (arith, c.requires.group-low)
-
-pub bounds-choices-at : goal.bounds-choices-at
-bounds-choices-at c = omega (arith, c.requires.group-low, c.requires.group-high)
-
 -- what is asked of k's own group
 own_is : (c : After-is_open) → c.is_open.result ≡ is_open c.args.choices c.args.k.group
-own_is c = c.is_open.ensures
+own_is c = c.is_open.ensures ∙ ap is_any c.own_choice.ensures
 
 pub returns-then-is_open : goal.returns-then-is_open
 unfolding next_open

@@ -6,7 +6,4 @@ use Rattle.bus_model.specs.Theory.OpenGroups.{is_open}
 use Rattle.bounds.proofs.alignments.next_open.Given as goal
 
 abbrev pub invariant-loop-j : goal.invariant-loop-j
-invariant-loop-j l = least (is_open l.choices) (17 - (l.j + 1)) (l.j + 1) ≡ least (is_open l.choices) (17 - 1) 1
-
-abbrev pub decreases-loop-j : goal.decreases-loop-j
-decreases-loop-j l = 16 - l.j
+invariant-loop-j l = least (is_open l.fn.choices) (17 - (l.j + 1)) (l.j + 1) ≡ least (is_open l.fn.choices) (17 - 1) 1

@@ -30,4 +30,4 @@ pub returns : goal.returns
 returns c =
     let fs = table_of c.args.rows.now c.args.prepared.now in
     let is = rw (c.part_of-part.ensures, c.hyperperiod_of.ensures) at c.count_alignments.ensures.value in
-    is ∙ counted c.requires.prepared (less (goal.at.returns c).Start) ∙ ap (λ (j : ℕ). length (or_empty (alignments fs c.args.target.frame j))) (same (goal.at.returns c).Start)
+    is ∙ counted c.requires.prepared (less (goal.at.returns c).Start) ∙ ap (λ (j : ℕ). length (or_empty (alignments fs c.args.k j))) (same (goal.at.returns c).Start)

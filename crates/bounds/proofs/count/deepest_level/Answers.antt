@@ -13,7 +13,7 @@ use Rattle.bounds.proofs.count.deepest_level.Goals as goal
 use Rattle.bounds.proofs.count.deepest_level.Goals.{After-cut_product-product-in-loop-level, Start}
 
 -- k is a frame that the definitions ask for
-valid : (s : Start) → ValidFrame s.args.target.frame
+valid : (s : Start) → ValidFrame s.args.k
 valid s = of-fine s.requires.fine
 
 pub alignment_count-requires : goal.alignment_count-requires
@@ -27,12 +27,12 @@ alignment_count-requires-in-loop-level c = record { prepared = c.requires.prepar
 
 -- the product with the next group's alignments
 factor : (c : After-cut_product-product-in-loop-level) → let a = c.args in
-    c.cut_product-product-in-loop-level.result ≡ min 65537 (c.loop-level.product * length (or_empty (alignments (table_of a.rows.now a.prepared.now) a.target.frame (group_at a.target.frame (suc c.loop-level.level)))))
+    c.cut_product-product-in-loop-level.result ≡ min 65537 (c.loop-level.product * length (or_empty (alignments (table_of a.rows.now a.prepared.now) a.k (group_at a.k (suc c.loop-level.level)))))
 factor c =
     let a = c.args in
     c.cut_product-product-in-loop-level.ensures
     ∙ ap (λ (n : ℕ). min 65537 (c.loop-level.product * n)) (c.alignment_count-in-loop-level.ensures
-    ∙ ap (λ (j : ℕ). length (or_empty (alignments (table_of a.rows.now a.prepared.now) a.target.frame j))) (c.group_at-group.ensures.value ∙ ap (group_at a.target.frame) (add-one c.loop-level.level)))
+    ∙ ap (λ (j : ℕ). length (or_empty (alignments (table_of a.rows.now a.prepared.now) a.k j))) (c.group_at-group.ensures.value ∙ ap (group_at a.k) (add-one c.loop-level.level)))
 
 pub returns-then-product-gt-SCENARIO_LIMIT : goal.returns-then-product-gt-SCENARIO_LIMIT
 returns-then-product-gt-SCENARIO_LIMIT c = level-over _ (valid (goal.at.returns-then-product-gt-SCENARIO_LIMIT c).Start) c.loop-level.invariant c.loop-level-test.true (factor (goal.at.returns-then-product-gt-SCENARIO_LIMIT c).After-cut_product-product-in-loop-level) c.if-product-gt-SCENARIO_LIMIT.true
@@ -41,4 +41,6 @@ pub loop-level-preserved : goal.loop-level-preserved
 loop-level-preserved c = level-next _ (valid (goal.at.loop-level-preserved c).Start) c.loop-level.invariant c.loop-level-test.true (factor (goal.at.loop-level-preserved c).After-cut_product-product-in-loop-level) c.if-product-gt-SCENARIO_LIMIT.false
 
 pub returns : goal.returns
-returns c = level_all _ (valid (goal.at.returns c).Start) c.loop-level.invariant c.loop-level-test.false
+returns c =
+    let last : 15 ≡ c.loop-level.level = omega (arith, c.loop-level-test.false) in
+    last ∙ level_all _ (valid (goal.at.returns c).Start) c.loop-level.invariant c.loop-level-test.false

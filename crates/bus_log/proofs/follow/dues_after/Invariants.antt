@@ -1,5 +1,4 @@
 -- `bus_log::follow::dues_after` meets its contract: after i turns the first i are written.
-use Prim.Native.Nat.{◌-◌, ◌≤◌}
 use mathlib.Core.Path.{◌≡◌}
 use mathlib.Core.List.{map}
 use lib.ListN.{length}
@@ -10,7 +9,4 @@ use Rattle.bus_log.specs.Follow.{due_after}
 use Rattle.bus_log.proofs.follow.dues_after.Given as goal
 
 abbrev pub invariant-loop-i : goal.invariant-loop-i
-invariant-loop-i l = (l.due ≡ over (map (due_after (frames_of l.lengths l.rows) l.p l.e) (range 0 64)) l.i l.initial.due) × (l.i ≤ 64) × (length l.due ≡ 64) × (length l.initial.due ≡ 64)
-
-abbrev pub decreases-loop-i : goal.decreases-loop-i
-decreases-loop-i l = 64 - l.i
+invariant-loop-i l = (l.due ≡ over (map (due_after (frames_of l.lengths l.rows) l.p l.e) (range 0 64)) l.i l.initial.due) × (length l.due ≡ 64) × (length l.initial.due ≡ 64)

@@ -1,4 +1,3 @@
-use borrow.Author.Rules.{rules}
 use mathlib.Core.Path.{◌≡◌, ◌∙◌}
 use native.Mathlib.Nat.{sub-zero}
 use native.Mathlib.Omega.{arith}
@@ -13,10 +12,10 @@ use Rattle.bus_log.proofs.follow.some_hinders.Goals.{After-does_hinder}
 
 pub loop-i-init : goal.loop-i-init
 unfolding row_hinders
-loop-i-init c = (rw (sub-zero, c.requires.own_value.0, length-frames), search rules)
+loop-i-init c = rw (sub-zero, c.requires.own_value.0, length-frames)
 
-pub bounds-due-i : goal.bounds-due-i
-bounds-due-i c =
+pub bounds-p-i : goal.bounds-p-i
+bounds-p-i c =
     omega (arith, few-lines c.args.rows.now c.requires.accepted)
 
 pub does_hinder-requires : goal.does_hinder-requires
@@ -28,10 +27,10 @@ tested : (c : After-does_hinder) → c.does_hinder.result ≡ hinders c.args.p c
 tested c = rw (← c.frame.ensures) c.does_hinder.ensures
 
 pub returns-then-does_hinder : goal.returns-then-does_hinder
-returns-then-does_hinder c = exists-stop _ _ _ _ c.loop-i-test.true (tested (goal.at.returns-then-does_hinder c).After-does_hinder) c.if-does_hinder.true ∙ c.loop-i.invariant.0
+returns-then-does_hinder c = exists-stop _ _ _ _ c.loop-i-test.true (tested (goal.at.returns-then-does_hinder c).After-does_hinder) c.if-does_hinder.true ∙ c.loop-i.invariant
 
 pub loop-i-preserved : goal.loop-i-preserved
-loop-i-preserved c = (exists-go _ _ _ _ c.loop-i-test.true (tested (goal.at.loop-i-preserved c).After-does_hinder) c.if-does_hinder.false ∙ c.loop-i.invariant.0, search rules)
+loop-i-preserved c = exists-go _ _ _ _ c.loop-i-test.true (tested (goal.at.loop-i-preserved c).After-does_hinder) c.if-does_hinder.false ∙ c.loop-i.invariant
 
 pub returns : goal.returns
-returns c = exists-end _ _ _ c.loop-i-test.false ∙ c.loop-i.invariant.0
+returns c = exists-end _ _ _ c.loop-i-test.false ∙ c.loop-i.invariant

@@ -1,5 +1,5 @@
 -- `bus_log::follow::some_hinders` meets its contract: the rows left decide.
-use Prim.Native.Nat.{◌-◌, ◌≤◌}
+use Prim.Native.Nat.{◌-◌}
 use mathlib.Core.Path.{◌≡◌}
 use lib.ListN.{length}
 use Rattle.arith.specs.Lists.{exists, range}
@@ -9,7 +9,4 @@ use Rattle.bus_log.specs.Follow.{due_of, hinders, row_hinders}
 use Rattle.bus_log.proofs.follow.some_hinders.Given as goal
 
 abbrev pub invariant-loop-i : goal.invariant-loop-i
-invariant-loop-i l = (exists (λ k. hinders l.p l.own l.e (row (frames_of l.lengths l.rows) k) (due_of l.p.due k)) (range l.i (l.n - l.i)) ≡ exists (row_hinders (frames_of l.lengths l.rows) l.p l.e) (range 0 (length (frames_of l.lengths l.rows)))) × (l.i ≤ l.n)
-
-abbrev pub decreases-loop-i : goal.decreases-loop-i
-decreases-loop-i l = l.n - l.i
+invariant-loop-i l = exists (λ k. hinders l.p l.own l.e (row (frames_of l.lengths l.rows) k) (due_of l.p.due k)) (range l.i (l.n - l.i)) ≡ exists (row_hinders (frames_of l.lengths l.rows) l.p l.e) (range 0 (length (frames_of l.lengths l.rows)))

@@ -1,31 +1,8 @@
--- A refusal of the lengths is encoded; with lengths that were read the row is judged.
-use Prim.Native.Nat.{ℕ}
-use mathlib.Core.Path.{ap, ◌∙◌}
-use mathlib.Core.List.{List}
-use Rattle.arith.specs.Laws.Signed.{kept}
-use Rattle.frame_table.specs.Table.{read_check}
-use Rattle.certifier.specs.Encode.{judge_file, judge_read, encode_judged, encode_refusal}
-use Rattle.lengths_file.proofs.Laws.Input.{ReadLengths, lengths_read, lengths-refused}
+-- Every judgement of a row can be encoded.
+use mathlib.Core.Path.{sym, subst}
+use Rattle.certifier.specs.Steps.{Encodable}
+use Rattle.certifier.proofs.Laws.Small.{file-encodable}
 use Rattle.certifier.proofs.encode.certifier_judge.Goals as goal
-use Rattle.certifier.proofs.encode.certifier_judge.Goals.{After-lengths_of}
 
--- the lengths of the file
-loaded : (c : After-lengths_of) → ReadLengths c.args.lengths.now c.args.table.now c.lengths_of.result
-loaded c = lengths_read _ _ c.read-loaded.ensures.value c.in-Passed.is c.lengths_of.ensures
-
-pub judge_table-requires : goal.judge_table-requires
-judge_table-requires c = (loaded (goal.at.judge_table-requires c).After-lengths_of).loadable
-
-pub returns-in-Failed : goal.returns-in-Failed
-unfolding encode_judged judge_file judge_read
-returns-in-Failed c =
-    kept _ c.encode_refusal.type_inv ∙ c.encode_refusal.ensures
-    ∙ rw (lengths-refused _ c.args.table.now c.read-loaded.ensures.value c.in-Failed.is) (ap encode_refusal c.of_table.ensures)
-
-pub returns-in-Passed : goal.returns-in-Passed
-unfolding judge_file
-returns-in-Passed c =
-    let l = loaded (goal.at.returns-in-Passed c).After-lengths_of in
-    let a = c.args in
-    kept _ c.judge_table.type_inv ∙ c.judge_table.ensures
-    ∙ ap encode_judged (rw l.passed (ap (λ (ls : List (List ℕ)). judge_read (read_check a.table.now) ls a.table.now a.row) l.is))
+pub encode_judged-requires : goal.encode_judged-requires
+encode_judged-requires c = rw c.judge_file.ensures (file-encodable _ _ _)

@@ -4,6 +4,6 @@ use Rattle.arith.specs.Laws.Signed.{kept}
 use Rattle.certifier.specs.Encode.{encode_judged}
 use Rattle.certifier.proofs.encode.encode_judged.Goals as goal
 
-pub returns-in-NotJudged : goal.returns-in-NotJudged
+pub returns-in-Err : goal.returns-in-Err
 unfolding encode_judged
-returns-in-NotJudged c = rw c.in-NotJudged.is (kept _ c.encode_refusal.type_inv ∙ c.encode_refusal.ensures)
+returns-in-Err c = rw c.in-Err.is (kept _ c.encode_refusal.type_inv ∙ c.encode_refusal.ensures)

@@ -1,14 +1,14 @@
--- `certifier::frame_entry::certifier_frame_length` meets its contract: the number goes by what was measured.
-use native.Mathlib.Omega.{arith}
-use Rattle.arith.specs.Laws.Signed.{to_z_pos}
+-- The number goes by what was measured.
+use mathlib.Core.Path.{◌∙◌}
+use Rattle.arith.specs.Laws.Signed.{kept}
 use Rattle.frame_length.specs.FrameLength.{measured_returns}
 use Rattle.certifier.specs.FrameEntry.{encode_frame}
 use Rattle.certifier.proofs.frame_entry.certifier_frame_length.Goals as goal
 
-pub returns-in-Length : goal.returns-in-Length
+pub returns-in-Some : goal.returns-in-Some
 unfolding measured_returns encode_frame
-returns-in-Length c = rw (← c.measure-measured.ensures, c.in-Length.is) (to_z_pos _ (omega arith))
+returns-in-Some c = rw (← c.from.ensures, ← c.from-2.ensures, ← c.in-Some.ensures) (kept _ c.from-in-Some.type_inv ∙ c.from-in-Some.ensures)
 
-pub returns-in-Refused : goal.returns-in-Refused
+pub returns-in-None : goal.returns-in-None
 unfolding measured_returns encode_frame
-returns-in-Refused c = rw (← c.measure-measured.ensures, c.in-Refused.is)
+returns-in-None c = rw (← c.from.ensures, ← c.from-2.ensures, ← c.in-None.ensures)

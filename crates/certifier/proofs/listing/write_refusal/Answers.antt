@@ -1,5 +1,5 @@
 -- `certifier::listing::write_refusal` meets its contract: number and place are those of the refusal.
-use Rattle.table_checks.specs.declared.Checked.TheVariants.{Passed}
+use Rattle.std.specs.Prelude.{Ok}
 use Rattle.table_checks.specs.Refusal.{check_returns}
 use Rattle.frame_table.specs.Laws.Returns.{answer-told}
 use Rattle.certifier.proofs.listing.write_refusal.Goals as goal
@@ -7,4 +7,4 @@ use Rattle.certifier.proofs.listing.write_refusal.Goals as goal
 pub returns : goal.returns
 unfolding check_returns
 returns c =
-    let answer = answer-told Passed _ _ (rw (← c.number.ensures) (c.write_refusal_line.ensures.value, c.write_refusal_line.ensures.out_after)) in record { value = answer.0; out_after = answer.1.0; in_numbers = answer.1.1 }
+    let answer = answer-told (Ok tt) _ _ (rw (← c.number.ensures) (c.write_refusal_line.ensures.value, c.write_refusal_line.ensures.out_after)) in record { value = answer.0; out_after = answer.1.0; in_numbers = answer.1.1 }

@@ -7,7 +7,7 @@ use Rattle.certifier.proofs.listing.write_row.Goals as goal
 
 pub judge_row-judgement-requires : goal.judge_row-judgement-requires
 judge_row-judgement-requires c =
-    record { loadable = c.requires.loadable; i_in_bounds = omega (arith, length-frames c.args.lengths c.args.rows.now, c.requires.i_in_bounds.0); fine_faults = c.requires.fine_faults }
+    record { i_in_bounds = omega (arith, length-frames c.args.table.now.lengths c.args.table.now.rows.now, c.requires.i_in_bounds.0); fine_faults = c.requires.fine_faults }
 
 pub returns : goal.returns
 unfolding line_of

@@ -1,29 +1,30 @@
--- A refusal of the lengths is encoded; by lengths that were read the last frame is judged and shown.
-use mathlib.Core.Path.{◌∙◌}
+-- A refusal of the files is encoded; by files that were read the last frame is judged and shown.
+use mathlib.Core.Path.{sym, subst, ◌∙◌}
 use Rattle.arith.specs.Laws.Signed.{kept}
-use Rattle.lengths_file.proofs.Laws.Input.{ReadLengths, lengths_read, lengths-refused}
+use Rattle.worst_case.specs.declared.LastFrame.{LastFrame}
+use Rattle.worst_case.specs.Answer.{worst_of}
 use Rattle.certifier.specs.WorstEntry.{worst_file, worst_read}
+use Rattle.certifier.specs.Steps.{Encodable}
+use Rattle.certifier.proofs.Laws.Small.{judged-encodable}
 use Rattle.certifier.proofs.Laws.WorstEntry.{last-refused}
 use Rattle.certifier.proofs.worst_entry.certifier_worst.Goals as goal
-use Rattle.certifier.proofs.worst_entry.certifier_worst.Goals.{After-lengths_of}
 
-pub returns-in-Failed : goal.returns-in-Failed
+pub show_last-requires : goal.show_last-requires
+unfolding worst_of
+show_last-requires c = subst (λ (l : LastFrame). Encodable l.judged) (sym c.worst.ensures.value) (judged-encodable _ _ _)
+
+pub returns-in-Err : goal.returns-in-Err
 unfolding worst_file worst_read
-returns-in-Failed c =
-    let (a, b) = last-refused (worst_file c.args.lengths.now c.args.table.now) c.of_table.result c.args.shown.now
-    (rw (lengths-refused _ c.args.table.now c.read-loaded.ensures.value c.in-Failed.is, c.of_table.ensures)) in
+returns-in-Err c =
+    let (a, b) = last-refused (worst_file c.args.lengths.now c.args.table.now) c.from.result c.args.shown.now (rw (c.in-Err.ensures, c.from.ensures)) in
     record { value = kept _ c.encode_refusal.type_inv ∙ c.encode_refusal.ensures ∙ a; shown_after = b }
 
--- the lengths of the file
-loaded : (c : After-lengths_of) → ReadLengths c.args.lengths.now c.args.table.now c.lengths_of.result
-loaded c = lengths_read _ _ c.read-loaded.ensures.value c.in-Passed.is c.lengths_of.ensures
-
-pub returns-in-Passed : goal.returns-in-Passed
-unfolding worst_file
-returns-in-Passed c =
-    let l = loaded (goal.at.returns-in-Passed c).After-lengths_of in
-    let e = c.worst_table.ensures in
+pub returns-in-Ok : goal.returns-in-Ok
+unfolding worst_file worst_read
+returns-in-Ok c =
+    let (passed, lengths, rows) = c.in-Ok.ensures in
+    let e = c.show_last.ensures in
     record {
-      value = rw (l.passed, ← l.is) (kept _ c.worst_table.type_inv ∙ e.value);
-      shown_after = rw (l.passed, ← l.is) e.shown_after;
+      value = rw (passed, ← lengths, ← rows, ← c.worst.ensures.value) (kept _ c.show_last.type_inv ∙ e.value);
+      shown_after = rw (passed, ← lengths, ← rows, ← c.worst.ensures.value) e.shown_after;
     }

@@ -12,9 +12,6 @@ use Rattle.decimal.proofs.numbered.write_numbered.Goals as goal
 pub loop-i-init : goal.loop-i-init
 loop-i-init c = (refl, search rules, refl)
 
-pub overflow_cast-values : goal.overflow_cast-values
-overflow_cast-values c = record { fits = omega (arith, c.shared_slice_known-in-loop-i-1.given c.loop-i.i) }
-
 pub write_numbered_line-requires : goal.write_numbered_line-requires
 write_numbered_line-requires c =
     simp (length-take, length-drop) (omega (arith, c.loop-i.invariant, c.loop-i-test.true, c.requires))
@@ -22,7 +19,7 @@ write_numbered_line-requires c =
 pub loop-i-preserved : goal.loop-i-preserved
 unfolding numbered_at
 loop-i-preserved c = (
-  line-over (numbered-lines 8 c.args.values.now) _ _ _ _ c.loop-i.invariant.0 _ c.loop-i-test.true c.write_numbered_line.ensures,
+  line-over (numbered-lines 8 c.args.values.now) _ _ _ _ c.loop-i.invariant.0 _ c.loop-i-test.true (rw c.from.ensures at c.write_numbered_line.ensures),
   search rules,
   search rules,
 )

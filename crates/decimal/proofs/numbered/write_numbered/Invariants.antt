@@ -1,5 +1,5 @@
 -- After i turns the first i lines are written, and the rest is as it was.
-use Prim.Native.Nat.{◌-◌, ◌*◌, ◌≤◌}
+use Prim.Native.Nat.{◌*◌, ◌≤◌}
 use mathlib.Core.Path.{◌≡◌}
 use lib.ListN.{length}
 use Rattle.arith.specs.Laws.Overwriting.{over}
@@ -8,6 +8,3 @@ use Rattle.decimal.proofs.numbered.write_numbered.Given as goal
 
 abbrev pub invariant-loop-i : goal.invariant-loop-i
 invariant-loop-i l = (l.out ≡ over (numbered_lines 8 l.values (length l.values) 0) (12 * l.i) l.initial.out) × (l.i ≤ length l.values) × (length l.out ≡ length l.initial.out)
-
-abbrev pub decreases-loop-i : goal.decreases-loop-i
-decreases-loop-i l = length l.values - l.i

@@ -27,7 +27,7 @@ place c = column-place _ _ _ c.loop-j-test.true c.start-from.ensures c.start-to.
 
 pub loop-j-init : goal.loop-j-init
 unfolding start_of
-loop-j-init c = (refl, search rules, c.requires.1)
+loop-j-init c = (refl, c.requires.1)
 
 pub slice_bounds-write-count : goal.slice_bounds-write-count
 slice_bounds-write-count c = omega (arith, place (goal.at.slice_bounds-write-count c).After-start-to)
@@ -45,13 +45,12 @@ loop-j-preserved c =
     let from = c.start-from.ensures in
     let to = c.start-to.ensures in (
       over-part _ _ _ line_length (length-line _ _) _ (start_of j) (start_of (j + 1)) (width_of j) _ _ c.loop-j.invariant.0 from to (sym (start-next j below)) (omega (arith, end-most j below))
-          (written _ _ _ _ j _ _ _ below from to c.loop-j.invariant.2 c.wide-value.ensures c.write.ensures),
-      search rules,
+          (written _ _ _ _ j _ _ _ below from to c.loop-j.invariant.1 c.from-value.ensures c.write.ensures),
       search rules,
     )
 
 pub shape_of-line : goal.shape_of-line
-shape_of-line c = simp length-set (c.loop-j.invariant.2 ∙ sym c.requires.1)
+shape_of-line c = simp length-set (c.loop-j.invariant.1 ∙ sym c.requires.1)
 
 pub returns : goal.returns
 unfolding start_of

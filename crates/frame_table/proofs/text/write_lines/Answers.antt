@@ -7,7 +7,7 @@ use Rattle.frame_table.specs.Laws.Layout.{table-lines}
 use Rattle.frame_table.proofs.text.write_lines.Goals as goal
 
 pub loop-i-init : goal.loop-i-init
-loop-i-init c = (refl, search rules, refl)
+loop-i-init c = (refl, refl)
 
 pub write_line-requires : goal.write_line-requires
 write_line-requires c =
@@ -19,10 +19,9 @@ loop-i-preserved c =
     let lines = table-lines c.args.rows.now in (
       line-over lines _ _ _ _ c.loop-i.invariant.0 _ below c.write_line.ensures,
       search rules,
-      search rules,
     )
 
 pub returns : goal.returns
 returns c =
     let lines = table-lines c.args.rows.now in
-    lines-over lines _ _ _ _ c.loop-i.invariant.0 c.loop-i.invariant.1 c.loop-i-test.false
+    lines-over lines _ _ _ _ c.loop-i.invariant.0 (search rules) c.loop-i-test.false

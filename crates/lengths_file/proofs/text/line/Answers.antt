@@ -6,12 +6,12 @@ use Rattle.lengths_file.proofs.Laws.Reading.{length-numbers, number_at}
 use Rattle.lengths_file.proofs.text.line.Goals as goal
 
 pub loop-s-init : goal.loop-s-init
-loop-s-init c = (refl, search rules, refl)
+loop-s-init c = (refl, refl)
 
 pub loop-s-preserved : goal.loop-s-preserved
 loop-s-preserved c =
     let below = c.loop-s-test.true in
-    (over-element _ _ _ _ (length-numbers _ _) _ _ c.loop-s.invariant.0 below (search rules) (c.number.ensures ∙ sym (number_at _ _ _ below)), search rules, search rules)
+    (over-element _ _ _ _ (length-numbers _ _) _ _ c.loop-s.invariant.0 below (search rules) (c.number.ensures ∙ sym (number_at _ _ _ below)), search rules)
 
 pub returns : goal.returns
-returns c = over-all _ _ _ _ (length-numbers _ _) _ c.loop-s.invariant.0 c.loop-s.invariant.1 c.loop-s-test.false ∙ append-nil _
+returns c = over-all _ _ _ _ (length-numbers _ _) _ c.loop-s.invariant.0 (search rules) c.loop-s-test.false ∙ append-nil _

@@ -21,20 +21,19 @@ written ls k s v line col l size e is =
     rw (is, mid_len (5 * s) (5 * s + 5) line (omega arith), wide, e) (sym (rw append-nil at (line-column ls k [] s l)))
 
 pub loop-s-init : goal.loop-s-init
-loop-s-init c = (refl, search rules, c.requires.1)
+loop-s-init c = (refl, c.requires.1)
 
 pub loop-s-preserved : goal.loop-s-preserved
 loop-s-preserved c =
     let below = c.loop-s-test.true in
     let s = c.loop-s.s in (
       over-part _ _ _ 46 (length-line _ _) _ (5 * s) (5 * (s + 1)) 5 (5 * s) (5 * s + 5) c.loop-s.invariant.0 refl (omega arith) (omega arith) (omega arith)
-          (written _ _ s _ _ _ below c.loop-s.invariant.2 c.wide.ensures c.write.ensures),
-      search rules,
+          (written _ _ s _ _ _ below c.loop-s.invariant.1 c.from.ensures c.write.ensures),
       search rules,
     )
 
 pub shape_of-line : goal.shape_of-line
-shape_of-line c = simp length-set (c.loop-s.invariant.2 ∙ sym c.requires.1)
+shape_of-line c = simp length-set (c.loop-s.invariant.1 ∙ sym c.requires.1)
 
 pub returns : goal.returns
 returns c =

@@ -8,7 +8,7 @@ use Rattle.lengths_file.proofs.Laws.Layout.{lines}
 use Rattle.lengths_file.proofs.text.write_lines.Goals as goal
 
 pub loop-k-init : goal.loop-k-init
-loop-k-init c = (refl, search rules, refl)
+loop-k-init c = (refl, refl)
 
 pub write_line-requires : goal.write_line-requires
 write_line-requires c =
@@ -20,11 +20,10 @@ loop-k-preserved c =
     let ls = c.args.lengths in (
       line-over (lines ls) _ _ _ _ c.loop-k.invariant.0 _ below c.write_line.ensures,
       search rules,
-      search rules,
     )
 
 pub returns : goal.returns
 unfolding text_of
 returns c =
     let ls = c.args.lengths in
-    lines-over (lines ls) _ _ _ _ c.loop-k.invariant.0 c.loop-k.invariant.1 c.loop-k-test.false
+    lines-over (lines ls) _ _ _ _ c.loop-k.invariant.0 (search rules) c.loop-k-test.false

@@ -1,5 +1,5 @@
 -- `lengths_file::text::write_lines` meets its contract: after k turns the first k lines are written, and the rest is as it was.
-use Prim.Native.Nat.{◌-◌, ◌*◌, ◌≤◌}
+use Prim.Native.Nat.{◌*◌}
 use mathlib.Core.Path.{◌≡◌}
 use lib.ListN.{length}
 use Rattle.arith.specs.Laws.Overwriting.{over}
@@ -8,7 +8,4 @@ use Rattle.lengths_file.proofs.Laws.Layout.{joined}
 use Rattle.lengths_file.proofs.text.write_lines.Given as goal
 
 abbrev pub invariant-loop-k : goal.invariant-loop-k
-invariant-loop-k l = (l.file ≡ over (joined (line_text l.lengths) 2 0) (46 * l.k) l.initial.file) × (l.k ≤ 2) × (length l.file ≡ length l.initial.file)
-
-abbrev pub decreases-loop-k : goal.decreases-loop-k
-decreases-loop-k l = 2 - l.k
+invariant-loop-k l = (l.file ≡ over (joined (line_text l.lengths) 2 0) (46 * l.k) l.initial.file) × (length l.file ≡ length l.initial.file)

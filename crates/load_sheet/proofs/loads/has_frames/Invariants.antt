@@ -1,12 +1,6 @@
 -- `load_sheet::loads::has_frames` meets its contract: the invariant says that the rows left decide.
-use Prim.Native.Nat.{◌-◌, ◌/◌, ◌≤◌}
-use lib.ListN.{length}
-use Rattle.table_checks.specs.Columns.{columns}
 use Rattle.load_sheet.proofs.Laws.Loads.{Decides}
 use Rattle.load_sheet.proofs.loads.has_frames.Given as goal
 
 abbrev pub invariant-loop-i : goal.invariant-loop-i
-invariant-loop-i l = Decides l.rows l.node l.i × (l.i ≤ length l.rows / columns)
-
-abbrev pub decreases-loop-i : goal.decreases-loop-i
-decreases-loop-i l = length l.rows / columns - l.i
+invariant-loop-i l = Decides l.rows l.node l.i

@@ -8,7 +8,4 @@ use Rattle.load_sheet.proofs.Laws.Loads.{work_of}
 use Rattle.load_sheet.proofs.loads.work.Given as goal
 
 abbrev pub invariant-loop-i : goal.invariant-loop-i
-invariant-loop-i l = Down (work_of l.lengths l.rows l.h l.node) (range 0 (length l.rows / columns)) l.sum l.i × (l.sum ≤ 400000000 * (length l.rows / columns - l.i)) × (l.i ≤ length l.rows / columns)
-
-abbrev pub decreases-loop-i : goal.decreases-loop-i
-decreases-loop-i l = l.i
+invariant-loop-i l = Down (work_of l.table.lengths l.table.rows.now l.h l.node) (range 0 (length l.table.rows.now / columns)) l.sum l.i × (l.sum ≤ 400000000 * (length l.table.rows.now / columns - l.i)) × (l.i ≤ length l.table.rows.now / columns)

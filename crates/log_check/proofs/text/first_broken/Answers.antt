@@ -1,4 +1,3 @@
-use borrow.Author.Rules.{rules}
 use mathlib.Core.Path.{sym, ◌∙◌}
 use native.Mathlib.Nat.{sub-zero}
 use Rattle.arith.specs.Laws.Least.{least-end}
@@ -8,13 +7,13 @@ use Rattle.log_check.proofs.text.first_broken.Goals as goal
 
 pub loop-i-init : goal.loop-i-init
 unfolding first_broken
-loop-i-init c = (rw sub-zero, search rules)
+loop-i-init c = rw sub-zero
 
 pub returns-then-is_broken : goal.returns-then-is_broken
-returns-then-is_broken c = sym (search-stop _ _ _ _ c.loop-i-test.true c.is_broken.ensures c.if-is_broken.true) ∙ c.loop-i.invariant.0
+returns-then-is_broken c = sym (search-stop _ _ _ _ c.loop-i-test.true c.is_broken.ensures c.if-is_broken.true) ∙ c.loop-i.invariant
 
 pub loop-i-preserved : goal.loop-i-preserved
-loop-i-preserved c = (search-go _ _ _ _ c.loop-i-test.true c.is_broken.ensures c.if-is_broken.false ∙ c.loop-i.invariant.0, search rules)
+loop-i-preserved c = search-go _ _ _ _ c.loop-i-test.true c.is_broken.ensures c.if-is_broken.false ∙ c.loop-i.invariant
 
 pub returns : goal.returns
-returns c = sym (least-end _ _ _ c.loop-i-test.false) ∙ c.loop-i.invariant.0
+returns c = sym (least-end _ _ _ c.loop-i-test.false) ∙ c.loop-i.invariant

@@ -11,7 +11,7 @@ loop-j-preserved c =
     let l = c.loop-j in
     let w = c.with_line-seen.ensures in (
       through-more _ _ _ _ no_line l.invariant.0 (omega (arith, c.loop-j-test.true, c.count-n.ensures.value))
-          (λ ls. seen_more c.args.rows.now c.args.i l.seen _ _ ls (w.value ∙ ap (λ (k : Line). with_line c.args.rows.now c.args.i k l.seen) c.line_of-l.ensures.value)),
+          (λ ls. seen_more c.args.rows.now c.args.i l.seen _ _ ls (w.value ∙ ap (λ (k : Line). with_line c.args.rows.now c.args.i k l.seen) c.line.ensures.value)),
       omega (arith, l.invariant.1, w.small.0),
       omega (arith, l.invariant.2, w.small.1),
     )

@@ -7,11 +7,9 @@ use Rattle.log_load.proofs.stretch.first_window.Goals as goal
 
 pub walk_to-to-requires : goal.walk_to-to-requires
 walk_to-to-requires c =
-    let p = c.requires in
-    record { readable = p.readable; t_bound = omega (arith, p.w_bound.1); walked = walk_start _ p.readable.1 _ }
+    record { t_bound = omega (arith, c.requires.1); walked = walk_start _ c.args.log.now.ordered _ }
 
 pub returns : goal.returns
 returns c =
-    let p = c.requires in
     let t = c.walk_to-to.ensures in
-    λ place. tried-start _ _ p.readable.1 place _ _ p.w_bound.0 refl refl t.walked_2 t.busy_value
+    λ place. tried-start _ _ c.args.log.now.ordered place _ _ c.requires.0 refl refl t.walked t.busy_value

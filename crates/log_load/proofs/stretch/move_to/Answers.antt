@@ -8,4 +8,4 @@ returns c =
     let p = c.requires in
     let f = c.walk_to-from.ensures in
     let t = c.walk_to-to.ensures in
-    window-moves _ _ _ _ _ _ _ _ p.before (omega (arith, c.if-last-s.false, p.last_value.0)) f.walked_2 f.busy_value t.walked_2 t.busy_value c.less.ensures c.better.ensures
+    window-moves _ _ _ _ _ _ _ _ p.before (omega (arith, c.if-last-s.false, p.last_value.0)) f.walked f.busy_value t.walked t.busy_value c.saturating_sub.ensures c.better.ensures

@@ -1,12 +1,11 @@
--- The loop goes through the instances before `reach`. It is shown of those from `last` on. The measure is how many are left.
+-- The sweep has passed the instances before the next one, and shown it of those from `last` on. The measure is how many are left.
 use Prim.Native.Nat.{◌-◌, ◌≤◌}
-use Rattle.workload.specs.Prepared.{table_of}
-use Rattle.greatest_work.specs.Ready.{Ready}
-use Rattle.response_time.specs.Laws.Within.{Swept}
+use Rattle.greatest_work.specs.Setting.{frames, Remembers}
+use Rattle.response_time.specs.Load.{Swept}
 use Rattle.response_time.proofs.reach.sweep.Given as goal
 
-abbrev pub invariant-loop-q : goal.invariant-loop-q
-invariant-loop-q l = Swept l.target.faults (table_of l.rows l.prepared) l.target.frame l.choices l.best l.reach l.last l.q × Ready l.rows l.prepared l.target l.memory × (l.missed ≤ l.q)
+abbrev pub invariant-loop-next : goal.invariant-loop-next
+invariant-loop-next l = Swept l.setting.target.faults (frames l.setting) l.setting.target.frame l.choices l.best l.reach l.last l.next.q × Remembers l.setting l.memory × (l.missed ≤ l.next.q)
 
-abbrev pub decreases-loop-q : goal.decreases-loop-q
-decreases-loop-q l = l.reach - l.q
+abbrev pub decreases-loop-next : goal.decreases-loop-next
+decreases-loop-next l = l.reach - l.next.q

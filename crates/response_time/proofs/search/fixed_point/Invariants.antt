@@ -3,15 +3,14 @@ use Prim.Native.Nat.{◌-◌}
 use mathlib.Core.Path.{◌≡◌}
 use lib.ListN.{length}
 use Rattle.arith.specs.Least.{least}
-use Rattle.workload.specs.Prepared.{table_of}
-use Rattle.greatest_work.specs.Ready.{Ready}
+use Rattle.greatest_work.specs.Setting.{frames, Remembers}
 use Rattle.response_time.specs.Load.{holds}
 use Rattle.response_time.proofs.search.fixed_point.Given as goal
 
 abbrev pub invariant-loop-x : goal.invariant-loop-x
 invariant-loop-x l =
-    (least (holds l.target.faults (table_of l.rows l.prepared) l.target.frame l.choices l.search) (l.end - l.x) l.x ≡ least (holds l.target.faults (table_of l.rows l.prepared) l.target.frame l.choices l.search) (l.end - l.from) l.from)
-    × Ready l.rows l.prepared l.target l.memory
+    (least (holds l.setting.target.faults (frames l.setting) l.setting.target.frame l.choices l.search) (l.end - l.x) l.x ≡ least (holds l.setting.target.faults (frames l.setting) l.setting.target.frame l.choices l.search) (l.end - l.from) l.from)
+    × Remembers l.setting l.memory
     × (length l.memory ≡ length l.initial.memory)
 
 abbrev pub decreases-loop-x : goal.decreases-loop-x

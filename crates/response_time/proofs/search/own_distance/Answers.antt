@@ -4,8 +4,8 @@ use Rattle.response_time.proofs.search.own_distance.Goals as goal
 
 pub returns-in-Fixed : goal.returns-in-Fixed
 unfolding own_distance
-returns-in-Fixed c = rw (← c.own_choice-own.ensures, c.in-Fixed.is) c.distance_from.ensures.value
+returns-in-Fixed c = rw (← c.own_choice.ensures, c.in-Fixed.is) c.distance_from.ensures.value
 
 pub returns-in-Any : goal.returns-in-Any
 unfolding own_distance
-returns-in-Any c = rw (← c.own_choice-own.ensures, c.in-Any.is)
+returns-in-Any c = rw (← c.own_choice.ensures, c.in-Any.is)

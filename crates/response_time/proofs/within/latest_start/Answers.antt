@@ -1,19 +1,16 @@
--- By the two tests: the response may be too small for the length, and the start may be beyond the limit.
-use mathlib.Core.Path.{ap}
-use native.Mathlib.Omega.{arith}
+-- The response may be too small for the length; the start is cut at the limit.
+use Rattle.std.specs.Prelude.{Some, ◌+◌, ◌<◌}
+use Rattle.std.proofs.Common.{arith, ap}
 use borrow.Author.Tests.{lt-ltb, le-ltb}
-use Rattle.arith.specs.declared.Found.TheVariants.{At}
 use Rattle.response_time.specs.Load.{latest_start}
 use Rattle.response_time.proofs.within.latest_start.Goals as goal
 
-pub returns-then-end-length : goal.returns-then-end-length
+pub returns-in_err-start : goal.returns-in_err-start
 unfolding latest_start
-returns-then-end-length c = rw (lt-ltb _ _ c.if-end-length.true)
+returns-in_err-start c =
+    let less : c.args.best + c.args.released < c.args.length = omega (arith, c.in_err-start.ensures) in
+    rw (c.from_residual.ensures, lt-ltb _ _ less)
 
-pub returns-then-start : goal.returns-then-start
+pub returns : goal.returns
 unfolding latest_start
-returns-then-start c = rw (le-ltb _ _ c.if-end-length.false) (ap At (omega arith))
-
-pub returns-else-start : goal.returns-else-start
-unfolding latest_start
-returns-else-start c = rw (le-ltb _ _ c.if-end-length.false) (ap At (omega arith))
+returns c = rw (le-ltb _ _ c.in_ok-start.ensures.0) (ap Some (omega (arith, c.in_ok-start.ensures.1)))

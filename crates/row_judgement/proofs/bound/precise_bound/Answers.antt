@@ -1,22 +1,18 @@
 -- A table that a check turns back is refused with its cause, and of another the row's bound is answered.
-use mathlib.Core.Path.{sym, ◌∙◌}
-use Rattle.table_checks.proofs.Laws.Accepted.{loaded-both}
-use Rattle.row_judgement.specs.Judge.{bound_row, bound_checked}
+use mathlib.Core.Path.{sym}
+use Rattle.std.proofs.lemmas.Result.{err_from_is_err_and}
+use Rattle.row_judgement.specs.Laws.Judged.{table-refused}
 use Rattle.row_judgement.specs.Laws.Returns.{bounded-told}
 use Rattle.row_judgement.proofs.bound.precise_bound.Goals as goal
 
-pub bound_accepted-requires : goal.bound_accepted-requires
-bound_accepted-requires c =
+pub returns-in_err-table : goal.returns-in_err-table
+returns-in_err-table c =
     let a = c.args in
-    loaded-both a.lengths a.rows.now (sym c.check_loaded-checked.ensures.value ∙ c.in-Passed.is)
+    let p = err_from_is_err_and c.from_residual.result c.from_residual.ensures.1 in
+    let answer = bounded-told a.lengths a.rows.now a.row (rw p.1 (sym (table-refused a.lengths a.rows.now a.row c.in_err-table.ensures p.2).2)) in record { value = answer.0; in_numbers = answer.1 }
 
-pub returns-in-Failed : goal.returns-in-Failed
-unfolding bound_row bound_checked
-returns-in-Failed c =
+pub returns : goal.returns
+returns c =
     let a = c.args in
-    let answer = bounded-told a.lengths a.rows.now a.row (rw (sym c.check_loaded-checked.ensures.value ∙ c.in-Failed.is, c.of_table.ensures)) in record { value = answer.0; in_numbers = answer.1 }
-
-pub returns-in-Passed : goal.returns-in-Passed
-returns-in-Passed c =
-    let a = c.args in
-    let answer = bounded-told a.lengths a.rows.now a.row c.bound_accepted.ensures in record { value = answer.0; in_numbers = answer.1 }
+    let (lengths, rows, _) = c.in_ok-table.ensures in
+    let answer = bounded-told a.lengths a.rows.now a.row (rw (lengths, rows) at c.bound_accepted.ensures) in record { value = answer.0; in_numbers = answer.1 }

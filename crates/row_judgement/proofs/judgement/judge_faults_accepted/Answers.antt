@@ -1,35 +1,28 @@
 -- The table passes its checks; a missing row is refused, then a gap outside its limits, and another is judged under the premise.
-use native.Mathlib.Omega.{arith}
-use mathlib.Core.Bool.{true}
-use mathlib.Core.Path.{◌≡◌, sym, ap, ◌∙◌}
-use borrow.Author.Tests.{lt-leb, le-leb}
-use Rattle.row_judgement.specs.declared.Judged.TheVariants.{Verdict}
-use Rattle.row_judgement.specs.Judge.{is_gap, judge_faults, judge_faults_checked}
-use Rattle.row_judgement.specs.Laws.Judged.{both-loaded, row_inside, gap_within, gap-fine}
+use Rattle.std.specs.Prelude.{Ok}
+use mathlib.Core.Path.{sym, ap, ◌∙◌}
+use Rattle.std.proofs.lemmas.Result.{err_from_is_err_and}
+use Rattle.row_judgement.specs.Laws.Judged.{both-loaded, found-inside, row-missing, gap-refused, row-judged-under, premise-fine}
 use Rattle.row_judgement.proofs.judgement.judge_faults_accepted.Goals as goal
-use Rattle.row_judgement.proofs.judgement.judge_faults_accepted.Goals.{Then-is_gap}
 
-pub returns-then-rows-row : goal.returns-then-rows-row
-unfolding judge_faults judge_faults_checked
-returns-then-rows-row c = rw (both-loaded c.args.lengths c.args.rows.now c.requires, le-leb _ _ c.if-rows-row.true)
+pub returns-in_err-i : goal.returns-in_err-i
+returns-in_err-i c =
+    let table = c.args.table.now in
+    let p = err_from_is_err_and c.from_residual.result c.from_residual.ensures.1 in
+    rw (p.1, p.2) (sym ((row-missing table.lengths table.rows.now c.args.row (both-loaded table.lengths table.rows.now table.accepted) c.in_err-i.ensures).1 c.args.gap))
 
--- the gap is one
-gap : (c : Then-is_gap) → is_gap c.args.gap ≡ true
-gap c = sym c.is_gap.ensures ∙ c.if-is_gap.true
-
-pub overflow_cast-ticks : goal.overflow_cast-ticks
-overflow_cast-ticks c = omega (arith, gap_within c.args.gap (gap c))
+pub returns-in_err-faults : goal.returns-in_err-faults
+returns-in_err-faults c =
+    let table = c.args.table.now in
+    let p = err_from_is_err_and c.from_residual-in_err-faults.result c.from_residual-in_err-faults.ensures.1 in
+    rw (p.1, p.2) (sym (gap-refused table.lengths table.rows.now c.args.row (both-loaded table.lengths table.rows.now table.accepted) c.in_ok-i.ensures c.args.gap c.in_err-faults.ensures))
 
 pub judge_row-requires : goal.judge_row-requires
 judge_row-requires c =
-    record { loadable = c.requires; i_in_bounds = row_inside c.args.lengths c.args.rows.now c.if-rows-row.false; fine_faults = gap-fine c.args.gap (gap c) }
-
-pub returns-then-is_gap : goal.returns-then-is_gap
-unfolding judge_faults judge_faults_checked
-returns-then-is_gap c =
-    ap Verdict c.judge_row.ensures ∙ rw (both-loaded c.args.lengths c.args.rows.now c.requires, lt-leb _ _ c.if-rows-row.false, gap (goal.at.returns-then-is_gap c).Then-is_gap)
+    record { i_in_bounds = found-inside c.args.table.now.lengths c.args.table.now.rows.now c.in_ok-i.ensures; fine_faults = premise-fine c.args.gap c.in_ok-faults.ensures }
 
 pub returns : goal.returns
-unfolding judge_faults judge_faults_checked
 returns c =
-    rw (both-loaded c.args.lengths c.args.rows.now c.requires, lt-leb _ _ c.if-rows-row.false, sym c.is_gap.ensures ∙ c.if-is_gap.false)
+    let table = c.args.table.now in
+    ap Ok c.judge_row.ensures
+    ∙ sym (row-judged-under table.lengths table.rows.now c.args.row (both-loaded table.lengths table.rows.now table.accepted) c.in_ok-i.ensures c.args.gap c.in_ok-faults.ensures)

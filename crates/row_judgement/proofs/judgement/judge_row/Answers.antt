@@ -10,8 +10,8 @@ use Rattle.row_judgement.specs.Laws.Judged.{claim-inside, decided-judge}
 use Rattle.row_judgement.proofs.judgement.judge_row.Goals as goal
 use Rattle.row_judgement.proofs.judgement.judge_row.Goals.{Start}
 
-place : (c : Start) → (columns * c.args.i + claim_column < length c.args.rows.now) × (length c.args.rows.now ≤ most_numbers)
-place c = claim-inside c.args.lengths c.args.rows.now c.requires.loadable.1 c.requires.i_in_bounds
+place : (c : Start) → (columns * c.args.i + claim_column < length c.args.table.now.rows.now) × (length c.args.table.now.rows.now ≤ most_numbers)
+place c = claim-inside c.args.table.now.lengths c.args.table.now.rows.now c.args.table.now.accepted.1 c.requires.i_in_bounds
 
 pub overflow_mul-claim : goal.overflow_mul-claim
 overflow_mul-claim c = record { fits = omega (arith, place (goal.at.overflow_mul-claim c).Start) }
@@ -19,11 +19,11 @@ overflow_mul-claim c = record { fits = omega (arith, place (goal.at.overflow_mul
 pub overflow_add-claim : goal.overflow_add-claim
 overflow_add-claim c = record { fits = omega (arith, place (goal.at.overflow_add-claim c).Start) }
 
-pub offset_bounds-rows-i : goal.offset_bounds-rows-i
-offset_bounds-rows-i c = record { fits = omega (arith, place (goal.at.offset_bounds-rows-i c).Start) }
+pub offset_bounds-table-i : goal.offset_bounds-table-i
+offset_bounds-table-i c = record { fits = omega (arith, place (goal.at.offset_bounds-table-i c).Start) }
 
-pub bounds-rows-i : goal.bounds-rows-i
-bounds-rows-i c = omega (arith, place (goal.at.bounds-rows-i c).Start)
+pub bounds-table-i : goal.bounds-table-i
+bounds-table-i c = omega (arith, place (goal.at.bounds-table-i c).Start)
 
 pub returns : goal.returns
-returns c = let a = c.args in c.judged_by.ensures ∙ ap (judged_by (claim_of a.rows.now a.i)) c.decide.ensures ∙ decided-judge _ _ _ (claim_of a.rows.now a.i)
+returns c = let claim = claim_of c.args.table.now.rows.now c.args.i in c.judged_by.ensures ∙ ap (judged_by claim) c.decide.ensures ∙ decided-judge _ _ _ claim

@@ -7,12 +7,12 @@ use Rattle.simulator.proofs.drawing.draw_start.Goals as goal
 
 pub nonzero_rem-starts : goal.nonzero_rem-starts
 nonzero_rem-starts c =
-    omega (arith, c.hyperperiod-h.ensures, hyper-same c.args.lengths c.args.rows.now c.args.group, hyper-some c.args.lengths c.requires.loadable.0 c.args.rows.now c.requires.loadable.1 c.args.group)
+    omega (arith, rw c.from.ensures at c.hyperperiod-h.ensures, hyper-same c.args.table.now.lengths c.args.table.now.rows.now c.args.group, hyper-some c.args.table.now.lengths c.args.table.now.accepted.0 c.args.table.now.rows.now c.args.table.now.accepted.1 c.args.group)
 
 pub returns-then-has_frames : goal.returns-then-has_frames
 unfolding start_drawn
 returns-then-has_frames c =
-    rw (← c.has_frames.ensures, c.if-has_frames.true, ← c.drawn-v.ensures, hyper-same c.args.lengths c.args.rows.now c.args.group, ← c.hyperperiod-h.ensures)
+    rw (← c.has_frames.ensures, c.if-has_frames.true, ← c.drawn-v.ensures, hyper-same c.args.table.now.lengths c.args.table.now.rows.now c.args.group, ← c.from.ensures, ← c.hyperperiod-h.ensures, c.from-then-has_frames.ensures)
 
 pub returns-else-has_frames : goal.returns-else-has_frames
 unfolding start_drawn

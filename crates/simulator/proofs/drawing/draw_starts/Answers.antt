@@ -1,13 +1,22 @@
-use mathlib.Core.Path.{refl, ◌∙◌}
-use borrow.Author.Rules.{rules}
-use native.Mathlib.Numerals.{add-one}
+use mathlib.Core.Path.{◌≡◌, refl, ◌∙◌}
+use Prim.Native.Nat.{suc, ◌+◌, ◌-◌}
+use native.Mathlib.Omega.{arith}
 use Rattle.simulator.specs.Starts.{starts_drawn}
 use Rattle.simulator.proofs.drawing.draw_starts.Goals as goal
 
-pub loop-j-init : goal.loop-j-init
+pub loop-group-init : goal.loop-group-init
 unfolding starts_drawn
-loop-j-init c = (refl, search rules)
+loop-group-init c = refl
 
-pub loop-j-preserved : goal.loop-j-preserved
+pub loop-group-preserved : goal.loop-group-preserved
 unfolding starts_drawn
-loop-j-preserved c = let l = c.loop-j in (c.draw_start-d.ensures ∙ rw (l.invariant.0, add-one l.j), search rules)
+loop-group-preserved c =
+    let l = c.loop-group in
+    let next : l.group + 1 - 1 ≡ suc (l.group - 1) = omega arith in
+    let same : suc (l.group - 1) ≡ l.group = omega arith in
+    c.draw_start-d.ensures ∙ rw (next, l.invariant, same)
+
+pub returns : goal.returns
+returns c =
+    let all : c.loop-group.group ≡ 17 = omega arith in
+    rw all at c.loop-group.invariant

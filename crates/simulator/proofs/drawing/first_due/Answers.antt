@@ -5,13 +5,13 @@ use Rattle.simulator.specs.Theory.First.{Early}
 use Rattle.bus_log.proofs.Theory.Table.{any-group}
 use Rattle.simulator.proofs.drawing.first_due.Goals as goal
 
-pub bounds-starts-g : goal.bounds-starts-g
-bounds-starts-g c = rw c.frame-g.ensures (any-group c.args.lengths c.args.rows.now c.requires.loadable.1 c.args.i)
+pub bounds-d-g : goal.bounds-d-g
+bounds-d-g c = rw c.frame-g.ensures (any-group c.args.table.now.lengths c.args.table.now.rows.now c.args.table.now.accepted.1 c.args.i)
 
 pub overflow_add-result : goal.overflow_add-result
 unfolding Early
-overflow_add-result c = omega (arith, c.requires.early c.frame-g.result.group, c.struct_known-2-1.given)
+overflow_add-result c = omega (arith, c.requires c.frame-g.result.group)
 
 pub returns : goal.returns
 unfolding first_due
-returns c = rw (← c.frame-g.ensures)
+returns c = rw (c.from.ensures, c.frame-g.ensures)

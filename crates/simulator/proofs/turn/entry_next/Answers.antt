@@ -1,7 +1,7 @@
 -- `simulator::turn::entry_next` meets its contract.
 use mathlib.Core.Path.{◌≡◌, ◌∙◌}
 use native.Mathlib.Omega.{arith}
-use Rattle.table_checks.specs.Frames.{frames_of}
+use Rattle.table_checks.specs.Table.{frames}
 use Rattle.table_checks.proofs.Laws.Accepted.{length-frames, accepted-size}
 use Rattle.simulator.specs.Engine.{row_next, entry_next}
 use Rattle.simulator.proofs.Theory.Bounds.{row_inside, row_within}
@@ -9,22 +9,21 @@ use Rattle.simulator.proofs.turn.entry_next.Goals as goal
 use Rattle.simulator.proofs.turn.entry_next.Goals.{After-best-k}
 
 -- the row that is sent
-row_is : (c : After-best-k) → c.best-k.result ≡ row_next (frames_of c.args.lengths c.args.rows.now) c.args.s
+row_is : (c : After-best-k) → c.best-k.result ≡ row_next (frames c.args.table.now) c.args.s
 unfolding row_next
-row_is c = c.best-k.ensures.value ∙ rw (c.start_next-start.ensures, length-frames c.args.lengths c.args.rows.now)
+row_is c = c.best-k.ensures.value ∙ rw (c.start_next-start.ensures, c.count.ensures, length-frames c.args.table.now.lengths c.args.table.now.rows.now)
 
 pub start_next-start-requires : goal.start_next-start-requires
-start_next-start-requires c = omega (arith, (accepted-size _ c.requires.1).most)
-
-pub best-k-requires : goal.best-k-requires
-best-k-requires c = (accepted-size _ c.requires.1).most
+start_next-start-requires c = omega (arith, c.count.ensures, (accepted-size _ c.args.table.now.accepted.1).most)
 
 pub length_from-requires : goal.length_from-requires
 length_from-requires c =
-    let inside = row_inside c.args.lengths c.requires.0 c.args.rows.now c.requires.1 c.args.s in
-    rw (c.frame-g.ensures, row_is (goal.at.length_from-requires c).After-best-k) (row_within c.args.lengths c.requires.0 c.args.rows.now c.requires.1 _ inside).length-min
+    let t = c.args.table.now in
+    let within = row_within t.lengths t.accepted.0 t.rows.now t.accepted.1 _ (row_inside t.lengths t.accepted.0 t.rows.now t.accepted.1 c.args.s) in
+    rw (c.frame-g.ensures, row_is (goal.at.length_from-requires c).After-best-k) within.length-min
 
 pub returns : goal.returns
 unfolding entry_next
 returns c =
-    rw (← row_is (goal.at.returns c).After-best-k, length-frames c.args.lengths c.args.rows.now, ← c.start_next-start.ensures, c.length_from.ensures, c.frame-g.ensures)
+    let t = c.args.table.now in
+    rw (← row_is (goal.at.returns c).After-best-k, length-frames t.lengths t.rows.now, ← c.count.ensures, ← c.start_next-start.ensures, c.length_from.ensures, c.frame-g.ensures)

@@ -1,8 +1,8 @@
 -- `simulator::turn::length-from` meets its contract.
-use mathlib.Core.Path.{refl}
+use borrow.Author.Rules.{rules}
 use Rattle.simulator.specs.Engine.{length_from}
 use Rattle.simulator.proofs.turn.length_from.Goals as goal
 
 pub returns : goal.returns
 unfolding length_from
-returns c = refl
+returns c = search rules

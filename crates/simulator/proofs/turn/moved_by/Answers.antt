@@ -4,4 +4,4 @@ use Rattle.simulator.proofs.turn.moved_by.Goals as goal
 
 pub returns : goal.returns
 unfolding moved_by
-returns c = rw (← c.frame-g.ensures)
+returns c = rw (c.from.ensures, c.frame-g.ensures)

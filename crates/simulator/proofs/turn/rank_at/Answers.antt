@@ -5,7 +5,7 @@ use Rattle.simulator.proofs.turn.rank_at.Goals as goal
 
 pub returns-then-due-i : goal.returns-then-due-i
 unfolding rank_at
-returns-then-due-i c = rw (le-leb _ _ c.if-due-i.true, ← c.frame-g.ensures)
+returns-then-due-i c = rw (le-leb _ _ c.if-due-i.true, ← c.frame.ensures)
 
 pub returns-else-due-i : goal.returns-else-due-i
 unfolding rank_at

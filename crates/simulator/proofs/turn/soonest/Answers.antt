@@ -7,7 +7,7 @@ use Rattle.simulator.proofs.turn.soonest.Goals as goal
 
 pub loop-i-init : goal.loop-i-init
 unfolding lowest_of
-loop-i-init c = (refl, search rules, search rules)
+loop-i-init c = (refl, search rules)
 
 pub loop-i-preserved : goal.loop-i-preserved
-loop-i-preserved c = let l = c.loop-i in let key = due_of c.args.due in (c.sooner-k.ensures.value ∙ rw l.invariant.0 (sym (lowest-more key l.i)), search rules, search rules)
+loop-i-preserved c = let l = c.loop-i in let key = due_of c.args.due in (c.sooner-k.ensures.value ∙ rw l.invariant.0 (sym (lowest-more key l.i)), search rules)

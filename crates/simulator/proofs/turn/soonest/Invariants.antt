@@ -1,12 +1,8 @@
 -- `simulator::turn::soonest` meets its contract: after i turns it has the soonest of i rows.
-use Prim.Native.Nat.{◌-◌, ◌≤◌, ◌<◌}
-use mathlib.Core.Path.{◌≡◌}
+use Rattle.std.specs.Prelude.{◌≡◌, ◌<◌}
 use Rattle.bus_log.specs.Follow.{due_of}
 use Rattle.simulator.specs.Engine.{lowest_of}
 use Rattle.simulator.proofs.turn.soonest.Given as goal
 
 abbrev pub invariant-loop-i : goal.invariant-loop-i
-invariant-loop-i l = (l.k ≡ lowest_of (due_of l.due) l.i) × (l.i ≤ l.n) × (l.k < 64)
-
-abbrev pub decreases-loop-i : goal.decreases-loop-i
-decreases-loop-i l = l.n - l.i
+invariant-loop-i l = (l.k ≡ lowest_of (due_of l.due) l.i) × (l.k < 64)

@@ -5,4 +5,4 @@ use Rattle.simulator.proofs.turn.start_next.Goals as goal
 
 pub returns : goal.returns
 unfolding start_next
-returns c = c.greater_wide.ensures ∙ rw c.soonest-k.ensures.value
+returns c = c.max.ensures ∙ rw c.soonest.ensures.value

@@ -6,6 +6,3 @@ use Rattle.table_checks.proofs.checks.bounded_hyperperiod.Given as goal
 
 abbrev pub invariant-loop-i : goal.invariant-loop-i
 invariant-loop-i l = Rows (hyper_of l.group) l.t l.h l.i × (0 < l.h) × (l.h ≤ 1000000)
-
-abbrev pub decreases-loop-i : goal.decreases-loop-i
-decreases-loop-i l = l.i

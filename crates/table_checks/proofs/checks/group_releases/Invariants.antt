@@ -7,6 +7,3 @@ use Rattle.table_checks.proofs.checks.group_releases.Given as goal
 
 abbrev pub invariant-loop-i : goal.invariant-loop-i
 invariant-loop-i l = Rows (releases_of l.h l.group) l.t l.sum l.i × (l.sum ≤ 1000000 * (length l.t / columns - l.i))
-
-abbrev pub decreases-loop-i : goal.decreases-loop-i
-decreases-loop-i l = l.i

@@ -10,4 +10,4 @@ pub returns : goal.returns
 unfolding is_outside
 returns c =
     let a = c.args in
-    ap not (c.is_length.ensures ∙ ap (λ p. is_length (length_at a.lengths a.k p) (length_at a.lengths a.k a.s)) c.previous.ensures)
+    ap not (c.is_length.ensures ∙ ap (λ p. is_length (length_at a.lengths a.k p) (length_at a.lengths a.k a.s)) c.saturating_sub.ensures)

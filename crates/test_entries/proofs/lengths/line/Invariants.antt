@@ -1,5 +1,4 @@
--- `test_entries::lengths::line` meets its contract: after s turns the first s numbers are in the line.
-use Prim.Native.Nat.{◌-◌, ◌≤◌}
+-- After s turns the first s numbers are in the line.
 use mathlib.Core.Path.{◌≡◌}
 use lib.ListN.{length}
 use Rattle.arith.specs.Laws.Overwriting.{over}
@@ -7,7 +6,4 @@ use Rattle.test_entries.specs.Lengths.{line_from}
 use Rattle.test_entries.proofs.lengths.line.Given as goal
 
 abbrev pub invariant-loop-s : goal.invariant-loop-s
-invariant-loop-s l = (l.line ≡ over (line_from l.numbers l.from) l.s l.initial.line) × (l.s ≤ 9) × (length l.line ≡ 9)
-
-abbrev pub decreases-loop-s : goal.decreases-loop-s
-decreases-loop-s l = 9 - l.s
+invariant-loop-s l = (l.line ≡ over (line_from l.numbers l.from) l.s l.initial.line) × (length l.line ≡ 9)

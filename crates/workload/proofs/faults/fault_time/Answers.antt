@@ -10,4 +10,4 @@ returns-in-Never c = rw c.in-Never.is
 
 pub returns-in-Apart : goal.returns-in-Apart
 unfolding cost_of fault_time
-returns-in-Apart c = rw c.in-Apart.is (ap (λ (n : ℕ). 31 + n) c.longest_ahead.ensures.value)
+returns-in-Apart c = rw c.in-Apart.is (ap (λ (n : ℕ). 31 + n) c.longest.ensures.value)

@@ -1,5 +1,5 @@
 -- It begins no sooner than the lead ends, and at most a gap later.
-use Rattle.std.proofs.Common.{ℕ, ◌+◌, ◌-◌, ◌*◌, ◌≤◌, ap, arith}
+use Rattle.std.proofs.Common.{◌+◌, ◌*◌, ◌≤◌, arith}
 use Rattle.arith.specs.Laws.Releases.{next-after, count-short}
 use Rattle.workload.proofs.faults.first_fault.Goals as goal
 use Rattle.workload.proofs.faults.first_fault.Goals.{After-releases_before}
@@ -9,11 +9,5 @@ within : (c : After-releases_before) → (c.args.lead ≤ c.releases_before.resu
 within c =
     rw c.releases_before.ensures.value (omega (arith, next-after 0 c.requires.0 c.args.lead), omega (arith, count-short 0 c.requires.0 c.args.lead))
 
-pub overflow_mul-result : goal.overflow_mul-result
-overflow_mul-result c = omega (arith, (within c).1, c.requires.1, c.requires.2)
-
 pub overflow_sub-result : goal.overflow_sub-result
 overflow_sub-result c = omega (arith, (within c).0)
-
-pub returns : goal.returns
-returns c = ap (λ (n : ℕ). n * c.args.gap - c.args.lead) c.releases_before.ensures.value

@@ -1,4 +1,4 @@
-use Rattle.std.proofs.Common.{◌≡◌, ℕ, ◌+◌, ◌-◌, ◌≤◌, length, sym, refl, ◌∙◌, arith, length-set}
+use Rattle.std.proofs.Common.{◌≡◌, ℕ, ◌+◌, ◌-◌, ◌≤◌, length, sym, refl, ◌∙◌, arith}
 use borrow.Rule.Slice.PartMut.{mid_of, put_mid, mid_len, same_len_mid}
 use Rattle.bus_model.specs.Pattern.{of_group}
 use Rattle.bus_model.specs.Bounds.{ahead}
@@ -26,9 +26,6 @@ slice_bounds-gather-count c = omega (arith, room (c))
 
 pub slice_bounds-gather-start : goal.slice_bounds-gather-start
 slice_bounds-gather-start c = omega (arith, room (c))
-
-pub slice_bounds-gather-end : goal.slice_bounds-gather-end
-slice_bounds-gather-end c = omega (arith, c.loop-j.invariant.size)
 
 pub gather-count-requires : goal.gather-count-requires
 gather-count-requires c =
@@ -63,24 +60,6 @@ part_hyperperiod-cycle-requires c = let answer = part-within _ c.args.k _ (read 
 
 pub overflow_cast-lists : goal.overflow_cast-lists
 overflow_cast-lists c = omega (arith, room (goal.at.overflow_cast-lists c).In-loop-j)
-
-pub bounds-lists-at : goal.bounds-lists-at
-bounds-lists-at c = omega (arith, size (goal.at.bounds-lists-at c).After-gather-count, c.loop-j-test.true)
-
-pub overflow_cast-lists-in-loop-j : goal.overflow_cast-lists-in-loop-j
-overflow_cast-lists-in-loop-j c = omega (arith, room (goal.at.overflow_cast-lists-in-loop-j c).In-loop-j, c.gather-count.ensures.count)
-
-pub bounds-lists-at-in-loop-j : goal.bounds-lists-at-in-loop-j
-bounds-lists-at-in-loop-j c = simp length-set (omega (arith, size (goal.at.bounds-lists-at-in-loop-j c).After-gather-count, c.loop-j-test.true))
-
-pub bounds-lists-at-in-loop-j-2 : goal.bounds-lists-at-in-loop-j-2
-bounds-lists-at-in-loop-j-2 c = simp length-set (omega (arith, size (goal.at.bounds-lists-at-in-loop-j-2 c).After-gather-count, c.loop-j-test.true))
-
-pub bounds-lists-at-in-loop-j-3 : goal.bounds-lists-at-in-loop-j-3
-bounds-lists-at-in-loop-j-3 c = simp length-set (omega (arith, size (goal.at.bounds-lists-at-in-loop-j-3 c).After-gather-count, c.loop-j-test.true))
-
-pub overflow_add-listed : goal.overflow_add-listed
-overflow_add-listed c = omega (arith, room (goal.at.overflow_add-listed c).In-loop-j, c.gather-count.ensures.count)
 
 pub loop-j-preserved : goal.loop-j-preserved
 loop-j-preserved c =

@@ -7,6 +7,3 @@ use Rattle.workload.proofs.groups.group_hyperperiod.Given as goal
 
 abbrev pub invariant-loop-i : goal.invariant-loop-i
 invariant-loop-i l = Down (hyper_of l.group) (frames_of l.lengths l.rows) l.h l.i × (1 ≤ l.h)
-
-abbrev pub decreases-loop-i : goal.decreases-loop-i
-decreases-loop-i l = l.i

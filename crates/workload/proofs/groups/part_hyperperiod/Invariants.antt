@@ -8,6 +8,3 @@ use Rattle.workload.proofs.groups.part_hyperperiod.Given as goal
 
 abbrev pub invariant-loop-i : goal.invariant-loop-i
 invariant-loop-i l = Down hyperperiod (frames_in (frames_of l.lengths l.rows) l.part) l.h l.i × (1 ≤ l.h)
-
-abbrev pub decreases-loop-i : goal.decreases-loop-i
-decreases-loop-i l = l.i

@@ -4,15 +4,9 @@ use Rattle.workload.proofs.Laws.Prepared.{filled_more, filled-all, priority-shor
 use Rattle.workload.proofs.prepared.fill.Goals as goal
 use Rattle.workload.proofs.prepared.fill.Goals.{After-frame-g}
 
-pub loop-i-init : goal.loop-i-init
-loop-i-init c = record { size = c.requires.1; each = λ m l. absurd (omega arith) }
-
 -- the row is one of 64
 few : (c : After-frame-g) → c.loop-i.i < 64
 few c = omega (arith, c.loop-i-test.true, (accepted-size c.args.rows.now c.requires.0).most)
-
-pub overflow_mul-at : goal.overflow_mul-at
-overflow_mul-at c = omega (arith, few c)
 
 pub overflow_cast-area : goal.overflow_cast-area
 overflow_cast-area c =

@@ -11,12 +11,6 @@ returns-then-rows-i c = sym (table_none _ _ _ c.if-rows-i.true)
 few : (c : Else-rows-i) → c.args.i < 64
 few c = omega (arith, c.if-rows-i.false, c.requires.table.few, length-table c.args.rows.now c.args.prepared.now)
 
-pub overflow_mul-at : goal.overflow_mul-at
-overflow_mul-at c = omega (arith, few (c))
-
-pub overflow_add-at : goal.overflow_add-at
-overflow_add-at c = omega (arith, few (c))
-
 pub bounds-prepared-at : goal.bounds-prepared-at
 bounds-prepared-at c = omega (arith, few (goal.at.bounds-prepared-at c).Else-rows-i, c.requires.size)
 
@@ -27,4 +21,4 @@ pub bounds-prepared-at-3 : goal.bounds-prepared-at-3
 bounds-prepared-at-3 c = omega (arith, few (goal.at.bounds-prepared-at-3 c).Else-rows-i, c.requires.size)
 
 pub returns : goal.returns
-returns c = sym (table-row c.args.rows.now c.args.prepared.now c.args.i c.if-rows-i.false ∙ rw c.wide.ensures)
+returns c = sym (table-row c.args.rows.now c.args.prepared.now c.args.i c.if-rows-i.false ∙ rw c.from.ensures)

@@ -8,12 +8,6 @@ use Rattle.workload.proofs.work.distance_from.Goals as goal
 once : (n p : ℕ) → p ≤ n → n < p + p → (n - p ≡ n % p) × (n - p < p)
 once n p over under = let less : n - p < p = omega arith in (sym (mod-eq-sub-mod over ∙ mod-eq_of_lt less), less)
 
-pub overflow_sub-later : goal.overflow_sub-later
-overflow_sub-later c = omega (arith, c.remainder-rest.ensures.small)
-
-pub overflow_add-later : goal.overflow_add-later
-overflow_add-later c = omega (arith, c.phase_of.ensures.small, c.requires.period-high)
-
 pub returns-then-later-g : goal.returns-then-later-g
 unfolding distance
 returns-then-later-g c = record { value = sym (rw (← c.phase_of.ensures.value, ← c.remainder-rest.ensures.value) (mod-eq_of_lt c.if-later-g.true)); small = c.if-later-g.true }

@@ -4,9 +4,6 @@ use Rattle.arith.specs.Releases.{releases_before}
 use Rattle.bus_model.specs.Bounds.{demand}
 use Rattle.workload.proofs.work.frame_demand.Goals as goal
 
-pub demand_from-requires : goal.demand_from-requires
-demand_from-requires c = (omega (arith, c.requires.fine.length_high), c.requires.fine.period-low, c.requires.fine.period-high, c.requires.n_bound)
-
 pub returns : goal.returns
 unfolding demand
 returns c =

@@ -1,11 +1,8 @@
 use Rattle.std.proofs.Common.{ℕ, ap, ◌∙◌}
 use Rattle.bus_model.specs.declared.Frame.{Frame}
 use Rattle.bus_model.specs.Bounds.{demand, work_at}
-use Rattle.workload.proofs.Laws.Fine.{sum-none, sum-next, sum-all}
+use Rattle.workload.proofs.Laws.Fine.{sum-next, sum-all}
 use Rattle.workload.proofs.work.work_in.Goals as goal
-
-pub loop-i-init : goal.loop-i-init
-loop-i-init c = sum-none
 
 pub loop-i-preserved : goal.loop-i-preserved
 loop-i-preserved c =

@@ -1,14 +1,11 @@
 -- The loop finds no late offset before the row at which it stands.
-use Prim.Native.Nat.{◌/◌, ◌-◌, ◌≤◌}
+use Prim.Native.Nat.{◌/◌}
 use mathlib.Core.Path.{◌≡◌}
 use lib.ListN.{length}
 use Rattle.table_checks.specs.Columns.{columns}
-use Rattle.table_checks.specs.Frames.{frames_of}
+use Rattle.table_checks.specs.Table.{frames}
 use Rattle.worst_case.specs.Laws.Last.{EarlyTo}
 use Rattle.worst_case.proofs.last.all_early.Given as goal
 
 abbrev pub invariant-loop-i : goal.invariant-loop-i
-invariant-loop-i l = (l.lines ≡ length l.rows / columns) × (l.i ≤ l.lines) × EarlyTo (frames_of l.lengths l.rows) l.i
-
-abbrev pub decreases-loop-i : goal.decreases-loop-i
-decreases-loop-i l = l.lines - l.i
+invariant-loop-i l = (l.lines ≡ length l.table.rows.now / columns) × EarlyTo (frames l.table) l.i

@@ -1,14 +1,11 @@
 -- The loop keeps the row that ranks last of those before; after all rows it is the last.
-use Prim.Native.Nat.{◌/◌, ◌-◌, ◌≤◌}
+use Prim.Native.Nat.{◌/◌}
 use mathlib.Core.Path.{◌≡◌}
 use lib.ListN.{length}
+use Rattle.table_checks.specs.Table.{frames}
 use Rattle.table_checks.specs.Columns.{columns}
-use Rattle.table_checks.specs.Frames.{frames_of}
 use Rattle.worst_case.specs.Steps.{LastOf}
 use Rattle.worst_case.proofs.last.last_row.Given as goal
 
 abbrev pub invariant-loop-i : goal.invariant-loop-i
-invariant-loop-i l = (l.lines ≡ length l.rows / columns) × (l.i ≤ l.lines) × LastOf (frames_of l.lengths l.rows) l.i l.last
-
-abbrev pub decreases-loop-i : goal.decreases-loop-i
-decreases-loop-i l = l.lines - l.i
+invariant-loop-i l = (l.lines ≡ length l.table.rows.now / columns) × LastOf (frames l.table) l.i l.last

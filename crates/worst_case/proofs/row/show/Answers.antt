@@ -4,4 +4,4 @@ use Rattle.worst_case.proofs.row.show.Goals as goal
 
 pub returns : goal.returns
 unfolding case_shown
-returns c = rw (c.starts_of-starts.ensures, c.instance_from-instance.ensures, c.alignment_of-own.ensures)
+returns c = rw (c.starts_of.ensures, c.instance_from.ensures, c.alignment_of-own.ensures)

@@ -9,4 +9,4 @@ returns-then-all_early c = rw (sym c.all_early.ensures ∙ c.if-all_early.true) 
 
 pub returns-else-all_early : goal.returns-else-all_early
 unfolding worst_row
-returns-else-all_early c = rw (sym c.all_early.ensures ∙ c.if-all_early.false) c.no_worst.ensures
+returns-else-all_early c = rw (sym c.all_early.ensures ∙ c.if-all_early.false)

@@ -11,11 +11,10 @@ long : (s : Start) → length s.args.alignments ≡ 16
 long s = search rules
 
 pub loop-i-init : goal.loop-i-init
-loop-i-init c = (most-none _, omega arith)
+loop-i-init c = most-none _
 
 pub loop-i-preserved : goal.loop-i-preserved
-loop-i-preserved c =
-    (most-next c.args.alignments c.loop-i.i c.loop-i.most (omega (arith, long (goal.at.loop-i-preserved c).Start, c.loop-i-test.true)) c.greater-most.ensures c.loop-i.invariant.0, omega (arith, c.loop-i-test.true))
+loop-i-preserved c = most-next c.args.alignments c.loop-i.i c.loop-i.most (omega (arith, long (goal.at.loop-i-preserved c).Start, c.loop-i-test.true)) (search rules) c.loop-i.invariant
 
 pub returns : goal.returns
-returns c = most-all c.args.alignments c.loop-i.i c.loop-i.most (omega (arith, long (goal.at.returns c).Start, c.loop-i-test.false)) c.loop-i.invariant.0
+returns c = most-all c.args.alignments c.loop-i.i c.loop-i.most (omega (arith, long (goal.at.returns c).Start, c.loop-i-test.false)) c.loop-i.invariant

@@ -1,10 +1,6 @@
 -- The loop keeps the greatest of the alignments before.
-use Prim.Native.Nat.{◌-◌, ◌≤◌}
 use Rattle.worst_case.specs.Laws.Starts.{MostOf}
 use Rattle.worst_case.proofs.starts.meeting_tick.Given as goal
 
 abbrev pub invariant-loop-i : goal.invariant-loop-i
-invariant-loop-i l = MostOf l.alignments l.i l.most × (l.i ≤ 16)
-
-abbrev pub decreases-loop-i : goal.decreases-loop-i
-decreases-loop-i l = 16 - l.i
+invariant-loop-i l = MostOf l.alignments l.i l.most

@@ -12,13 +12,13 @@ long : (s : Start) → length s.args.alignments ≡ 16
 long s = search rules
 
 pub loop-i-init : goal.loop-i-init
-loop-i-init c = (starts_none c.args.alignments, omega arith)
+loop-i-init c = starts_none c.args.alignments
 
 pub overflow_sub-starts : goal.overflow_sub-starts
 overflow_sub-starts c = omega (arith, c.meeting_tick-meeting.ensures, alignment-before c.args.alignments c.loop-i.i (omega (arith, long (goal.at.overflow_sub-starts c).Start, c.loop-i-test.true)))
 
 pub loop-i-preserved : goal.loop-i-preserved
-loop-i-preserved c = (starts-next c.args.alignments (long (goal.at.loop-i-preserved c).Start) c.loop-i.i c.loop-i.invariant.0 c.loop-i-test.true c.meeting_tick-meeting.ensures refl, omega (arith, c.loop-i-test.true))
+loop-i-preserved c = starts-next c.args.alignments (long (goal.at.loop-i-preserved c).Start) c.loop-i.i c.loop-i.invariant c.loop-i-test.true c.meeting_tick-meeting.ensures refl
 
 pub returns : goal.returns
-returns c = starts-all c.args.alignments (long (goal.at.returns c).Start) c.loop-i.i c.loop-i.invariant.0 c.loop-i.invariant.1 (omega (arith, c.loop-i-test.false))
+returns c = starts-all c.args.alignments (long (goal.at.returns c).Start) c.loop-i.i c.loop-i.invariant (omega (arith, c.loop-i.auto.i-end)) (omega (arith, c.loop-i-test.false))

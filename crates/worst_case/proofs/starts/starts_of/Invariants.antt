@@ -1,10 +1,6 @@
 -- The loop writes one start after the other.
-use Prim.Native.Nat.{◌-◌, ◌≤◌}
 use Rattle.worst_case.specs.Laws.Starts.{StartsTo}
 use Rattle.worst_case.proofs.starts.starts_of.Given as goal
 
 abbrev pub invariant-loop-i : goal.invariant-loop-i
-invariant-loop-i l = StartsTo l.alignments l.i l.starts × (l.i ≤ 16)
-
-abbrev pub decreases-loop-i : goal.decreases-loop-i
-decreases-loop-i l = 16 - l.i
+invariant-loop-i l = StartsTo l.alignments l.i l.starts

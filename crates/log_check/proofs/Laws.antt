@@ -1,0 +1,2 @@
+-- What is proved of a log that a loop follows.
+pub mod Stops

@@ -1,0 +1,2 @@
+-- What is proved of rows that are prepared.
+pub mod Rows
