@@ -18,7 +18,6 @@ use workload::Target;
 pub struct Setting<'a> {
     pub rows: &'a [u32],
     pub prepared: &'a [u32],
-    pub row: usize,
     pub target: Target,
-    ghost posed: { Posed rows.now prepared.now row target } by { Prim.hlevel props },
+    ghost posed: { Posed rows.now prepared.now target } by { Prim.hlevel props },
 }

@@ -66,7 +66,6 @@ pub fn pose_row<'a>(
     Setting {
         rows: table.rows,
         prepared,
-        row: i,
         target,
     }
 }

@@ -9,7 +9,8 @@ use Rattle.bus_model.specs.declared.Choice.TheVariants.{Fixed}
 use Rattle.bus_model.specs.Bounds.{alignments, or_empty, scenario_response}
 use Rattle.bus_model.specs.Theory.OpenGroups.{fixing_more}
 use Rattle.bus_model.proofs.Theory.Turns.{first_turn, turn-le}
-use Rattle.greatest_work.specs.Setting.{frames, ready}
+use Rattle.workload.proofs.Laws.Fine.{in-table-fine}
+use Rattle.greatest_work.specs.Setting.{frames, listed, ready}
 use Rattle.response_time.specs.Load.{OwnFixed, Reaches}
 use Rattle.response_time.specs.Laws.Within.{reach-more, reach-none}
 use Rattle.bounds.specs.Search.{Settles}
@@ -52,6 +53,9 @@ returns-in_default-clause-settles t c =
     let p = (ready c.args.setting.now c.requires.remembered) in
     let w = (goal.at.returns-in_default-clause-settles t c).After-with_choice-choices in
     told t w _ (ap (min (suc c.args.enough)) (c.max_with_scenario-in_default.ensures.value ∙ ap (max c.args.known.best) (sym (open_none p.prepared.filled.table p.listed c.with_choice-choices.result (long t w) _ c.args.left (sym c.next_open.ensures ∙ c.in_default.is)))))
+
+pub next_open-requires : goal.next_open-requires
+next_open-requires t c = in-table-fine _ c.args.setting.now.posed.prepared.filled.table (listed c.args.setting.now)
 
 -- the next group is one of the groups,
 group : (t : ℕ) (c : In-Some t) → (1 ≤ c.in-Some.group) × (c.in-Some.group ≤ 16)

@@ -16,6 +16,11 @@ windowed c =
     let p = c.requires in
     record { accepted = c.args.setting.now.posed.prepared.filled.table; listed = (listed c.args.setting.now); fixed = p.own_fixed; window = p.choices_value; number = c.instances_before-instances.ensures }
 
+pub next_met-requires-clause-due : goal.next_met-requires-clause-due
+next_met-requires-clause-due c =
+    let (remembered, above, later, inside) = c.loop-met.invariant in
+    record { window = c.args.window; windowed = windowed (goal.at.next_met-requires-clause-due c).After-instances_before-instances; inside = inside; later = later }
+
 pub loop-met-preserved : goal.loop-met-preserved
 loop-met-preserved c =
     let m = c.in-Some.ensures.meets in

@@ -18,6 +18,11 @@ windowed c =
 pub loop-met-init : goal.loop-met-init
 loop-met-init c = (c.requires.remembered, loop-start (windowed (goal.at.loop-met-init c).After-instances_before-instances))
 
+pub next_met-requires-clause-due : goal.next_met-requires-clause-due
+next_met-requires-clause-due c =
+    let turn = c.loop-met.invariant.1 in
+    record { window = c.args.window; windowed = windowed (goal.at.next_met-requires-clause-due c).After-instances_before-instances; inside = turn.counts.inside; later = turn.later }
+
 pub loop-met-preserved : goal.loop-met-preserved
 loop-met-preserved c = (c.in-Some.ensures.remembered, loop-met c.loop-met.invariant.1 c.in-Some.ensures.meets c.max-most.ensures)
 

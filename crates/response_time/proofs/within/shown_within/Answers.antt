@@ -1,10 +1,14 @@
 -- The instances of which the start shows it.
 use Prim.Native.Nat.{◌+◌, ◌-◌, ◌*◌}
 use Rattle.std.proofs.Common.{◌≡◌, arith, sym, ap, subst, ◌∙◌}
-use Rattle.greatest_work.specs.Setting.{frames}
+use Rattle.workload.proofs.Laws.Fine.{in-table-fine}
+use Rattle.greatest_work.specs.Setting.{frames, listed}
 use Rattle.response_time.specs.Load.{latest_start, ShownWithin}
 use Rattle.response_time.specs.Laws.Within.{latest-start-fits, shows-within}
 use Rattle.response_time.proofs.within.shown_within.Goals as goal
+
+pub own_distance-requires : goal.own_distance-requires
+own_distance-requires c = in-table-fine _ c.args.setting.now.posed.prepared.filled.table (listed c.args.setting.now)
 
 pub shown_by-requires-clause-latest_bound : goal.shown_by-requires-clause-latest_bound
 shown_by-requires-clause-latest_bound c = let latest = latest-start-fits _ _ _ (sym c.latest_start.ensures ∙ c.in_ok-latest.was) in omega (arith, latest.1)
