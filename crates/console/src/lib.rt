@@ -3,7 +3,9 @@
 // can have.
 #![tactic(auto)]
 
-ghost use Rattle.std.specs.Prelude.{length, IfSome};
+ghost use Rattle.std.specs.Prelude.{◌≡◌, length, IfSome};
+ghost use Rattle.table_checks.specs.Refusal.{number_of};
+ghost use Rattle.certifier.specs.Listing.{refusal_line};
 ghost use Rattle.console.specs.Steps.{Held, IsPrefixLen, TakesStart, Within};
 
 use std::io::{Read, Stderr};
@@ -157,15 +159,18 @@ pub fn print_answer(rt: &impl Streams, program: &[u8], answer: Result<usize, Ref
     }
 }
 
+// The line of a refusal.
+fn refusal_line(refusal: Refusal) -> [u8; certifier::REFUSAL_LINE]
+    ensures { result ≡ refusal_line (number_of refusal.cause) refusal.place }
+{
+    let mut line = [0u8; certifier::REFUSAL_LINE];
+    let _ = certifier::write_refusal(row_judgement::Refusal::from(refusal), &mut line);
+    line
+}
+
 // Prints the line of a refusal.
 fn print_refusal(rt: &impl Streams, program: &[u8], refusal: Refusal) {
-    let mut line = [0u8; certifier::REFUSAL_LINE];
-    let _ = certifier::write_refusal_line(
-        table_checks::number(refusal.cause),
-        refusal.place,
-        &mut line,
-    );
-    print(rt, program, &line);
+    print(rt, program, &refusal_line(refusal));
 }
 
 // Prints text, and says on standard error where it cannot be written.
