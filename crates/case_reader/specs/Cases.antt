@@ -1,5 +1,5 @@
 -- The parts of a case: numbers in columns, a payload that is read, and the numbers of a payload.
-use Rattle.std.specs.Prelude.{ℕ, ◌+◌, ◌*◌, ◌/◌, ◌≤◌, ◌<◌, ◌≡◌, Bool, true, List, map, length, get_or, drop, Option, Some, None}
+use Rattle.std.specs.Prelude.{ℕ, ◌+◌, ◌*◌, ◌/◌, ◌≤◌, ◌<◌, ◌≡◌, Bool, true, cond, leb, List, [], ◌∷◌, map, length, get_or, take, drop, Option, Some, None, Result, Ok, Err}
 use Rattle.arith.specs.Lists.{range}
 
 -- the number in a column, or 0
@@ -24,3 +24,13 @@ word_at payload i = word_of (get_or payload (4 * i) 0) (get_or payload (4 * i + 
 -- all of them
 unfoldable pub words_of : List ℕ → List ℕ
 words_of payload = map (word_at payload) (range 0 (length payload / 4))
+
+-- "malformed" and a line feed
+abbrev pub malformed : List ℕ
+malformed = 109 ∷ 97 ∷ 108 ∷ 102 ∷ 111 ∷ 114 ∷ 109 ∷ 101 ∷ 100 ∷ 10 ∷ []
+
+-- what is printed of a reply
+abbrev pub reply_text : {E : Type 0} → Option (Result ℕ E) → List ℕ → List ℕ
+reply_text None text = malformed
+reply_text (Some (Ok n)) text = cond (leb n (length text)) (take n text) []
+reply_text (Some (Err e)) text = []

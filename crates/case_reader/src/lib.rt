@@ -2,10 +2,10 @@
 // each and a line feed, and then a payload of as many bytes as the second number says.
 #![tactic(auto)]
 
-ghost use Rattle.std.specs.Prelude.{◌≡◌, ◌/◌, min, ◌++◌, true, length, take, drop};
+ghost use Rattle.std.specs.Prelude.{◌≡◌, ◌≤◌, ◌/◌, min, ◌++◌, true, length, take, drop};
 ghost use Rattle.std.specs.Io.KnownBytes.{Consumes};
 ghost use Rattle.decimal.specs.Decimal.{read_column};
-ghost use Rattle.case_reader.specs.Cases.{number_in, PayloadRead, word_of, words_of};
+ghost use Rattle.case_reader.specs.Cases.{number_in, PayloadRead, word_of, words_of, reply_text};
 
 use std::io::Read;
 
@@ -15,20 +15,27 @@ const MOST_CASES: usize = 100_000;
 const HEADER: usize = 18;
 
 // Runs a case after the other, until the input ends or a payload has no room in the buffer: the letter, the first number and the payload.
-pub fn run_cases<R: Read, F: FnMut(u8, u64, &[u8])>(input: &mut R, buffer: &mut [u8], mut run: F)
+// Answers how many were run.
+pub fn run_cases<R: Read, F: FnMut(u8, u64, &[u8])>(
+    input: &mut R,
+    buffer: &mut [u8],
+    mut run: F,
+) -> usize
     requires { F.IsAlwaysCallable run }
+    ensures { result ≤ 100000 }
 {
-    for _ in 0..MOST_CASES {
+    for done in 0..MOST_CASES {
         let mut header = [0u8; HEADER];
         if input.read_exact(&mut header).is_err() {
-            return;
+            return done;
         }
         let size = number(&header[9..17]) as usize;
         if !read_payload(input, size, buffer) {
-            return;
+            return done;
         }
         run(header[0], number(&header[1..9]), &buffer[..size]);
     }
+    MOST_CASES
 }
 
 // The number in a column, or 0.
@@ -73,15 +80,13 @@ fn word(a: u8, b: u8, c: u8, d: u8) -> u32
     u32::from_le_bytes([a, b, c, d])
 }
 
-// Prints what a command has written, nothing where it has no room, or that an argument is malformed.
-pub fn print_reply<E: Copy>(rt: &impl Print, reply: Option<Result<usize, E>>, text: &[u8]) {
-    let Some(answer) = reply else {
-        let _ = rt.write_all(b"malformed\n");
-        return;
-    };
-    if let Ok(n) = answer {
-        if let Some(written) = text.get(..n) {
-            let _ = rt.write_all(written);
-        }
+// What is printed of a command's reply: what it has written, nothing where it has no room, or that an argument is malformed.
+pub fn reply_text<E: Copy>(reply: Option<Result<usize, E>>, text: &[u8]) -> &[u8]
+    ensures { result.now ≡ reply_text reply text.now }
+{
+    match reply {
+        Some(Ok(n)) => text.get(..n).unwrap_or(&[]),
+        Some(Err(_)) => &[],
+        None => b"malformed\n",
     }
 }

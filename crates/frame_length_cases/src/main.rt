@@ -30,5 +30,5 @@ fn run(rt: &impl Print, payload: &[u8]) {
         &payload[NUMBERS..],
         &mut line,
     );
-    case_reader::print_reply(rt, reply, &line);
+    let _ = rt.write_all(case_reader::reply_text(reply, &line));
 }

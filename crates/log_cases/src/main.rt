@@ -36,17 +36,17 @@ fn run(rt: &impl Print, letter: u8, part: u64, payload: &[u8]) {
 fn check_log(rt: &impl Print, input: &[u8], log: &[u8]) {
     let mut out = [0u8; log_command::LONGEST];
     let answer = log_command::write_input(input, log, &mut out);
-    case_reader::print_reply(rt, Some(answer), &out);
+    let _ = rt.write_all(case_reader::reply_text(Some(answer), &out));
 }
 
 fn busiest(rt: &impl Print, width: &[u8], input: &[u8], log: &[u8]) {
     let mut out = [0u8; busiest_command::LONGEST];
     let reply = busiest_command::write_input(input, log, width, &mut out);
-    case_reader::print_reply(rt, reply, &out);
+    let _ = rt.write_all(case_reader::reply_text(reply, &out));
 }
 
 fn simulate(rt: &impl Print, seed: &[u8], lines: &[u8], input: &[u8]) {
     let mut out = [0u8; simulator::LONGEST];
     let reply = simulate_command::write_log(seed, lines, input, &mut out);
-    case_reader::print_reply(rt, reply, &out);
+    let _ = rt.write_all(case_reader::reply_text(reply, &out));
 }
