@@ -29,9 +29,16 @@ pub fn list(lengths: &[u8], file: &[u8], out: &mut [u8]) -> Result<usize, table_
     ensures out_after { out.new ≡ area_after result (listing_of Never (lengths_of lengths.now) (fields_of file.now)) out.old }
     ensures in_numbers { answer_returns result ≡ returns_for (input_returns lengths.now file.now) (listing_of Never (lengths_of lengths.now) (fields_of file.now)) out.old }
 {
+    let lengths = lengths_file::load(lengths)?;
     let mut rows = [0u32; table_checks::MOST_NUMBERS];
-    let table = lengths_file::read_table(lengths, file, &mut rows)?;
-    list_rows(&table, Faults::Never, out)
+    // A match: what a refused table answers is an arm of its own, so that an edit of it is refused for its value.
+    match frame_table::read(file, &mut rows) {
+        Ok(size) => {
+            let rows = &rows[..size];
+            list_rows(&Table { lengths, rows }, Faults::Never, out)
+        }
+        Err(refusal) => Err(refusal),
+    }
 }
 
 // Lists an input that holds both: its first 92 bytes are the file of the lengths, and the rest is that of the table.

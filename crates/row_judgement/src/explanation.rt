@@ -87,7 +87,8 @@ fn explain_row(table: &Table, i: usize, faults: Faults) -> Explained
     let setting = pose_row(*table, i, faults, &mut prepared);
     let bound = bounds::find(&setting, Some(claim), &mut memory);
     let judgement = judged_by(bound, claim);
-    let breaking = if verdict(judgement.outcome) == 3 {
+    let is_small = verdict(judgement.outcome) == 3;
+    let breaking = if is_small {
         bounds::first_case(&setting, claim, &mut memory)
     } else {
         None
