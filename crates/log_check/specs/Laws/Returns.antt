@@ -6,7 +6,7 @@ use borrow.Author.Tests.{ne_eqb}
 use Rattle.table_checks.specs.declared.Refusal.{Refusal as TableRefusal}
 use Rattle.arith.specs.Laws.Tests.{by-test}
 use Rattle.table_checks.specs.Frames.{frames_of}
-use Rattle.table_checks.specs.Refusal.{check_returns}
+use Rattle.table_checks.specs.Refusal.{Returned, returned, check_returns}
 use Rattle.table_checks.proofs.Laws.Returns.{number-some as table-number-some, number-settles as table-number-settles, number-range}
 use Rattle.bus_log.specs.Follow.{follow_log}
 use Rattle.log_check.specs.declared.Refusal.{Refusal}
@@ -36,19 +36,36 @@ number-settles Contradiction (Table b) e = absurd (omega (arith, (number-range b
 number-settles Contradiction Notation e = absurd (omega arith)
 number-settles Contradiction Contradiction e = refl
 
--- Answers that return the same are the same.
-pub log-settles : (a b : Result (List ℕ) Refusal) → log_returns a ≡ log_returns b → a ≡ b
+-- whether a log is accepted, and the refusal where it is not
+abbrev pub outcome_of : Result (List ℕ) Refusal → Result (Unit {0}) Refusal
+outcome_of (Ok s) = Ok tt
+outcome_of (Err f) = Err f
+
+-- Number and place alone settle that.
+pub outcome-settles : (a b : Result (List ℕ) Refusal) → returned (log_returns a).number (log_returns a).place ≡ returned (log_returns b).number (log_returns b).place
+    → outcome_of a ≡ outcome_of b
 unfolding log_returns
-log-settles (Ok s) (Ok t) e = ap Ok (ap (λ (r : LogReturned). r.starts) e)
-log-settles (Ok s) (Err g) e = absurd (number-some g.cause (sym (ap (λ (r : LogReturned). r.number) e)))
-log-settles (Err f) (Ok t) e = absurd (number-some f.cause (ap (λ (r : LogReturned). r.number) e))
-log-settles (Err f) (Err g) e =
-    let cause : f.cause ≡ g.cause = number-settles f.cause g.cause (ap (λ (r : LogReturned). r.number) e) in
-    let place : f.place ≡ g.place = ap (λ (r : LogReturned). r.place) e in
+outcome-settles (Ok s) (Ok t) e = refl
+outcome-settles (Ok s) (Err g) e = absurd (number-some g.cause (sym (ap (λ (r : Returned). r.number) e)))
+outcome-settles (Err f) (Ok t) e = absurd (number-some f.cause (ap (λ (r : Returned). r.number) e))
+outcome-settles (Err f) (Err g) e =
+    let cause : f.cause ≡ g.cause = number-settles f.cause g.cause (ap (λ (r : Returned). r.number) e) in
+    let place : f.place ≡ g.place = ap (λ (r : Returned). r.place) e in
     ap Err (both f.cause f.place cause place)
   where
     both : (c : Cause) (p : ℕ) {c' : Cause} {p' : ℕ} → c ≡ c' → p ≡ p' → ◌≡◌ {A = Refusal} (record { cause = c; place = p }) (record { cause = c'; place = p' })
     both c p x y = cc
+
+-- Answers that return the same are the same.
+pub log-settles : (a b : Result (List ℕ) Refusal) → log_returns a ≡ log_returns b → a ≡ b
+unfolding log_returns
+log-settles a b e = whole a b (outcome-settles a b (ap (λ (r : LogReturned). returned r.number r.place) e)) (ap (λ (r : LogReturned). r.starts) e)
+  where
+    whole : (a b : Result (List ℕ) Refusal) → outcome_of a ≡ outcome_of b → (log_returns a).starts ≡ (log_returns b).starts → a ≡ b
+    whole (Ok s) (Ok t) o e = ap Ok e
+    whole (Ok s) (Err g) o e = cc
+    whole (Err f) (Ok t) o e = cc
+    whole (Err f) (Err g) o e = cc
 
 module _ (ls : List (List ℕ)) (rows text : List ℕ) where
   line-returns : (found : Option ℕ) → first_broken text ≡ found → is_missized (length text) ≡ false
