@@ -124,9 +124,10 @@ fn some_hinders(lengths: [[u32; 9]; 2], rows: &[u32], p: Progress, own: Frame, e
     requires own_value { (own ≡ row (frames_of lengths rows.now) e.frame) × (own.group < 17) × (e.release < 2 ^ 40) }
     ensures { result ≡ exists (row_hinders (frames_of lengths rows.now) p e) (range 0 (length (frames_of lengths rows.now))) }
 {
+    let due = p.due;
     let n = rows.len() / ROW;
     for i in 0..n {
-        if does_hinder(p, own, e, table_checks::frame(lengths, rows, i), p.due[i]) {
+        if does_hinder(p, own, e, table_checks::frame(lengths, rows, i), due[i]) {
             return true;
         }
     }
@@ -242,9 +243,10 @@ fn dues_after(lengths: [[u32; 9]; 2], rows: &[u32], p: Progress, own: Frame, e: 
     requires own_value { (own ≡ row (frames_of lengths rows.now) e.frame) × (own.group < 17) × (e.release < 2 ^ 40) × (e.start < 2 ^ 40) }
     ensures { result ≡ map (due_after (frames_of lengths rows.now) p e) (range 0 64) }
 {
+    let known = p.due;
     let mut due = [0u64; 64];
     for i in 0..64 {
-        due[i] = due_after(lengths, rows, p, own, e, i, p.due[i]);
+        due[i] = due_after(lengths, rows, p, own, e, i, known[i]);
     }
     due
 }

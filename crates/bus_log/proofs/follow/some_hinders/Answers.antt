@@ -14,8 +14,8 @@ pub loop-i-init : goal.loop-i-init
 unfolding row_hinders
 loop-i-init c = rw (sub-zero, c.requires.own_value.0, length-frames)
 
-pub bounds-p-i : goal.bounds-p-i
-bounds-p-i c =
+pub bounds-due-i : goal.bounds-due-i
+bounds-due-i c =
     omega (arith, few-lines c.args.rows.now c.requires.accepted)
 
 pub does_hinder-requires : goal.does_hinder-requires
